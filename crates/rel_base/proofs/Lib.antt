@@ -1,0 +1,9 @@
+pub mod Bits
+pub mod Positions
+pub mod Columns
+pub mod Frames
+pub mod Filtered
+pub mod Commutes
+pub mod Least
+pub mod KeyOrder
+pub mod Stories

@@ -1,0 +1,12 @@
+pub mod Text
+pub mod Value
+pub mod Row
+pub mod Schema
+pub mod Access
+pub mod Tables
+pub mod Among
+pub mod Late
+pub mod Versions
+pub mod Laws
+pub mod Stories
+pub mod formers

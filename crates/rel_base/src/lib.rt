@@ -1,0 +1,29 @@
+//! The data of the database: values, rows, declarations of tables, reads and writes, and what is said of them alone.
+#![tactic(auto)]
+
+pub mod access;
+pub mod blob;
+pub mod boxed;
+pub mod laws;
+pub mod list;
+pub mod memory;
+pub mod name;
+pub mod schema;
+pub mod storied;
+pub mod tables;
+#[cfg(test)]
+mod tests;
+pub mod text;
+pub mod value;
+
+pub use access::{Made, Place, Placed, Read, Seen, Write};
+pub use blob::{Blob, BlobFault};
+pub use boxed::Boxed;
+pub use list::List;
+pub use memory::{NoMemory, Twin};
+pub use name::{Id, Name, NameFault};
+pub use schema::{Column, TableDef};
+pub use storied::Storied;
+pub use tables::{key_of, table_of};
+pub use text::{Str, StrFault};
+pub use value::{Key, Kind, Row, Value};

@@ -1,0 +1,167 @@
+ghost use Rattle.std.specs.Prelude.{◌≡◌, [], ◌∷◌, IfOk, map};
+ghost use Rattle.rel_base.specs.Value.{kind_of};
+ghost use Rattle.rel_base.specs.declared.value.Kind.TheVariants as kind;
+
+use super::access::{Place, Read, Seen, Write};
+use super::blob::{Blob, BlobFault};
+use super::boxed::Boxed;
+use super::list::List;
+use super::memory::Twin;
+use super::name::{Id, Name, NameFault};
+use super::schema::{Column, TableDef};
+use super::tables::{key_of, table_of};
+use super::text::{Str, StrFault};
+use super::value::{Kind, Row, Value};
+use std::alloc::Global;
+use std::test::Fail;
+
+fn row(alloc: Global, id: i64, name: &str) -> Result<Row, Fail>
+    ensures { IfOk result (λ row. map kind_of row ≡ kind.Int ∷ kind.Text ∷ []) }
+{
+    let mut row = List::new(alloc);
+    row.push(Value::Int(id))?;
+    row.push(Value::Text(Str::new(alloc, name)?))?;
+    Ok(row)
+}
+
+fn of_one<T: Drop>(alloc: Global, item: T) -> Result<List<T>, Fail>
+    ensures { IfOk result (λ list. list ≡ item ∷ []) }
+{
+    let mut list = List::new(alloc);
+    list.push(item)?;
+    Ok(list)
+}
+
+#[test]
+fn texts(rt: HostRuntime) -> Result<(), Fail> {
+    let alloc = rt.alloc();
+    assert_eq!(rt; Str::new(alloc, "hello")?.as_str(), "hello");
+    assert!(rt; matches!(Str::new(alloc, "a\nb"), Err(StrFault::Control)));
+    let joined = Str::new(alloc, "é")?.join(alloc, &Str::new(alloc, "!")?)?;
+    assert_eq!(rt; joined.as_str(), "é!");
+    assert_eq!(rt; Blob::new(alloc, &[0, 255])?.as_slice().len(), 2);
+    assert!(rt; matches!(Blob::new(alloc, &[7; 256]), Err(BlobFault::TooLong)));
+    Ok(())
+}
+
+#[test]
+fn names(rt: HostRuntime) -> Result<(), Fail> {
+    let alloc = rt.alloc();
+    assert!(rt; matches!(Name::new(alloc, "9a"), Err(NameFault::Bad)));
+    assert!(rt; matches!(Name::new(alloc, "a-b"), Err(NameFault::Bad)));
+    assert_eq!(rt; Name::new(alloc, "a_9")?.as_str(), "a_9");
+    assert_eq!(rt; Id::new(alloc, "9-a_")?.as_str(), "9-a_");
+    assert!(rt; matches!(Id::new(alloc, "A"), Err(NameFault::Bad)));
+    Ok(())
+}
+
+#[test]
+fn twins(rt: HostRuntime) -> Result<(), Fail> {
+    let alloc = rt.alloc();
+    let first = row(alloc, 7, "x")?;
+    let second = first.copy(alloc)?;
+    assert!(rt; first == second);
+    let third = row(alloc, 8, "x")?;
+    assert!(rt; first < third);
+    let boxed = Boxed::new(alloc, third)?;
+    assert!(rt; *boxed.get() != first);
+    Ok(())
+}
+
+#[test]
+fn orders_of_mixed_kinds(rt: HostRuntime) -> Result<(), Fail> {
+    let alloc = rt.alloc();
+    let mut values = List::new(alloc);
+    values.push_two(Value::Bytes(Blob::new(alloc, b"a")?), Value::Bool(true))?;
+    values.push_two(Value::Text(Str::new(alloc, "b")?), Value::Int(9))?;
+    values.push_two(Value::Bool(false), Value::Int(-9))?;
+    values.push(Value::Text(Str::new(alloc, "aa")?))?;
+    values.sort()?;
+    let mut order = List::new(alloc);
+    order.push_two(Value::Int(-9), Value::Int(9))?;
+    order.push_two(
+        Value::Text(Str::new(alloc, "aa")?),
+        Value::Text(Str::new(alloc, "b")?),
+    )?;
+    order.push_two(Value::Bool(false), Value::Bool(true))?;
+    order.push(Value::Bytes(Blob::new(alloc, b"a")?))?;
+    assert!(rt; values == order);
+    Ok(())
+}
+
+fn column(alloc: Global, name: &str, kind: Kind) -> Result<Column, Fail>
+    ensures { IfOk result (λ column. column.kind ≡ kind) }
+{
+    Ok(Column {
+        name: Name::new(alloc, name)?,
+        kind,
+    })
+}
+
+fn two_columns(alloc: Global) -> Result<List<Column>, Fail>
+    ensures { IfOk result (λ columns. map (λ c. c.kind) columns ≡ kind.Int ∷ kind.Text ∷ []) }
+{
+    let id = column(alloc, "id", Kind::Int)?;
+    let owner = column(alloc, "owner", Kind::Text)?;
+    let mut columns = of_one(alloc, id)?;
+    columns.append(of_one(alloc, owner)?)?;
+    Ok(columns)
+}
+
+fn accounts(alloc: Global) -> Result<TableDef, Fail>
+    ensures { IfOk result (λ def. map (λ c. c.kind) def.columns ≡ kind.Int ∷ kind.Text ∷ []) }
+{
+    let columns = two_columns(alloc)?;
+    let key = of_one(alloc, 0)?;
+    let index = of_one(alloc, 1)?;
+    let name = Name::new(alloc, "accounts")?;
+    Ok(TableDef {
+        name,
+        columns,
+        key,
+        index,
+    })
+}
+
+#[test]
+fn tables_by_name(rt: HostRuntime) -> Result<(), Fail> {
+    let alloc = rt.alloc();
+    let def = accounts(alloc)?;
+    let tables = of_one(alloc, def.copy(alloc)?)?;
+    assert_eq!(rt; table_of(&tables, "accounts"), Some(0));
+    assert_eq!(rt; table_of(&tables, "account"), None);
+    Ok(())
+}
+
+#[test]
+fn keys_of_rows(rt: HostRuntime) -> Result<(), Fail> {
+    let alloc = rt.alloc();
+    let def = accounts(alloc)?;
+    let key = key_of(alloc, &def, &row(alloc, 7, "x")?)?;
+    assert!(rt; key == of_one(alloc, Value::Int(7))?);
+    Ok(())
+}
+
+#[test]
+fn copies_of_reads_and_writes(rt: HostRuntime) -> Result<(), Fail> {
+    let alloc = rt.alloc();
+    let place = Place { block: 1, pos: 2 };
+    let seen = Seen {
+        row: row(alloc, 7, "y")?,
+        place,
+    };
+    assert!(rt; seen.copy(alloc)?.row == seen.row);
+    let read = Read::Point {
+        table: 3,
+        key: of_one(alloc, Value::Int(7))?,
+    };
+    assert_eq!(rt; read.copy(alloc)?.table(), 3);
+    let write = Write {
+        table: 3,
+        key: of_one(alloc, Value::Int(7))?,
+        before: None,
+        after: Some(row(alloc, 7, "y")?),
+    };
+    assert!(rt; write.copy(alloc)?.after == write.after);
+    Ok(())
+}
