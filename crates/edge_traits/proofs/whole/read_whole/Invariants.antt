@@ -1,0 +1,14 @@
+use Rattle.std.proofs.Common.{length, ◌-◌, ◌+◌, ◌≡◌, ◌≤◌, ◌<◌, take, IfSome}
+use Rattle.edge_traits.specs.Causes.{NoneFell, Keeps}
+use Rattle.edge_traits.proofs.whole.read_whole.Given as goal
+
+abbrev pub invariant-loop-bytes : goal.invariant-loop-bytes
+invariant-loop-bytes g l = (length l.bytes.items ≤ l.limit + 1)
+    × (0 < length l.buffer.items)
+    × (g.S.Shelf.told l.shelf ≡ g.S.Shelf.told l.fn.shelf)
+    × Keeps (g.S.Shelf.may_read l.fn.shelf) (g.S.Shelf.may_read l.shelf)
+    × NoneFell (g.S.Shelf.faults l.fn.shelf) (g.S.Shelf.faults l.shelf)
+    × IfSome (g.S.Shelf.told l.fn.shelf) (λ files. l.bytes.items ≡ take (length l.bytes.items) (files l.name))
+
+abbrev pub decreases-loop-bytes : goal.decreases-loop-bytes
+decreases-loop-bytes g l = l.limit + 1 - length l.bytes.items

@@ -1,0 +1,4 @@
+pub mod Causes
+pub mod Shelf
+pub mod Sink
+pub mod Memory

@@ -1,0 +1,18 @@
+//! The outside as a program meets it: shelves of named files, sinks of bytes, and calls that read or write a whole.
+#![tactic(auto)]
+
+pub mod host;
+pub mod mem_shelf;
+pub mod mem_sink;
+pub mod shelf;
+pub mod sink;
+#[cfg(test)]
+mod tests;
+pub mod whole;
+
+pub use host::{DirShelf, StdSink};
+pub use mem_shelf::{MemShelf, SureShelf};
+pub use mem_sink::{MemSink, NullSink};
+pub use shelf::{Shelf, ShelfFailed};
+pub use sink::{Sink, SinkFailed};
+pub use whole::{FetchFault, read_whole, write_whole};

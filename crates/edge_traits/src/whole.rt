@@ -1,0 +1,124 @@
+//! Reading a whole file, and writing all of some bytes.
+
+ghost use Rattle.std.specs.Prelude.{◌≡◌, ◌≤◌, ◌<◌, ◌+◌, ◌-◌, ◌^◌, length, take, IfOk, OnOk, OnErr, IfSome, IsErrOf};
+ghost use Rattle.edge_traits.specs.Causes.{Rose, NoneFell, Keeps};
+ghost use Rattle.edge_traits.specs.Sink.{appended, WroteFront};
+
+use crate::shelf::Shelf;
+use crate::sink::{Sink, SinkFailed};
+use rel_base::List;
+use std::alloc::{AllocError, Global};
+
+/// Why a file was not read whole.
+#[derive(Clone, Copy, Debug, PartialEq, Eq)]
+pub enum FetchFault {
+    /// Memory ran out.
+    NoMemory,
+
+    /// A read failed.
+    Failed,
+
+    /// The file has more bytes than were allowed.
+    TooLong,
+}
+
+impl From<AllocError> for FetchFault {
+    ghost use Rattle.edge_traits.specs.declared.whole.FetchFault.TheVariants as fault;
+
+    ghost from_gives = { λ _ e. e ≡ fault.NoMemory };
+
+    fn from(_error: AllocError) -> FetchFault {
+        FetchFault::NoMemory
+    }
+}
+
+// How many bytes are asked for at once.
+const PIECE: usize = 65536;
+
+// A buffer on the heap, where the stack would pay for it at each call.
+fn make_buffer(alloc: Global, size: usize) -> Result<Vec<u8>, AllocError>
+    ensures { IfOk result (λ buffer. length buffer.items ≡ size) }
+{
+    vec![in alloc; 0; size]
+}
+
+// Reads the next piece of a file, of which `bytes` are the front, through a buffer, and answers the piece's length.
+#[tactic(auto, using(crate::proofs::Fronts::told_grows))]
+fn add_piece<S: Shelf>(
+    shelf: &mut S,
+    name: &str,
+    bytes: &mut Vec<u8>,
+    buffer: &mut [u8],
+    room: u64,
+) -> Result<usize, FetchFault>
+    requires room { 0 < room }
+    requires buffer { 0 < length buffer.old }
+    requires allowed { S.may_read shelf.old name.now }
+    ensures allowed { Keeps (S.may_read shelf.old) (S.may_read shelf.new) }
+    ensures told { S.told shelf.new ≡ S.told shelf.old }
+    ensures later { NoneFell (S.faults shelf.old) (S.faults shelf.new) }
+    ensures failed { IsErrOf result FetchFault.Failed → Rose (S.faults shelf.old name.now) (S.faults shelf.new name.now) }
+    ensures not_long { IsErrOf result FetchFault.TooLong → ⊥ }
+    ensures more { IfOk result (λ count. length bytes.new.items ≡ length bytes.old.items + count) }
+    ensures bound { IfOk result (λ count. count ≤ room) }
+    ensures front { IfOk result (λ count. IfSome (S.told shelf.old) (λ files. bytes.old.items ≡ take (length bytes.old.items) (files name.now)
+        → bytes.new.items ≡ take (length bytes.new.items) (files name.now))) }
+    ensures end { IfOk result (λ count. count ≡ 0 → IfSome (S.told shelf.old) (λ files. length (files name.now) ≤ length bytes.old.items)) }
+{
+    let most = std::cmp::min(room, buffer.len() as u64) as usize;
+    let piece = &mut buffer[..most];
+    match shelf.read_at(name, bytes.len() as u64, piece) {
+        Ok(count) => {
+            bytes.extend_from_slice(&piece[..count])?;
+            Ok(count)
+        }
+        Err(_) => Err(FetchFault::Failed),
+    }
+}
+
+/// Reads a file to its end, if it has at most `limit` bytes. At most `limit + 1` bytes are read.
+///
+/// Over a shelf that tells its files, `Ok` is the bytes of the file and `TooLong` comes exactly where they are more than
+/// `limit`. Since the call is generic in its shelf, that `name` may be read is not only asked of the caller: it also says that
+/// no other file is read ([`Shelf`]).
+pub fn read_whole<S: Shelf>(
+    alloc: Global,
+    shelf: &mut S,
+    name: &str,
+    limit: u64,
+) -> Result<List<u8>, FetchFault>
+    requires limit { limit < 2 ^ 64 - 1 }
+    requires allowed { S.may_read shelf.old name.now }
+    ensures allowed { Keeps (S.may_read shelf.old) (S.may_read shelf.new) }
+    ensures told { S.told shelf.new ≡ S.told shelf.old }
+    ensures bytes { IfOk result (λ bytes. IfSome (S.told shelf.old) (λ files. bytes ≡ files name.now)) }
+    ensures size { IfOk result (λ bytes. length bytes ≤ limit) }
+    ensures too_long { IsErrOf result FetchFault.TooLong → IfSome (S.told shelf.old) (λ files. limit < length (files name.now)) }
+    ensures later { NoneFell (S.faults shelf.old) (S.faults shelf.new) }
+    ensures failed { IsErrOf result FetchFault.Failed → Rose (S.faults shelf.old name.now) (S.faults shelf.new name.now) }
+{
+    let mut buffer = make_buffer(alloc, PIECE)?;
+    let mut bytes = Vec::new(alloc);
+    while bytes.len() as u64 <= limit {
+        let room = limit - bytes.len() as u64 + 1;
+        if add_piece(shelf, name, &mut bytes, &mut buffer, room)? == 0 {
+            return Ok(List::from_vec(bytes));
+        }
+    }
+    Err(FetchFault::TooLong)
+}
+
+/// Writes all of the bytes. A call that fails has written a front of them.
+#[tactic(auto, using(crate::proofs::Fronts::goes_on))]
+pub fn write_whole<W: Sink>(out: &mut W, bytes: &[u8]) -> Result<(), SinkFailed>
+    ensures ok { OnOk result (W.written out.new ≡ appended (W.written out.old) bytes.now) }
+    ensures err { OnErr result (WroteFront (W.written out.old) (W.written out.new) bytes.now) }
+    ensures later { W.faults out.old ≤ W.faults out.new }
+    ensures cause { OnErr result (Rose (W.faults out.old) (W.faults out.new)) }
+{
+    let mut done = 0;
+    while done < bytes.len() {
+        done += out.write(&bytes[done..])?;
+    }
+    Ok(())
+}
