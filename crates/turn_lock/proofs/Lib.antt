@@ -1,0 +1,5 @@
+pub mod Bases
+pub mod Seats
+pub mod Moves
+pub mod Forks
+pub mod Gives

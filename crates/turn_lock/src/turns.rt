@@ -1,0 +1,167 @@
+// The calls of the lock, each a few atomic steps of its table.
+ghost use Rattle.std.specs.Prelude.{◌≡◌, ◌+◌, ◌-◌, ◌<◌, ◌^◌, [], ◌++◌, length, Some, IfOk};
+ghost use mathlib.Core.List.{IsPrefix};
+ghost use Rattle.rel_base.specs.Stories.{entries_of, AddsOwn};
+ghost use Rattle.turn_lock.specs.Passes.{IsPassOf, pass_number, pass_base, seen, mine, HoldsTurn, HoldsNoTurn, made, left, IsSameHolder, IsSamePass, IsNewPass, Gains};
+
+use crate::lock::TurnLock;
+use crate::pass::Pass;
+use crate::rule::{Enter, Fork, Leave, Look, Publish, PutBack, TakeOut};
+use atomic_table::Table;
+use rel_base::{NoMemory, Storied};
+use std::alloc::Global;
+use std::snapshot::Snapshot;
+use std::sync::Wait;
+use std::thread;
+
+// Word 0 of the table is 1 while a pass has the turn.
+const TURN: usize = 0;
+
+// Word 1 of the table is the length of the story.
+const LENGTH: usize = 1;
+
+impl<S: Storied> Pass<S> {
+    /// The number of the pass. The entries of that number in what the pass has seen are its own.
+    pub fn number(&self) -> u32
+        ensures number { result ≡ pass_number self.now }
+        ensures own { entries_of S.actor (pass_number self.now) (seen self.now) ≡ mine self.now }
+    {
+        self.number
+    }
+}
+
+impl<S: Storied> TurnLock<S> {
+    /// A lock round a value with an empty story, and its first pass, which has number 0. Where memory runs out the value
+    /// is dropped.
+    pub fn new(alloc: Global, state: S) -> Result<(TurnLock<S>, Pass<S>), NoMemory>
+        requires empty { S.story state ≡ [] }
+        ensures pass { IfOk result (λ made. IsNewPass made.0 made.1 0 (S.base state) []) }
+    {
+        let about = Snapshot::of(&state);
+        let mut slots = Vec::new(alloc);
+        slots.push(Some(state))?;
+        let Ok((table, seat)) = Table::new(alloc, &[0, 0], slots, &about) else {
+            return Err(NoMemory);
+        };
+        let pass = Pass {
+            number: 0,
+            made: 0,
+            seat,
+        };
+        Ok((TurnLock { table }, pass))
+    }
+
+    /// Begins a turn: the value, whose story begins with all that the pass had seen. It waits while another pass has the
+    /// turn.
+    pub fn take<R: Wait>(&self, rt: &R, pass: &mut Pass<S>) -> S
+        requires lock { IsPassOf self.now pass.old }
+        requires no_turn { HoldsNoTurn pass.old }
+        ensures same { IsSamePass pass.old pass.new }
+        ensures turn { HoldsTurn pass.new }
+        ensures base { S.base result ≡ pass_base pass.old }
+        ensures seen { seen pass.new ≡ S.story result }
+        ensures later { IsPrefix (seen pass.old) (S.story result) }
+        ensures mine { mine pass.new ≡ mine pass.old }
+        ensures own { entries_of S.actor (pass_number pass.old) (S.story result) ≡ mine pass.old }
+    {
+        let shared = &self.table.shared;
+        for _ in rt.forever() {
+            if shared.compare_exchange::<Enter>(&mut pass.seat, TURN, 0, 1) == 0 {
+                shared.load::<Look>(&mut pass.seat, LENGTH);
+                shared.load::<TakeOut>(&mut pass.seat, TURN);
+                match shared.exchange(&mut pass.seat, 0, None) {
+                    Some(state) => return state,
+                    None => unreachable!(),
+                }
+            }
+            thread::yield_now();
+        }
+        unreachable!()
+    }
+
+    /// Ends a turn: the value goes back, with entries of the pass added to its story.
+    pub fn give(&self, pass: &mut Pass<S>, state: S)
+        requires lock { IsPassOf self.now pass.old }
+        requires turn { HoldsTurn pass.old }
+        requires base { S.base state ≡ pass_base pass.old }
+        requires story { AddsOwn S.actor (pass_number pass.old) (seen pass.old) (S.story state) }
+        requires room { length (S.story state) < 2 ^ 64 }
+        ensures same { IsSamePass pass.old pass.new }
+        ensures no_turn { HoldsNoTurn pass.new }
+        ensures seen { seen pass.new ≡ S.story state }
+        ensures mine { Gains (seen pass.old) (S.story state) (mine pass.old) (mine pass.new) }
+        ensures no_news { S.story state ≡ seen pass.old → mine pass.new ≡ mine pass.old }
+    {
+        let shared = &self.table.shared;
+        let length = state.story_len();
+        shared.exchange(&mut pass.seat, 0, Some(state));
+        shared.store::<Publish>(&mut pass.seat, LENGTH, length);
+        shared.load::<PutBack>(&mut pass.seat, TURN);
+        shared.store::<Leave>(&mut pass.seat, TURN, 0);
+    }
+
+    /// A new pass for another caller, which has seen what this one has. Only the pass with number 0 splits.
+    pub fn split(&self, pass: &mut Pass<S>) -> Pass<S>
+        requires lock { IsPassOf self.now pass.old }
+        requires first { pass_number pass.old ≡ 0 }
+        requires no_turn { HoldsNoTurn pass.old }
+        requires room { made pass.old < 2 ^ 32 - 1 }
+        ensures same { IsSameHolder pass.old pass.new × HoldsNoTurn pass.new }
+        ensures stories { (seen pass.new ≡ seen pass.old) × (mine pass.new ≡ mine pass.old) }
+        ensures counts { (made pass.new ≡ made pass.old + 1) × (left pass.new ≡ left pass.old + 1) }
+        ensures fresh { IsNewPass self.now result (made pass.old + 1) (pass_base pass.old) (seen pass.old) }
+    {
+        let seat = self.table.shared.split_seat::<Fork>(&mut pass.seat);
+        pass.made += 1;
+        Pass {
+            number: pass.made,
+            made: 0,
+            seat,
+        }
+    }
+
+    /// Takes back a pass that was split off. What it had seen, the pass with number 0 has seen from now on.
+    pub fn join(&self, pass: &mut Pass<S>, other: Pass<S>)
+        requires locks { IsPassOf self.now pass.old × IsPassOf self.now other }
+        requires first { pass_number pass.old ≡ 0 }
+        requires no_turn { HoldsNoTurn pass.old × HoldsNoTurn other }
+        ensures same { IsSameHolder pass.old pass.new × HoldsNoTurn pass.new }
+        ensures later { IsPrefix (seen pass.old) (seen pass.new) × IsPrefix (seen other) (seen pass.new) }
+        ensures own { (mine pass.new ≡ mine pass.old) × (entries_of S.actor 0 (seen pass.new) ≡ mine pass.new) }
+        ensures made { made pass.new ≡ made pass.old }
+        ensures left { (0 < left pass.old) × (left pass.new ≡ left pass.old - 1) }
+    {
+        let Pass {
+            number: _,
+            made: _,
+            seat,
+        } = other;
+        self.table.shared.join_seat::<Fork>(&mut pass.seat, seat);
+        self.table.shared.load::<Look>(&mut pass.seat, LENGTH);
+    }
+
+    /// Ends the lock, once each pass that was split off was joined: the value, whose story is what the pass has seen.
+    pub fn close(self, pass: Pass<S>) -> S
+        requires lock { IsPassOf self pass }
+        requires first { pass_number pass ≡ 0 }
+        requires no_turn { HoldsNoTurn pass }
+        requires joined { left pass ≡ 0 }
+        ensures base { S.base result ≡ pass_base pass }
+        ensures story { S.story result ≡ seen pass }
+        ensures own { entries_of S.actor 0 (S.story result) ≡ mine pass }
+    {
+        let TurnLock { table } = self;
+        let Pass {
+            number: _,
+            made: _,
+            seat,
+        } = pass;
+        let mut closed = table.close_with(seat);
+        let value = closed.take(0);
+        closed.free();
+        match value {
+            Some(state) => state,
+            None => unreachable!(),
+        }
+    }
+}

@@ -1,0 +1,14 @@
+use Rattle.std.specs.Prelude.{◌+◌}
+use Rattle.std.proofs.Common.{rules}
+use Rattle.turn_lock_bench.proofs.crew.fn.run_crew.scope.Goals as goal
+
+pub loop-child-preserved : goal.loop-child-preserved
+loop-child-preserved g c = (
+  search rules,
+  search rules,
+  search rules,
+  search rules,
+  search rules,
+  search rules,
+  λ k d below. let h = c.loop-child.invariant.6 (k + 1) d in grind rules,
+)
