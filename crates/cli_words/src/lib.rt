@@ -1,0 +1,14 @@
+//! The words of the command line, and the settings that they say.
+#![tactic(auto)]
+
+pub mod laws;
+pub mod options;
+pub mod read;
+pub mod settings;
+#[cfg(test)]
+mod tests;
+pub mod word;
+
+pub use read::read_words;
+pub use settings::{Settings, WordsFault};
+pub use word::Word;

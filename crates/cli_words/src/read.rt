@@ -1,0 +1,53 @@
+//! From words to settings.
+
+ghost use Rattle.std.specs.Prelude.{◌≡◌, ◌↔◌, IfOk, IsErrOf, Option, Some, None};
+ghost use Rattle.std.specs.Option.{option_copied, option_map};
+ghost use Rattle.cli_words.specs.Language.{texts, say_all, nothing_said, run_of, settings_of};
+ghost use Rattle.cli_words.specs.Given.{said};
+
+use crate::options::Given;
+use crate::settings::{Settings, WordsFault};
+use crate::word::Word;
+use std::alloc::Global;
+
+// Each option comes at most once, so that only few words are read before one is refused.
+fn read_options<'a>(given: Given<'a>, words: &[&'a str]) -> Option<Given<'a>>
+    ensures { option_map said result ≡ say_all (said given.entry) (texts words.now) }
+{
+    match words.split_first() {
+        None => Some(given),
+        Some((word, rest)) => read_options(given.with_word(word)?, rest),
+    }
+}
+
+fn to_run(alloc: Global, given: Given<'_>) -> Result<Settings, WordsFault>
+    ensures ok { IfOk result (λ settings. run_of (said given.entry).app (said given.entry).blocks given.entry.waiting ≡ Some settings) }
+    ensures usage { IsErrOf result WordsFault.Usage ↔ (run_of (said given.entry).app (said given.entry).blocks given.entry.waiting ≡ None) }
+{
+    match given {
+        Given {
+            app: Some(app),
+            blocks: Some(blocks),
+            waiting: None,
+        } => Ok(Settings::Run {
+            app: Word::new(alloc, app)?,
+            blocks: Word::new(alloc, blocks)?,
+        }),
+        _ => Err(WordsFault::Usage),
+    }
+}
+
+/// Reads the words after the program's name. The fault `Usage` comes exactly where the words are not in the language of
+/// the command line.
+pub fn read_words(alloc: Global, words: &[&str]) -> Result<Settings, WordsFault>
+    ensures ok { IfOk result (λ settings. settings_of (texts words.now) ≡ Some settings) }
+    ensures usage { IsErrOf result WordsFault.Usage ↔ (settings_of (texts words.now) ≡ None) }
+{
+    match words.split_first() {
+        Some((command, options)) if *command == "run" => match read_options(Given::new(), options) {
+            Some(given) => to_run(alloc, given),
+            None => Err(WordsFault::Usage),
+        },
+        _ => Err(WordsFault::Usage),
+    }
+}

@@ -1,0 +1,36 @@
+//! What the command line asks for.
+
+use crate::word::Word;
+use rel_base::NoMemory;
+
+/// What the program is to do.
+#[derive(Drop)]
+pub enum Settings {
+    /// Runs the blocks of a file on the application of another.
+    Run {
+        /// The name of the application's file.
+        app: Word,
+        /// The name of the file of blocks.
+        blocks: Word,
+    },
+}
+
+/// Why there are no settings.
+#[derive(Clone, Copy, Debug, PartialEq, Eq)]
+pub enum WordsFault {
+    /// Memory ran out.
+    NoMemory,
+    /// The words are not in the language of the command line.
+    Usage,
+}
+
+impl From<NoMemory> for WordsFault {
+    ghost use Rattle.std.specs.Prelude.{◌≡◌};
+    ghost use Rattle.cli_words.specs.declared.settings.WordsFault.TheVariants as fault;
+
+    ghost from_gives = { λ _ e. e ≡ fault.NoMemory };
+
+    fn from(_error: NoMemory) -> WordsFault {
+        WordsFault::NoMemory
+    }
+}
