@@ -1,0 +1,7 @@
+pub mod Utf8
+pub mod Parts
+pub mod Numbers
+pub mod Shrinks
+pub mod Numerals
+pub mod Again
+pub mod Takes

@@ -1,0 +1,16 @@
+//! How values are spelled: numbers, texts and byte strings, read from the front of some bytes and written at their end.
+#![tactic(auto)]
+
+pub mod bytes;
+pub mod fault;
+pub mod laws;
+pub mod number;
+mod part;
+#[cfg(test)]
+mod tests;
+pub mod text;
+
+pub use bytes::{push_bytes, read_bytes};
+pub use fault::LiteralFault;
+pub use number::{push_int, push_number, read_number};
+pub use text::{push_text, read_text};

@@ -1,0 +1,152 @@
+//! Texts in quotes.
+
+ghost use Rattle.std.specs.Prelude.{◌≡◌, ◌∷◌, ◌++◌, ◌<◌, [], length, take, cond, Some, None, OnOk, OnErr, nat_le, ◌&&◌};
+ghost use Rattle.std.specs.Str.{is_utf8};
+ghost use Rattle.rel_base.specs.Text.{has_no_control};
+ghost use Rattle.std.specs.List.{flat_map};
+ghost use Rattle.std.specs.Option.{option_and_then};
+ghost use Rattle.literals.specs.Reads.{Reads, Gives, items_of, found_text};
+ghost use Rattle.literals.specs.Text.{quoted, is_text, is_escaped, where_text, text_at, text_literal, quoted_byte};
+ghost use Rattle.literals.specs.Part.{read_on, IsShorter};
+
+use crate::fault::LiteralFault;
+use crate::part::Part;
+use rel_base::{NoMemory, Str, StrFault};
+use std::alloc::Global;
+
+fn next_part(bytes: &[u8]) -> Part<'_>
+    ensures found { read_on result ≡ quoted bytes.now }
+    ensures shorter { IsShorter result (length bytes.now) }
+{
+    match bytes {
+        [b'"', rest @ ..] => Part::Close(rest),
+        [b'\\', byte, rest @ ..] if is_escaped(*byte) => Part::Byte(*byte, rest),
+        [] | [b'\\', ..] => Part::Bad,
+        [byte, rest @ ..] => Part::Byte(*byte, rest),
+    }
+}
+
+/// Whether a backslash stands before this byte.
+fn is_escaped(byte: u8) -> bool
+    ensures { result ≡ is_escaped byte }
+{
+    byte == b'"' || byte == b'\\'
+}
+
+/// Reads up to the closing quote.
+#[tactic(auto, using(crate::proofs::Parts::with_front_more))]
+fn unquote(alloc: Global, bytes: &[u8]) -> Result<(Vec<u8>, &[u8]), LiteralFault>
+    ensures { Reads (items_of result) (quoted bytes.now) }
+{
+    let mut value = Vec::new(alloc);
+    let mut rest = bytes;
+    loop {
+        match next_part(rest) {
+            Part::Close(after) => return Ok((value, after)),
+            Part::Byte(byte, after) => {
+                value.push(byte)?;
+                rest = after;
+            }
+            Part::Bad => return Err(LiteralFault::Bad),
+        }
+    }
+}
+
+/// The bytes as UTF-8, if they are.
+#[tactic(auto, using(crate::proofs::Utf8::is_utf8_yes, crate::proofs::Utf8::is_utf8_no))]
+fn utf8_of(bytes: &[u8]) -> Option<&str>
+    ensures { found_text result ≡ cond (is_utf8 bytes.now) (Some bytes.now) None }
+{
+    match std::str::from_utf8(bytes) {
+        Ok(text) => Some(text),
+        Err(_) => None,
+    }
+}
+
+/// The text, if it is short enough and has no control character.
+fn plain_text(alloc: Global, text: &str) -> Result<Str, LiteralFault>
+    ensures { Gives result (cond (nat_le (length text.now) 255 && has_no_control text.now) (Some text.now) None) }
+{
+    match Str::new(alloc, text) {
+        Ok(text) => Ok(text),
+        Err(StrFault::NoMemory) => Err(LiteralFault::NoMemory),
+        Err(StrFault::TooLong | StrFault::Control) => Err(LiteralFault::Bad),
+    }
+}
+
+/// The text of some bytes, if they are one.
+fn text_of(alloc: Global, bytes: &[u8]) -> Result<Str, LiteralFault>
+    ensures { Gives result (cond (is_text bytes.now) (Some bytes.now) None) }
+{
+    match utf8_of(bytes) {
+        Some(text) => plain_text(alloc, text),
+        None => Err(LiteralFault::Bad),
+    }
+}
+
+/// Reads the text in quotes at the front of the bytes, and answers what follows it too.
+pub fn read_text(alloc: Global, bytes: &[u8]) -> Result<(Str, &[u8]), LiteralFault>
+    ensures { Reads result (text_at bytes.now) }
+{
+    match bytes {
+        [b'"', inside @ ..] => read_quoted(alloc, inside),
+        _ => Err(LiteralFault::Bad),
+    }
+}
+
+/// The same after the opening quote.
+fn read_quoted(alloc: Global, bytes: &[u8]) -> Result<(Str, &[u8]), LiteralFault>
+    ensures { Reads result (option_and_then where_text (quoted bytes.now)) }
+{
+    let (value, rest) = unquote(alloc, bytes)?;
+    let text = text_of(alloc, value.as_slice())?;
+    Ok((text, rest))
+}
+
+/// Writes a byte of a text at the end, as it stands between quotes.
+fn push_byte(out: &mut Vec<u8>, byte: u8) -> Result<(), NoMemory>
+    ensures ok { OnOk result (out.new.items ≡ out.old.items ++ quoted_byte byte) }
+    ensures err { OnErr result (out.new.items ≡ out.old.items) }
+{
+    if is_escaped(byte) {
+        out.extend_from_slice(&[b'\\', byte])?;
+    } else {
+        out.push(byte)?;
+    }
+    Ok(())
+}
+
+/// Writes bytes of a text at the end, as they stand between quotes.
+fn push_inside(out: &mut Vec<u8>, bytes: &[u8]) -> Result<(), NoMemory>
+    ensures ok { OnOk result (out.new.items ≡ out.old.items ++ flat_map quoted_byte bytes.now) }
+    ensures front { take (length out.old.items) out.new.items ≡ out.old.items }
+{
+    for byte in bytes {
+        push_byte(out, *byte)?;
+    }
+    Ok(())
+}
+
+/// Writes a text in quotes at the end, or a part of it.
+fn push_quoted(out: &mut Vec<u8>, bytes: &[u8]) -> Result<(), NoMemory>
+    ensures ok { OnOk result (out.new.items ≡ out.old.items ++ text_literal bytes.now) }
+    ensures front { take (length out.old.items) out.new.items ≡ out.old.items }
+{
+    out.push(b'"')?;
+    push_inside(out, bytes)?;
+    out.push(b'"')?;
+    Ok(())
+}
+
+/// Writes a text in quotes at the end, or nothing where memory runs out.
+pub fn push_text(out: &mut Vec<u8>, text: &str) -> Result<(), NoMemory>
+    ensures ok { OnOk result (out.new.items ≡ out.old.items ++ text_literal text.now) }
+    ensures err { OnErr result (out.new.items ≡ out.old.items) }
+{
+    let start = out.len();
+    let pushed = push_quoted(out, text.as_bytes());
+    if pushed.is_err() {
+        out.truncate(start);
+    }
+    pushed
+}
