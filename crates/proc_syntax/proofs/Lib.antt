@@ -1,0 +1,9 @@
+pub mod Trees
+pub mod Lookups
+pub mod Framed
+pub mod Fits
+pub mod Kept
+pub mod Sound
+pub mod Runs
+pub mod Merging
+pub mod Pointing

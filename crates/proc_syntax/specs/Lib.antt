@@ -1,0 +1,8 @@
+pub mod Declaring
+pub mod Values
+pub mod Scope
+pub mod OwnWrites
+pub mod Meaning
+pub mod Run
+pub mod Call
+pub mod Laws

@@ -1,0 +1,87 @@
+-- What a call of a procedure gives on tables.
+use Rattle.std.specs.Prelude.{ℕ, ℤ, Bool, cond, List, [], ◌∷◌, map, Option, Some, None, slice_get}
+use Rattle.std.specs.FinMap as finite
+use Rattle.std.specs.List.{find}
+use Rattle.std.specs.Option.{option_and_then}
+use Rattle.std.specs.Str.{bytes_eq}
+use Rattle.rel_base.specs.declared.access.Read.TheVariants.{Point}
+use Rattle.rel_base.specs.declared.access.Write.{Write}
+use Rattle.rel_base.specs.declared.schema.TableDef.{TableDef}
+use Rattle.rel_base.specs.declared.value.Value.{Value}
+use Rattle.rel_base.specs.Tables.{Tables, rows}
+use Rattle.proc_syntax.specs.declared.call.Tx.{Tx}
+use Rattle.proc_syntax.specs.declared.run.Binding.TheVariants.{Plain}
+use Rattle.proc_syntax.specs.declared.run.Ending.{Ending}
+use Rattle.proc_syntax.specs.declared.run.Ending.TheVariants as ending
+use Rattle.proc_syntax.specs.declared.run.Ran.{Ran}
+use Rattle.proc_syntax.specs.declared.run.Stop.{Stop}
+use Rattle.proc_syntax.specs.declared.run.Stop.TheVariants as stop
+use Rattle.proc_syntax.specs.declared.run.Variable.{Variable}
+use Rattle.proc_syntax.specs.declared.tree.App.{App}
+use Rattle.proc_syntax.specs.declared.tree.ColumnText.{ColumnText}
+use Rattle.proc_syntax.specs.declared.tree.ProcDef.{ProcDef}
+use Rattle.proc_syntax.specs.Declaring.{tables_of}
+use Rattle.proc_syntax.specs.Meaning.{State, Outcome, Going, Stopped, block}
+use Rattle.proc_syntax.specs.OwnWrites.{Own, first_row}
+use Rattle.proc_syntax.specs.Scope.{bind}
+use Rattle.proc_syntax.specs.Values.{have_kinds}
+
+-- ---- net writes
+
+-- the row of a key in the tables: what its point read gets there
+abbrev pub row_in : List TableDef → Tables → ℕ × List Value → Option (List Value)
+row_in declared tables ref = option_and_then (λ def. first_row (rows def (Point ref.0 ref.1) tables)) (slice_get declared ref.0)
+
+-- a write of a key, before others; a key that has no row before and none after has no write
+abbrev pub write_before : ℕ × List Value → Option (List Value) → Option (List Value) → List Write → List Write
+write_before ref None None rest = rest
+write_before ref before after rest = record { table = ref.0; key = ref.1; before = before; after = after } ∷ rest
+
+-- for each own key in order, its row in the tables and the row that the transaction left there
+abbrev pub net_from : List TableDef → Tables → List ((ℕ × List Value) × Option (List Value)) → List Write
+net_from declared tables [] = []
+net_from declared tables (own ∷ rest) = write_before own.0 (row_in declared tables own.0) own.1 (net_from declared tables rest)
+
+abbrev pub net : List TableDef → Tables → Own → List Write
+net declared tables own = net_from declared tables (finite.entries own)
+
+-- ---- the run
+
+abbrev pub ending_of : Stop → Ending
+ending_of (stop.Fault fault) = ending.Faulted fault
+ending_of stop.IllTyped = ending.IllTyped
+
+-- a run that stopped has no writes
+abbrev pub ran : List TableDef → Tables → Outcome → Ran
+ran declared tables (Going state) = record { reads = state.made; writes = net declared tables state.own; ending = ending.Good }
+ran declared tables (Stopped state why) = record { reads = state.made; writes = []; ending = ending_of why }
+
+-- a run that does not begin
+abbrev pub no_run : Ran
+no_run = record { reads = []; writes = []; ending = ending.IllTyped }
+
+-- the parameters stand for the arguments
+abbrev pub arguments : List Variable → List ColumnText → List Value → List Variable
+arguments variables [] values = variables
+arguments variables (param ∷ params) [] = variables
+arguments variables (param ∷ params) (v ∷ vs) = arguments (bind variables param.name.name (Plain v)) params vs
+
+abbrev pub start : ProcDef → List Value → State
+start procedure values = record { variables = arguments [] procedure.params values; own = finite.empty; made = []; steps = 0 }
+
+-- the first procedure of a name
+abbrev pub procedure_named : App → List ℕ → Option ProcDef
+procedure_named app name = find (λ procedure. bytes_eq procedure.name.name name) app.procs
+
+-- whether there is one argument of its kind for each parameter
+abbrev pub takes : ProcDef → List Value → Bool
+takes procedure values = have_kinds (map (λ param. param.kind) procedure.params) values
+
+abbrev pub called : App → List Value → Tables → Option ProcDef → Ran
+called app values tables None = no_run
+called app values tables (Some procedure) =
+    cond (takes procedure values) (ran (tables_of app) tables (block (tables_of app) tables procedure.body (start procedure values))) no_run
+
+-- the run of a transaction's call on tables, at a time in seconds. A call of no procedure, or with arguments that do not fit, is ill typed
+abbrev pub run : App → Tx → ℤ → Tables → Ran
+run app tx time tables = called app tx.args tables (procedure_named app tx.procedure)
