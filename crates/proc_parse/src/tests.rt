@@ -1,0 +1,162 @@
+use super::parser::{ParseFault, parse};
+use proc_syntax::{App, Expr, Stmt};
+use rel_base::Value;
+use std::alloc::Global;
+use std::test::Fail;
+
+fn is_read(alloc: Global, text: &str) -> Result<bool, ParseFault> {
+    if text.len() > 10_000 {
+        return Ok(false);
+    }
+    match parse(alloc, text.as_bytes()) {
+        Ok(_) => Ok(true),
+        Err(ParseFault::Syntax) => Ok(false),
+        Err(ParseFault::NoMemory) => Err(ParseFault::NoMemory),
+    }
+}
+
+#[test]
+fn declarations(rt: HostRuntime) -> Result<(), Fail> {
+    let alloc = rt.alloc();
+    for (text, want) in [
+        ("", true),
+        (" \t\n# a comment\n", true),
+        ("# a comment with \u{e9}\n", false),
+        ("# and \" ' ! $ @", true),
+        ("table acct (id int, id int) key (id);", true),
+        (
+            "table acct (id int, owner text) key (id, owner) index (owner);",
+            true,
+        ),
+        (
+            "table acct (a int, b text, c bool, d bytes) key (a);#",
+            true,
+        ),
+        ("table acct (id int) key (id)\nproc p() { }", false),
+        ("table acct () key (id);", false),
+        ("table acct (id int) key ();", false),
+        ("table acct (id int,) key (id);", false),
+        ("table acct (id) key (id);", false),
+        ("table key (id int) key (id);", false),
+        ("table x (id int) key (id);", false),
+        ("table xx (id int) key (id);", true),
+        ("table Acct (id int) key (id);", false),
+        ("table acct (id int) key (id) index ();", false),
+        ("proc p() { } table acct (id int) key (id);", false),
+    ] {
+        assert_eq!(rt; is_read(alloc, text)?, want, "at {text}");
+    }
+    Ok(())
+}
+
+#[test]
+fn limits(rt: HostRuntime) -> Result<(), Fail> {
+    let alloc = rt.alloc();
+    for (text, want) in [
+        (
+            "table aaaaaaaaaaaaaaaaaaaaaaaaaaaaaaaa (i int) key (i);",
+            true,
+        ),
+        (
+            "table aaaaaaaaaaaaaaaaaaaaaaaaaaaaaaaaa (i int) key (i);",
+            false,
+        ),
+        ("proc p() { insert t (9223372036854775807, 0); }", true),
+        ("proc p() { insert t (9223372036854775808); }", false),
+        ("proc p() { insert t (99999999999999999999); }", false),
+        ("proc p() { insert t (00); }", false),
+        (
+            "proc p() { insert t (\"aaaaaaaaaaaaaaaaaaaaaaaaaaaaaaaaaaaaaaaaaaaaaaaaaaaaaaaaaaaaaaaaaaaaaaaaaaaaaaaaaaaaaaaaaaaaaaaaaaaaaaaaaaaaaaaaaaaaaaaaaaaaaaaaaaaaaaaaaaaaaaaaaaaaaaaaaaaaaaaaaaaaaaaaaaaaaaaaaaaaaaaaaaaaaaaaaaaaaaaaaaaaaaaaaaaaaaaaaaaaaaaaaaaaaaaaaaaaaaaaaaaaaaaaaaaaaaa\"); }",
+            true,
+        ),
+        (
+            "proc p() { insert t (\"aaaaaaaaaaaaaaaaaaaaaaaaaaaaaaaaaaaaaaaaaaaaaaaaaaaaaaaaaaaaaaaaaaaaaaaaaaaaaaaaaaaaaaaaaaaaaaaaaaaaaaaaaaaaaaaaaaaaaaaaaaaaaaaaaaaaaaaaaaaaaaaaaaaaaaaaaaaaaaaaaaaaaaaaaaaaaaaaaaaaaaaaaaaaaaaaaaaaaaaaaaaaaaaaaaaaaaaaaaaaaaaaaaaaaaaaaaaaaaaaaaaaaaaaaaaaaaaa\"); }",
+            false,
+        ),
+    ] {
+        assert_eq!(rt; is_read(alloc, text)?, want, "at {text}");
+    }
+    Ok(())
+}
+
+#[test]
+fn procedures(rt: HostRuntime) -> Result<(), Fail> {
+    let alloc = rt.alloc();
+    for (text, want) in [
+        ("proc p() { }", true),
+        ("proc p(){}proc p(){}", true),
+        ("proc p(a int, b text,) { }", false),
+        ("proc p(a int b text) { }", false),
+        (
+            "proc p() { insert t (true, false, x\"00ff\", \"\", a); }",
+            true,
+        ),
+        ("proc p() { insert t (x\"0F\"); }", false),
+        ("proc p() { insert t (x\"0\"); }", false),
+        ("proc p() { insert t (x\"00); }", false),
+        ("proc p() { insert t (\"a); }", false),
+        ("proc p() { insert t (\"a\\\\ \\\" # \u{e9}\"); }", true),
+        ("proc p() { insert t (\"\\n\"); }", false),
+        ("proc p() { insert t (\"\n\"); }", false),
+        ("proc p() { insert t (); }", false),
+        ("proc p() { insert t (1) }", false),
+        ("proc p() { insert t (insert); }", false),
+        ("proc p() { insert t (now); }", false),
+        ("proc p() { ; }", false),
+        ("proc p() {", false),
+        ("proc p() { } }", false),
+        ("proc p() { } !", false),
+    ] {
+        assert_eq!(rt; is_read(alloc, text)?, want, "at {text}");
+    }
+    Ok(())
+}
+
+/// The table of accounts, and the procedure that adds one.
+const ACCOUNTS: &str = "table acct (id int, owner text, bal int) key (id) index (owner);
+proc add(i int, o text, b int) { insert acct (i, o, b); }
+";
+
+fn inserts_three(app: &App) -> bool {
+    let Some(add) = app.procs.get(0) else {
+        return false;
+    };
+    match add.body.get(0) {
+        Some(Stmt::Insert { table, values }) => {
+            table.name.as_str() == "acct" && table.line == 2 && values.len() == 3
+        }
+        _ => false,
+    }
+}
+
+#[test]
+fn accounts(rt: HostRuntime) -> Result<(), Fail> {
+    let app = parse(rt.alloc(), ACCOUNTS.as_bytes())?;
+    assert_eq!(rt; app.tables.len(), 1);
+    assert_eq!(rt; app.procs.len(), 1);
+    assert!(rt; inserts_three(&app));
+    Ok(())
+}
+
+fn first_value(app: &App) -> Option<&Value> {
+    let add = app.procs.get(0)?;
+    match add.body.get(0)? {
+        Stmt::Insert { values, .. } => match values.get(0)? {
+            Expr::Value { value, .. } => Some(value),
+            _ => None,
+        },
+        _ => None,
+    }
+}
+
+#[test]
+fn texts_lose_their_escapes(rt: HostRuntime) -> Result<(), Fail> {
+    let text = "proc p() { insert t (\"a\\\"b\\\\\"); }";
+    let app = parse(rt.alloc(), text.as_bytes())?;
+    let is_right = match first_value(&app) {
+        Some(Value::Text(text)) => text.as_str() == "a\"b\\",
+        _ => false,
+    };
+    assert!(rt; is_right);
+    Ok(())
+}
