@@ -1,0 +1,62 @@
+//! Checked applications.
+
+ghost use Rattle.std.specs.Prelude.{◌≡◌, ◌≤◌, None, IfOk, IfErr, Ok, length};
+ghost use Rattle.proc_syntax.specs.Declaring.{tables_of};
+ghost use Rattle.proc_syntax.specs.Call.{call_fault};
+ghost use Rattle.proc_check.specs.Apps.{walk_app, first_fault};
+ghost use Rattle.proc_check.specs.Gives.{IsFirst};
+
+use crate::calls::call_fault;
+use crate::fault::CheckFault;
+use crate::procedures::check_procedures;
+use crate::tables::check_tables;
+use proc_syntax::{App, CallFault, Tx, tables_of};
+use rel_base::{List, TableDef};
+use std::alloc::Global;
+
+/// An application that is well typed, and the declarations of its tables.
+#[derive(Drop)]
+pub struct Checked {
+    app: App,
+    tables: List<TableDef>,
+    ghost well_typed: { walk_app app ≡ Ok tt },
+    ghost declared: { tables ≡ tables_of app },
+}
+
+/// Checks an application, up to its first fault.
+pub fn check(alloc: Global, app: App) -> Result<Checked, CheckFault>
+    ensures ok { IfOk result (λ checked. checked.app ≡ app) }
+    ensures fine { IfOk result (λ checked. first_fault app ≡ None) }
+    ensures bad { IfErr result (λ fault. IsFirst fault (first_fault app)) }
+{
+    check_tables(app.tables.as_slice())?;
+    check_procedures(alloc, app.tables.as_slice(), app.procs.as_slice())?;
+    let tables = tables_of(alloc, &app)?;
+    Ok(Checked { app, tables })
+}
+
+impl Checked {
+    /// The application, in which the walk meets no fault.
+    pub fn app(&self) -> &App
+        ensures app { result.now ≡ self.now.app }
+        ensures fine { first_fault self.now.app ≡ None }
+    {
+        &self.app
+    }
+
+    /// The declarations of its tables, with the names of key and index as the numbers of columns. There are at most 64.
+    #[tactic(auto, using(crate::proofs::Few::few_tables))]
+    pub fn tables(&self) -> &List<TableDef>
+        ensures tables { result.now ≡ tables_of self.now.app }
+        ensures few { length (tables_of self.now.app) ≤ 64 }
+    {
+        &self.tables
+    }
+
+    /// Why a call cannot begin, where it cannot.
+    pub fn call_fault(&self, tx: &Tx) -> Option<CallFault>
+        ensures { result ≡ call_fault self.now.app tx.now }
+    {
+        call_fault(&self.app, tx)
+    }
+}
