@@ -1,0 +1,22 @@
+//! A plain interpreter of procedures, by recursion on their statements over a snapshot of the tables. Its answer is the run that a
+//! call means.
+#![tactic(auto)]
+
+pub mod ask;
+pub mod call;
+pub mod cover;
+pub mod exec;
+pub mod merge;
+pub mod net;
+pub mod own;
+pub mod plain;
+pub mod row_tables;
+pub mod run;
+pub mod snapshot;
+#[cfg(test)]
+mod tests;
+
+pub use call::run_call;
+pub use own::OwnRows;
+pub use row_tables::RowTables;
+pub use snapshot::Snapshot;

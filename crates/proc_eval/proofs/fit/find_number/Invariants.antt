@@ -1,0 +1,7 @@
+use Rattle.std.proofs.Common.{◌≡◌, ◌==◌, drop}
+use Rattle.std.specs.List.{list_any}
+use Rattle.proc_eval.proofs.fit.find_number.Given as goal
+
+-- the number is among those that are left
+abbrev pub invariant-loop-number : goal.invariant-loop-number
+invariant-loop-number l = list_any (λ number. number == l.wanted) (drop l.number-index l.numbers) ≡ list_any (λ number. number == l.wanted) l.numbers

@@ -1,0 +1,197 @@
+//! Values, reads and rows that fit their table.
+
+ghost use Rattle.std.specs.Prelude.{◌≡◌, ◌==◌, ◌&&◌, cond, IfOk, OnOk, map, take, Some, None, slice_set};
+ghost use Rattle.std.specs.List.{list_any};
+ghost use Rattle.rel_base.specs.Schema.{kind_at, key_of_row, span_columns};
+ghost use Rattle.rel_base.specs.Value.{key_eq};
+ghost use Rattle.proc_syntax.specs.Values.{has_kind, have_kinds};
+ghost use Rattle.proc_syntax.specs.Scope.{column_in};
+ghost use Rattle.proc_syntax.specs.Meaning.{end_has, span_on, span_of, row_fits, key_for, set_columns};
+
+use crate::scope::column_in;
+use rel_base::{Column, Key, Kind, Name, NoMemory, Read, Row, TableDef, Twin, Value, key_of};
+use std::alloc::Global;
+
+/// Whether a value has a kind.
+pub fn has_kind(kind: Kind, value: &Value) -> bool
+    ensures { result ≡ has_kind kind value.now }
+{
+    match (kind, value) {
+        (Kind::Int, Value::Int(_)) => true,
+        (Kind::Text, Value::Text(_)) => true,
+        (Kind::Bool, Value::Bool(_)) => true,
+        (Kind::Bytes, Value::Bytes(_)) => true,
+        _ => false,
+    }
+}
+
+/// Whether there is one value of its kind for each column, in order.
+pub fn fit_columns(columns: &[Column], values: &[Value]) -> bool
+    ensures { result ≡ have_kinds (map (λ column. column.kind) columns.now) values.now }
+{
+    match (columns.split_first(), values.split_first()) {
+        (None, None) => true,
+        (Some((column, columns)), Some((value, values))) => has_kind(column.kind, value)
+            && fit_columns(columns, values),
+        _ => false,
+    }
+}
+
+/// The kind of a column of a table.
+pub fn kind_of_column(def: &TableDef, column: u32) -> Kind
+    ensures { result ≡ kind_at def.now column }
+{
+    match def.columns.get(column as usize) {
+        None => Kind::Int,
+        Some(column) => column.kind,
+    }
+}
+
+/// Whether there is one value of its kind for each of some columns, in order.
+pub fn fit_numbers(def: &TableDef, numbers: &[u32], values: &[Value]) -> bool
+    ensures { result ≡ have_kinds (map (kind_at def.now) numbers.now) values.now }
+{
+    match (numbers.split_first(), values.split_first()) {
+        (None, None) => true,
+        (Some((number, numbers)), Some((value, values))) => has_kind(
+            kind_of_column(def, *number),
+            value,
+        ) && fit_numbers(def, numbers, values),
+        _ => false,
+    }
+}
+
+/// Whether a row has one value of its kind for each column.
+pub fn fits_table(def: &TableDef, row: &Row) -> bool
+    ensures { result ≡ row_fits def.now row.now }
+{
+    fit_columns(def.columns.as_slice(), row.as_slice())
+}
+
+/// Whether an end of a span, where it is given, has a kind.
+pub fn fits_end(kind: Kind, end: &Option<Value>) -> bool
+    ensures { result ≡ end_has kind end.now }
+{
+    match end {
+        None => true,
+        Some(value) => has_kind(kind, value),
+    }
+}
+
+/// Whether a key has one value of its kind for each key column.
+pub fn fits_key(def: &TableDef, key: &Key) -> bool
+    ensures { result ≡ have_kinds (map (kind_at def.now) def.now.key) key.now }
+{
+    fit_numbers(def, def.key.as_slice(), key.as_slice())
+}
+
+/// A number among some.
+fn find_number(numbers: &[u32], wanted: usize) -> Option<u32>
+    ensures { result ≡ cond (list_any (λ number. number == wanted) numbers.now) (Some wanted) None }
+{
+    for number in numbers {
+        if *number as usize == wanted {
+            return Some(*number);
+        }
+    }
+    None
+}
+
+/// The first of some numbers, where there is one.
+fn first_of(numbers: &[u32]) -> &[u32]
+    ensures { result.now ≡ take 1 numbers.now }
+{
+    &numbers[..numbers.len().min(1)]
+}
+
+/// A column, where a span may name it.
+pub fn span_column(def: &TableDef, column: usize) -> Option<u32>
+    ensures { result ≡ cond (list_any (λ c. c == column) (span_columns def.now)) (Some column) None }
+{
+    match find_number(first_of(def.key.as_slice()), column) {
+        Some(column) => Some(column),
+        None => find_number(def.index.as_slice(), column),
+    }
+}
+
+/// The read of a span on a column, where the column may be named and the ends have its kind.
+pub fn span_on(
+    def: &TableDef,
+    table: u32,
+    column: usize,
+    low: Option<Value>,
+    high: Option<Value>,
+) -> Option<Read>
+    ensures { result ≡ span_on def.now table column low high }
+{
+    let column = span_column(def, column)?;
+    let kind = kind_of_column(def, column);
+    if fits_end(kind, &low) && fits_end(kind, &high) {
+        Some(Read::Span {
+            table,
+            column,
+            low,
+            high,
+        })
+    } else {
+        None
+    }
+}
+
+/// The read of a span on a column of a name.
+pub fn span_read(
+    def: &TableDef,
+    table: u32,
+    column: &Name,
+    low: Option<Value>,
+    high: Option<Value>,
+) -> Option<Read>
+    ensures { result ≡ span_of def.now table (column_in def.now column.now) low high }
+{
+    match column_in(def, column) {
+        None => None,
+        Some(column) => span_on(def, table, column, low, high),
+    }
+}
+
+/// The key of a row, where the row fits.
+pub fn key_for(alloc: Global, def: &TableDef, row: &Row) -> Result<Option<Key>, NoMemory>
+    ensures { IfOk result (λ key. key ≡ key_for def.now row.now) }
+{
+    if fits_table(def, row) {
+        let key = key_of(alloc, def, row)?;
+        Ok(Some(key))
+    } else {
+        Ok(None)
+    }
+}
+
+/// Whether a row fits and has a key.
+pub fn is_under(alloc: Global, def: &TableDef, key: &Key, row: &Row) -> Result<bool, NoMemory>
+    ensures { IfOk result (λ under. under ≡ (row_fits def.now row.now && key_eq (key_of_row def.now row.now) key.now)) }
+{
+    match key_for(alloc, def, row)? {
+        None => Ok(false),
+        Some(found) => Ok(found.cmp(key).is_eq()),
+    }
+}
+
+/// Sets a column of a row that has it.
+fn set_column(row: &mut Row, column: usize, value: Value)
+    ensures { row.new ≡ slice_set row.old column value }
+{
+    if column < row.len() {
+        let _ = row.replace(column, value);
+    }
+}
+
+/// Sets columns of a row, one after the other.
+pub fn set_columns(alloc: Global, row: &mut Row, changes: &[(usize, Value)]) -> Result<(), NoMemory>
+    ensures { OnOk result (row.new ≡ set_columns row.old changes.now) }
+{
+    for change in changes {
+        let value = change.1.copy(alloc)?;
+        set_column(row, change.0, value);
+    }
+    Ok(())
+}

@@ -1,0 +1,14 @@
+//! What runs of procedures are made of, below their statements: names, values of expressions, and reads and rows that fit.
+#![tactic(auto)]
+
+pub mod arith;
+pub mod call;
+pub mod compare;
+pub mod eval;
+pub mod fit;
+pub mod halt;
+pub mod scope;
+#[cfg(test)]
+mod tests;
+
+pub use halt::Halt;
