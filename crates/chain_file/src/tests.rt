@@ -1,0 +1,73 @@
+use super::{DraftFault, read_draft};
+use std::alloc::Global;
+use std::test::Fail;
+
+const SMALL: &[u8] =
+    b"draft 1\nblock 1\ntx a1 0 add 1 \"ann\" 50\ntx a2 0 add 2 \"b o b\" 20\nend\nblock 2\nend\n";
+
+/// Whether the bytes are no whole draft.
+fn is_bad(alloc: Global, bytes: &[u8]) -> bool {
+    matches!(read_draft(alloc, bytes), Err(DraftFault::Bad))
+}
+
+/// A draft of one block with so many transactions.
+fn crowded(alloc: Global, count: usize) -> Result<Vec<u8>, Fail> {
+    let mut bytes = Vec::from_slice(alloc, b"draft 1\nblock 1\n")?;
+    for _ in 0..count {
+        bytes.extend_from_slice(b"tx a 0 p\n")?;
+    }
+    bytes.extend_from_slice(b"end\n")?;
+    Ok(bytes)
+}
+
+#[test]
+fn small(rt: HostRuntime) -> Result<(), Fail> {
+    let alloc = rt.alloc();
+    let blocks = read_draft(alloc, SMALL)?;
+    assert_eq!(rt; blocks.len(), 2);
+    let blocks = blocks.as_slice();
+    assert_eq!(rt; blocks[0].number, 1);
+    assert_eq!(rt; blocks[0].time, 0);
+    assert_eq!(rt; blocks[0].txs.len(), 2);
+    assert_eq!(rt; blocks[0].txs.as_slice()[1].id.as_str(), "a2");
+    assert_eq!(rt; blocks[1].number, 2);
+    assert_eq!(rt; blocks[1].txs.len(), 0);
+    Ok(())
+}
+
+#[test]
+fn fronts(rt: HostRuntime) -> Result<(), Fail> {
+    let alloc = rt.alloc();
+    // A front of the draft is a whole one exactly behind its header and behind the end of a block.
+    for len in 0..SMALL.len() {
+        let whole = len == 8 || len == 68;
+        assert_eq!(rt; is_bad(alloc, &SMALL[..len]), !whole);
+    }
+    Ok(())
+}
+
+#[test]
+fn wrong_drafts(rt: HostRuntime) -> Result<(), Fail> {
+    let alloc = rt.alloc();
+    assert!(rt; is_bad(alloc, b"draft 2\n"));
+    assert!(rt; is_bad(alloc, b"chain 1\n"));
+    assert!(rt; is_bad(alloc, b"draft 1\nblock 2\nend\n"));
+    assert!(rt; is_bad(alloc, b"draft 1\nblock 01\nend\n"));
+    assert!(rt; is_bad(alloc, b"draft 1\nblock 1\nend\nblock 1\nend\n"));
+    assert!(rt; is_bad(alloc, b"draft 1\nblock 1\nblock 2\nend\nend\n"));
+    assert!(rt; is_bad(alloc, b"draft 1\ntx a 0 p\n"));
+    assert!(rt; is_bad(alloc, b"draft 1\nend\n"));
+    assert!(rt; is_bad(alloc, b"draft 1\nblock 1\nend \n"));
+    assert!(rt; is_bad(alloc, b"draft 1\nblock 1\n\nend\n"));
+    assert!(rt; is_bad(alloc, b"draft 1\n\n"));
+    Ok(())
+}
+
+#[test]
+fn crowds(rt: HostRuntime) -> Result<(), Fail> {
+    let alloc = rt.alloc();
+    let blocks = read_draft(alloc, &crowded(alloc, 1024)?)?;
+    assert_eq!(rt; blocks.as_slice()[0].txs.len(), 1024);
+    assert!(rt; is_bad(alloc, &crowded(alloc, 1025)?));
+    Ok(())
+}

@@ -1,0 +1,23 @@
+//! What is written is read back, and what is read was written so: each the contract of a function that does nothing.
+
+ghost use Rattle.tx_text.specs.Laws.{ValuesHaveOneSpelling, ValuesComeBack, TransactionsHaveOneLine, TransactionsComeBack};
+
+/// A value that is read has the spelling in which it is written.
+pub fn values_have_one_spelling()
+    ensures { ValuesHaveOneSpelling }
+{}
+
+/// A value is read back from its spelling.
+pub fn values_come_back()
+    ensures { ValuesComeBack }
+{}
+
+/// A transaction that is read has the line in which it is written.
+pub fn transactions_have_one_line()
+    ensures { TransactionsHaveOneLine }
+{}
+
+/// A transaction is read back from its line, where that has at most 4,096 bytes.
+pub fn transactions_come_back()
+    ensures { TransactionsComeBack }
+{}

@@ -1,0 +1,122 @@
+use super::{LineFault, read_tx, read_value, write_tx, write_value};
+use rel_base::Value;
+use std::alloc::Global;
+use std::test::Fail;
+
+/// Whether the bytes are no value.
+fn is_bad(alloc: Global, text: &[u8]) -> bool {
+    matches!(read_value(alloc, text), Err(LineFault::Bad))
+}
+
+/// Whether the bytes are no transaction line.
+fn is_bad_line(alloc: Global, line: &[u8]) -> bool {
+    matches!(read_tx(alloc, line), Err(LineFault::Bad))
+}
+
+/// A line of so many bytes, at least 25: a transaction with texts of at most 200 letters.
+fn long_line(alloc: Global, count: usize) -> Result<Vec<u8>, Fail> {
+    let mut line = Vec::from_slice(alloc, b"tx a 0 p")?;
+    for at in 8..count {
+        let byte = match (at - 8) % 200 {
+            0 => b' ',
+            1 => b'"',
+            199 => b'"',
+            _ => b'a',
+        };
+        line.push(byte)?;
+    }
+    Ok(line)
+}
+
+#[test]
+fn values(rt: HostRuntime) -> Result<(), Fail> {
+    let alloc = rt.alloc();
+    assert!(rt;
+        matches!(
+            read_value(alloc, b"9223372036854775807")?,
+            Value::Int(i64::MAX)
+        )
+    );
+    assert!(rt;
+        matches!(
+            read_value(alloc, b"-9223372036854775808")?,
+            Value::Int(i64::MIN)
+        )
+    );
+    assert!(rt; matches!(read_value(alloc, b"true")?, Value::Bool(true)));
+    assert!(rt; matches!(read_value(alloc, b"false")?, Value::Bool(false)));
+    assert!(rt;
+        matches!(read_value(alloc, b"\"a b\"")?, Value::Text(text) if text.as_str() == "a b")
+    );
+    assert!(rt;
+        matches!(read_value(alloc, b"x\"00\"")?, Value::Bytes(blob) if blob.as_slice().len() == 1)
+    );
+    Ok(())
+}
+
+#[test]
+fn wrong_values(rt: HostRuntime) -> Result<(), Fail> {
+    let alloc = rt.alloc();
+    assert!(rt; is_bad(alloc, b"9223372036854775808"));
+    assert!(rt; is_bad(alloc, b"-9223372036854775809"));
+    assert!(rt; is_bad(alloc, b"-0"));
+    assert!(rt; is_bad(alloc, b"07"));
+    assert!(rt; is_bad(alloc, b"+7"));
+    assert!(rt; is_bad(alloc, b"7 "));
+    assert!(rt; is_bad(alloc, b""));
+    assert!(rt; is_bad(alloc, b"truex"));
+    assert!(rt; is_bad(alloc, b"x\"0\""));
+    assert!(rt; is_bad(alloc, b"\"a\"\"b\""));
+    Ok(())
+}
+
+#[test]
+fn lines(rt: HostRuntime) -> Result<(), Fail> {
+    let alloc = rt.alloc();
+    let line = b"tx a-1 18446744073709551615 table 1 \"a b\" true x\"0a\" -5";
+    let tx = read_tx(alloc, line)?;
+    assert_eq!(rt; tx.id.as_str(), "a-1");
+    assert_eq!(rt; tx.height, u64::MAX);
+    assert_eq!(rt; tx.procedure.as_str(), "table");
+    assert_eq!(rt; tx.args.len(), 5);
+    assert_eq!(rt; write_tx(alloc, &tx)?.as_slice(), line.as_slice());
+    assert_eq!(rt; read_tx(alloc, b"tx a 0 p")?.args.len(), 0);
+    assert_eq!(rt;
+        write_value(alloc, &Value::Bool(true))?.as_slice(),
+        b"true".as_slice()
+    );
+    assert_eq!(rt; read_tx(alloc, &long_line(alloc, 4008)?)?.args.len(), 20);
+    Ok(())
+}
+
+#[test]
+fn wrong_lines(rt: HostRuntime) -> Result<(), Fail> {
+    let alloc = rt.alloc();
+    assert!(rt; is_bad_line(alloc, b""));
+    assert!(rt; is_bad_line(alloc, b"tx"));
+    assert!(rt; is_bad_line(alloc, b"tx a 0"));
+    assert!(rt; is_bad_line(alloc, b"tx a 0 "));
+    assert!(rt; is_bad_line(alloc, b"tx A 0 p"));
+    assert!(rt; is_bad_line(alloc, b"tx a 00 p"));
+    assert!(rt; is_bad_line(alloc, b"tx a 18446744073709551616 p"));
+    assert!(rt; is_bad_line(alloc, b"tx  a 0 p"));
+    assert!(rt; is_bad_line(alloc, b"tx a 0 p  1"));
+    assert!(rt; is_bad_line(alloc, b"tx a 0 p 1 "));
+    assert!(rt; is_bad_line(alloc, b" tx a 0 p"));
+    assert!(rt; is_bad_line(alloc, b"tx a 0 p 1\n"));
+    Ok(())
+}
+
+#[test]
+fn longest_line(rt: HostRuntime) -> Result<(), Fail> {
+    let alloc = rt.alloc();
+    let mut line = long_line(alloc, 4008)?;
+    line.extend_from_slice(
+        b" 1234567890 1234567890 1234567890 1234567890 1234567890 1234567890 1234567890 1234567890",
+    )?;
+    assert_eq!(rt; line.len(), 4096);
+    assert_eq!(rt; read_tx(alloc, &line)?.args.len(), 28);
+    line.push(b'1')?;
+    assert!(rt; is_bad_line(alloc, &line));
+    Ok(())
+}
