@@ -1,0 +1,10 @@
+pub mod Lasts
+pub mod Firsts
+pub mod Visible
+pub mod Logged
+pub mod Held
+pub mod KeyRows
+pub mod LeastHits
+pub mod Grown
+pub mod Answered
+pub mod Keeping

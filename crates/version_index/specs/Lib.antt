@@ -1,0 +1,6 @@
+pub mod Chain
+pub mod Log
+pub mod Heads
+pub mod Rows
+pub mod Kept
+pub mod Example

@@ -1,0 +1,132 @@
+//! The last write on each key of a table.
+
+ghost use Rattle.std.specs.Prelude.{◌≡◌, ℕ, List, [], Option, Some, cond, is_some, IfOk, OnOk, IsTrue};
+ghost use Rattle.std.specs.Ordering.{eq_by_cmp};
+ghost use Rattle.rel_base.specs.Value.{key_cmp};
+ghost use Rattle.rel_base.specs.declared.value.Value.{Value as Cell};
+ghost use Rattle.std.specs.Prelude.{All};
+ghost use Rattle.std.specs.List.Sorted.{IsStrictlySortedBy};
+ghost use Rattle.std.specs.Map.{keys_of};
+ghost use Rattle.rel_base.specs.Access.{ReadFits, read_table};
+ghost use Rattle.rel_base.specs.Tables.{tables_at};
+ghost use Rattle.version_index.specs.Chain.{IsLast, is_on};
+ghost use Rattle.version_index.specs.Heads.{head_of, holds_key};
+ghost use Rattle.version_index.specs.Log.{history_of, Linked, FitsTable};
+ghost use Rattle.version_index.specs.Rows.{rows_of_keys};
+
+use crate::entry::Entry;
+use crate::rows::add_key;
+use rel_base::{Key, List, NoMemory, Read, Seen, TableDef, Twin};
+use std::alloc::Global;
+use std::collections::BTreeMap;
+use std::marker::Model;
+
+/// An ordered map from the keys of a table to the number of the last write on each. A key may be held before its first write.
+#[derive(Drop)]
+pub struct Heads {
+    last: BTreeMap<Key, Option<usize>>,
+}
+
+impl Model for Heads {
+    ghost use Rattle.std.specs.Prelude.{ℕ, List, Option};
+    ghost use Rattle.std.specs.BTreeMap.{IsOrdered};
+    ghost use Rattle.std.specs.Coded.{coded×, coded_ℕ, coded_list, coded_option};
+    ghost use Rattle.rel_base.specs.Value.{key_cmp};
+    ghost use Rattle.rel_base.specs.declared.value.Value.{Value as Cell};
+    ghost use Rattle.rel_base.specs.contracts.value.Value as cell;
+
+    ghost Value = { List (List Cell × Option ℕ) };
+
+    ghost coded = { coded_list (coded× (coded_list cell.the_row.coded) (coded_option coded_ℕ)) };
+
+    ghost view = { λ heads. heads.last.entries };
+
+    ghost invariant = { λ heads. IsOrdered key_cmp heads.last };
+}
+
+impl Heads {
+    /// No keys.
+    pub fn new(alloc: Global) -> Heads
+        ensures { result ≡ [] }
+    {
+        Heads {
+            last: BTreeMap::new(alloc),
+        }
+    }
+
+    /// The number of the last write on a key.
+    pub fn last(&self, key: &Key) -> Option<usize>
+        ensures { result ≡ head_of self.now key.now }
+    {
+        match self.last.get(key) {
+            None => None,
+            Some(head) => *head,
+        }
+    }
+
+    /// Holds a key, so that a write on it can be noted without memory.
+    pub fn hold(&mut self, alloc: Global, key: &Key) -> Result<(), NoMemory>
+        ensures held { OnOk result (IsTrue (holds_key self.new key.now)) }
+        ensures same { (q : List Cell) → head_of self.new q ≡ head_of self.old q }
+        ensures kept { (q : List Cell) → IsTrue (holds_key self.old q) → IsTrue (holds_key self.new q) }
+    {
+        if self.last.contains_key(key) {
+            return Ok(());
+        }
+        let key = key.copy(alloc)?;
+        self.last.insert(key, None)?;
+        Ok(())
+    }
+
+    /// Notes the last write on a key that is held.
+    pub fn set(&mut self, key: &Key, number: usize)
+        requires { IsTrue (holds_key self.old key.now) }
+        ensures set { (q : List Cell) → head_of self.new q ≡ cond (eq_by_cmp key_cmp q key.now) (Some number) (head_of self.old q) }
+        ensures kept { (q : List Cell) → IsTrue (holds_key self.old q) → IsTrue (holds_key self.new q) }
+    {
+        if let Some(head) = self.last.get_mut(key) {
+            *head = Some(number);
+        }
+    }
+
+    /// The rows of the keys after the block of a height that a read covers, in the order of the keys.
+    pub fn rows(
+        &self,
+        alloc: Global,
+        entries: &[Entry],
+        def: &TableDef,
+        read: &Read,
+        height: u64,
+    ) -> Result<List<Seen>, NoMemory>
+        requires linked { Linked entries.now }
+        requires headed { (key : List Cell) → IsLast (is_on (read_table read.now, key)) (history_of entries.now) (head_of self.now key) }
+        requires fits { FitsTable def.now (read_table read.now) (history_of entries.now) }
+        requires read_fits { ReadFits def.now read.now }
+        ensures rows { IfOk result (λ rows. rows ≡ rows_of_keys def.now read.now (tables_at height (history_of entries.now)) (read_table read.now) (keys_of self.now)) }
+        ensures rise { IsStrictlySortedBy key_cmp (keys_of self.now) }
+    {
+        rows_of_map(alloc, &self.last, entries, def, read, height)
+    }
+}
+
+/// The rows of the keys of a map after the block of a height that a read covers.
+fn rows_of_map(
+    alloc: Global,
+    last: &BTreeMap<Key, Option<usize>>,
+    entries: &[Entry],
+    def: &TableDef,
+    read: &Read,
+    height: u64,
+) -> Result<List<Seen>, NoMemory>
+    requires linked { Linked entries.now }
+    requires headed { All (λ e. IsLast (is_on (read_table read.now, e.0)) (history_of entries.now) e.1) last.now.entries }
+    requires fits { FitsTable def.now (read_table read.now) (history_of entries.now) }
+    requires read_fits { ReadFits def.now read.now }
+    ensures { IfOk result (λ rows. rows ≡ rows_of_keys def.now read.now (tables_at height (history_of entries.now)) (read_table read.now) (keys_of last.now.entries)) }
+{
+    let mut rows = List::new(alloc);
+    for (key, head) in last.iter() {
+        add_key(alloc, &mut rows, entries, def, read, key, *head, height)?;
+    }
+    Ok(rows)
+}

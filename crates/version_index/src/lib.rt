@@ -1,0 +1,18 @@
+//! A store of committed versions with an index by key: the writes in one log, each linked to the one before it on its key,
+//! and for each table an ordered map from its keys to their last writes.
+#![tactic(auto)]
+
+pub mod chain;
+pub mod entry;
+pub mod growth;
+pub mod heads;
+pub mod hits;
+pub mod reading;
+pub mod rows;
+pub mod store;
+#[cfg(test)]
+mod tests;
+
+pub use entry::Entry;
+pub use heads::Heads;
+pub use store::IndexVersions;
