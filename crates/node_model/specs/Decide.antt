@@ -1,0 +1,117 @@
+-- The outcome of a transaction: the first cause that applies, in the order of the definitions below, or committed.
+-- (The flow is that of Nathan and others, PVLDB 12(11), 2019; the causes and their order are this project's own.)
+use Rattle.node_model.specs.History.{Sealed, history_of, ids_of, ids_told, snapshot, time_at}
+use Rattle.node_model.specs.declared.outcome.Outcome.{Outcome}
+use Rattle.node_model.specs.declared.outcome.Outcome.TheVariants as outcome
+use Rattle.node_model.specs.declared.result.Committed.{Committed}
+use Rattle.node_model.specs.declared.result.Told.{Told}
+use Rattle.proc_syntax.specs.Call.{call_fault}
+use Rattle.proc_syntax.specs.Declaring.{tables_of}
+use Rattle.proc_syntax.specs.Run.{run}
+use Rattle.proc_syntax.specs.declared.run.Ending.TheVariants.{Good, Faulted, IllTyped}
+use Rattle.proc_syntax.specs.declared.run.Ending.{Ending}
+use Rattle.proc_syntax.specs.declared.run.Ran.{Ran}
+use Rattle.proc_syntax.specs.declared.call.CallFault.TheVariants.{UnknownProcedure, BadArguments}
+use Rattle.proc_syntax.specs.declared.call.CallFault.{CallFault}
+use Rattle.proc_syntax.specs.declared.call.Tx.{Tx}
+use Rattle.proc_syntax.specs.declared.tree.App.{App}
+use Rattle.rel_base.specs.Access.{read_table}
+use Rattle.rel_base.specs.Late.{LateRead, is_stale, late}
+use Rattle.rel_base.specs.Tables.{Stamped, ref_cmp, write_ref, writes_between}
+use Rattle.rel_base.specs.declared.access.Write.{Write}
+use Rattle.rel_base.specs.declared.schema.TableDef.{TableDef}
+use Rattle.std.specs.List.{list_any, position_from}
+use Rattle.std.specs.Option.{option_map}
+use Rattle.std.specs.Ordering.{eq_by_cmp}
+use Rattle.std.specs.Prelude.{Bool, List, None, Option, Some, [], cond, map, nat_le, slice_get, ◌-◌, ℕ, ◌∷◌, ◌++◌}
+use Rattle.std.specs.Str.{bytes_eq}
+
+-- the first of two that is there
+abbrev pub or_else : {X : Type 0} → Option X → Option X → Option X
+or_else None second = second
+or_else (Some first) second = Some first
+
+-- ---- before its run
+
+-- the id stands earlier in the chain
+abbrev pub duplicate : List (List ℕ) → Tx → Option Outcome
+duplicate ids tx = cond (list_any (bytes_eq tx.id) ids) (Some outcome.DuplicateId) None
+
+-- the height is not below the number of the block
+abbrev pub future : ℕ → Tx → Option Outcome
+future number tx = cond (nat_le number tx.height) (Some outcome.FutureHeight) None
+
+-- the call names no procedure, or its arguments differ from the parameters
+abbrev pub bad_call : Option CallFault → Option Outcome
+bad_call None = None
+bad_call (Some UnknownProcedure) = Some outcome.UnknownProcedure
+bad_call (Some BadArguments) = Some outcome.BadArguments
+
+-- the causes that are known without a run, where some ids stand earlier in the chain
+abbrev pub early : App → List (List ℕ) → ℕ → Tx → Option Outcome
+early app ids number tx = or_else (duplicate ids tx) (or_else (future number tx) (bad_call (call_fault app tx)))
+
+-- ---- by its run
+
+-- the first late read, with the least write that hits it, which is a write of the read's table
+abbrev pub late_outcome : List TableDef → Option LateRead → Option Outcome
+late_outcome tables None = None
+late_outcome tables (Some found) = Some (outcome.Late (record {
+  stale = is_stale tables found.read found.write.1.write;
+  read = found.number;
+  place = record { block = found.write.0; pos = found.write.1.pos };
+  table = read_table found.read;
+  key = found.write.1.write.key;
+}))
+
+-- the fault in which the run ended
+abbrev pub fault_outcome : Ending → Option Outcome
+fault_outcome Good = None
+fault_outcome (Faulted fault) = Some (outcome.Fault fault)
+fault_outcome IllTyped = None
+
+-- whether a write is of the same table and key as one of some writes
+abbrev pub is_shared : List Write → Write → Bool
+is_shared others write = list_any (λ other. eq_by_cmp ref_cmp (write_ref write) (write_ref other)) others
+
+-- the place, from 0, of the first of some writes that is of a table and key of others
+abbrev pub first_shared : List Write → List Write → Option ℕ
+first_shared others writes = position_from (is_shared others) 0 writes
+
+abbrev pub clash_at : Committed → Option ℕ → Option (ℕ × ℕ) → Option (ℕ × ℕ)
+clash_at done None later = later
+clash_at done (Some index) later = Some (done.pos, index)
+
+-- the position of the first of the block's committed transactions that wrote a table and key of the writes, and the place of
+-- the first such write: the least position, and the least table and key, since both lists stand in that order
+abbrev pub clash : List Committed → List Write → Option (ℕ × ℕ)
+clash [] writes = None
+clash (done ∷ rest) writes = clash_at done (first_shared done.writes writes) (clash rest writes)
+
+abbrev pub conflict_outcome : List Write → Option (ℕ × ℕ) → Option Outcome
+conflict_outcome writes None = None
+conflict_outcome writes (Some found) =
+    option_map (λ write. outcome.WriteConflict (record { with = found.0; table = write.table; key = write.key })) (slice_get writes found.1)
+
+-- the run of a transaction: on the tables of its height, at the time of that height's block
+abbrev pub run_at : App → List Sealed → Tx → Ran
+run_at app chain tx = run app tx (time_at tx.height chain) (snapshot tx.height chain)
+
+-- the writes that were committed after a transaction's height, before the block of a number
+abbrev pub writes_since : List Sealed → ℕ → Tx → List Stamped
+writes_since chain number tx = writes_between tx.height (number - 1) (history_of chain)
+
+-- the causes that its run shows
+abbrev pub by_run : List TableDef → List Stamped → List Committed → Ran → Option Outcome
+by_run tables since committed ran =
+    or_else (late_outcome tables (late tables (map (λ made. made.read) ran.reads) since)) (or_else (fault_outcome ran.ending) (conflict_outcome ran.writes (clash committed ran.writes)))
+
+abbrev pub or_committed : Option Outcome → Outcome
+or_committed None = outcome.Committed
+or_committed (Some cause) = cause
+
+-- the outcome of a transaction of the block of a number, on the results of the blocks before, and on the outcomes and
+-- the committed transactions of its block so far
+abbrev pub decide : App → List Sealed → ℕ → List Told → List Committed → Tx → Outcome
+decide app chain number outcomes committed tx = or_committed (or_else (early app (ids_of chain ++ ids_told outcomes) number tx)
+    (by_run (tables_of app) (writes_since chain number tx) committed (run_at app chain tx)))

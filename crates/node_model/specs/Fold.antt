@@ -1,0 +1,82 @@
+-- The fold of a chain of blocks: each transaction is decided on what the ones before it made.
+use Rattle.node_model.specs.Decide.{decide, run_at}
+use Rattle.node_model.specs.History.{Sealed, snapshot}
+use Rattle.node_model.specs.declared.outcome.Outcome.{Outcome}
+use Rattle.node_model.specs.declared.outcome.Outcome.TheVariants as outcome
+use Rattle.node_model.specs.declared.result.BlockResult.{BlockResult}
+use Rattle.node_model.specs.declared.result.Committed.{Committed}
+use Rattle.node_model.specs.declared.result.NodeResult.{NodeResult}
+use Rattle.node_model.specs.declared.result.TableRows.{TableRows}
+use Rattle.node_model.specs.declared.result.Told.{Told}
+use Rattle.proc_syntax.specs.declared.run.Ran.{Ran}
+use Rattle.proc_syntax.specs.declared.call.Block.{Block}
+use Rattle.proc_syntax.specs.declared.call.Tx.{Tx}
+use Rattle.proc_syntax.specs.declared.tree.App.{App}
+use Rattle.proc_syntax.specs.Declaring.{tables_of}
+use Rattle.rel_base.specs.Tables.{Tables}
+use Rattle.rel_base.specs.declared.schema.TableDef.{TableDef}
+use Rattle.std.specs.FinMap as finite
+use Rattle.std.specs.List.{filter}
+use Rattle.std.specs.Prelude.{List, [], length, map, ℕ, ◌+◌, ◌++◌, ◌==◌, ◌∷◌}
+
+-- a block in work: its outcomes so far, and its committed transactions
+pub record Work : Type 0 where
+  pub outcomes : List Told
+  pub committed : List Committed
+
+abbrev pub no_work : Work
+no_work = record { outcomes = []; committed = [] }
+
+-- a transaction joins the committed ones of its block exactly where it commits
+abbrev pub join_committed : List Committed → ℕ → Ran → Outcome → List Committed
+join_committed committed pos ran outcome.Committed = committed ++ record { pos = pos; reads = ran.reads; writes = ran.writes } ∷ []
+join_committed committed pos ran _ = committed
+
+-- the next transaction of the block of a number is decided
+abbrev pub work_on : App → List Sealed → ℕ → Work → Tx → Work
+work_on app chain number work tx = let found : Outcome = decide app chain number work.outcomes work.committed tx in record {
+  outcomes = work.outcomes ++ record { id = tx.id; outcome = found } ∷ [];
+  committed = join_committed work.committed (length work.outcomes + 1) (run_at app chain tx) found;
+}
+
+-- the transactions of a block are decided in order
+abbrev pub work_through : App → List Sealed → ℕ → Work → List Tx → Work
+work_through app chain number work [] = work
+work_through app chain number work (tx ∷ rest) = work_through app chain number (work_on app chain number work tx) rest
+
+abbrev pub sealed_as : Block → Work → Sealed
+sealed_as block work = record { number = block.number; time = block.time; outcomes = work.outcomes; committed = work.committed }
+
+-- a block on the results of the blocks before
+abbrev pub seal : App → List Sealed → Block → Sealed
+seal app chain block = sealed_as block (work_through app chain block.number no_work block.txs)
+
+-- blocks in order, on the results of those before
+abbrev pub fold_from : App → List Sealed → List Block → List Sealed
+fold_from app chain [] = chain
+fold_from app chain (block ∷ rest) = fold_from app (chain ++ seal app chain block ∷ []) rest
+
+-- the results of a chain of blocks
+abbrev pub fold : App → List Block → List Sealed
+fold app blocks = fold_from app [] blocks
+
+-- ---- what a node reports
+
+abbrev pub block_result : Sealed → BlockResult
+block_result block = record { number = block.number; time = block.time; outcomes = block.outcomes }
+
+-- the rows of a table in key order
+abbrev pub table_rows : Tables → ℕ → TableRows
+table_rows tables number = record { table = number; rows = map (λ entry. entry.1.row) (filter (λ entry. number == entry.0.0) (finite.entries tables)) }
+
+-- the rows of some declared tables, of which the first has a number
+abbrev pub all_rows : Tables → ℕ → List TableDef → List TableRows
+all_rows tables number [] = []
+all_rows tables number (declared ∷ rest) = table_rows tables number ∷ all_rows tables (number + 1) rest
+
+-- the report of a node on a chain of blocks: the result of each, and the tables after the last
+abbrev pub node_result : App → List Block → NodeResult
+node_result app blocks = record {
+  blocks = map block_result (fold app blocks);
+  tables = all_rows (snapshot (length (fold app blocks)) (fold app blocks)) 0 (tables_of app);
+}

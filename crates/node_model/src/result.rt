@@ -1,0 +1,53 @@
+//! Results of blocks, and of a node.
+
+use crate::outcome::Outcome;
+use rel_base::{Id, List, Made, NoMemory, Row, Twin, Write};
+use std::alloc::Global;
+
+/// A transaction's id and what became of it.
+#[derive(Drop)]
+pub struct Told {
+    pub id: Id,
+    pub outcome: Outcome,
+}
+
+/// A committed transaction: its position in the block, from 1, its reads in program order and its net writes in
+/// (table, key) order.
+#[derive(Drop)]
+pub struct Committed {
+    pub pos: u32,
+    pub reads: List<Made>,
+    pub writes: List<Write>,
+}
+
+/// The result of a block: an outcome for each transaction in order.
+#[derive(Drop)]
+pub struct BlockResult {
+    pub number: u64,
+    /// In whole seconds, as the block says.
+    pub time: i64,
+    pub outcomes: List<Told>,
+}
+
+/// The rows of a table in key order.
+#[derive(Drop)]
+pub struct TableRows {
+    pub table: u32,
+    pub rows: List<Row>,
+}
+
+/// What a node reports: the results of its blocks, and its tables after the last block, in declaration order.
+#[derive(Drop)]
+pub struct NodeResult {
+    pub blocks: List<BlockResult>,
+    pub tables: List<TableRows>,
+}
+
+impl Twin for Told {
+    fn copy(&self, alloc: Global) -> Result<Self, NoMemory> {
+        Ok(Told {
+            id: self.id.copy(alloc)?,
+            outcome: self.outcome.copy(alloc)?,
+        })
+    }
+}
