@@ -1,0 +1,61 @@
+-- The lines of a report, and the report of nodes.
+use Rattle.std.specs.Prelude.{ℕ, ◌+◌, List, [], ◌∷◌, ◌++◌, flat_map, length, codes, decimal}
+use Rattle.node_model.specs.declared.result.BlockResult.{BlockResult}
+use Rattle.node_model.specs.declared.result.NodeResult.{NodeResult}
+use Rattle.node_model.specs.declared.result.TableRows.{TableRows}
+use Rattle.node_model.specs.declared.result.Told.{Told}
+use Rattle.rel_base.specs.declared.schema.TableDef.{TableDef}
+use Rattle.rel_base.specs.declared.value.Value.{Value}
+use Rattle.report_text.specs.Outcome.{outcome_text, values_text, table_name}
+
+-- a line: its text and a newline
+abbrev pub line : List ℕ → List ℕ
+line text = text ++ codes "\n"
+
+-- the texts of items that are numbered one after another, the first by the number that is given
+abbrev pub numbered : {Item : Type 0} → (ℕ → Item → List ℕ) → ℕ → List Item → List ℕ
+numbered text number [] = []
+numbered text number (item ∷ items) = text number item ++ numbered text (number + 1) items
+
+-- a transaction: its position, its id and its outcome
+abbrev pub tx_line : List TableDef → ℕ → Told → List ℕ
+tx_line tables pos told =
+    line (codes "tx " ++ decimal pos ++ codes " " ++ told.id ++ codes " " ++ outcome_text tables told.outcome)
+
+-- the line that begins a block
+abbrev pub block_line : BlockResult → List ℕ
+block_line block = line (codes "block " ++ decimal block.number)
+
+-- a block: its number, and its transactions at the positions from 1
+abbrev pub block_lines : List TableDef → BlockResult → List ℕ
+block_lines tables block = block_line block ++ numbered (tx_line tables) 1 block.outcomes
+
+-- a row: its values in the order of the columns
+abbrev pub row_line : List Value → List ℕ
+row_line row = line (codes "row" ++ values_text row)
+
+-- the line that begins a table
+abbrev pub table_line : List TableDef → ℕ → List ℕ
+table_line tables table = line (codes "table " ++ table_name tables table)
+
+-- a table: its name, and its rows
+abbrev pub table_lines : List TableDef → TableRows → List ℕ
+table_lines tables table = table_line tables table.table ++ flat_map row_line table.rows
+
+-- the height of a node, which is the number of its blocks
+abbrev pub height_line : List BlockResult → List ℕ
+height_line blocks = line (codes "height " ++ decimal (length blocks))
+
+-- the line that begins a node
+abbrev pub node_line : ℕ → List ℕ
+node_line number = line (codes "node " ++ decimal number)
+
+-- a node: its blocks, then its tables after the last of them, then its height
+abbrev pub node_lines : List TableDef → ℕ → NodeResult → List ℕ
+node_lines tables number node =
+    node_line number ++ flat_map (block_lines tables) node.blocks ++ flat_map (table_lines tables) node.tables
+    ++ height_line node.blocks
+
+-- a report: the nodes numbered from 1, and the line that ends it
+abbrev pub report_text : List TableDef → List NodeResult → List ℕ
+report_text tables nodes = numbered (node_lines tables) 1 nodes ++ line (codes "done")

@@ -1,0 +1,13 @@
+//! Reports: what the nodes committed and what their tables hold, as lines of text.
+#![tactic(auto)]
+
+mod block;
+mod buffer;
+mod node;
+mod outcome;
+mod table;
+#[cfg(test)]
+mod tests;
+mod value;
+
+pub use node::report;

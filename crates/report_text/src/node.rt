@@ -1,0 +1,73 @@
+//! Reports of nodes.
+
+ghost use Rattle.std.specs.Prelude.{◌≡◌, ◌++◌, ◌+◌, OnOk, IfOk};
+ghost use Rattle.report_text.specs.Report.{numbered, height_line, node_line, node_lines, report_text};
+
+use crate::block::push_blocks;
+use crate::buffer::push;
+use crate::table::push_tables;
+use literals::push_number;
+use node_model::{BlockResult, NodeResult};
+use rel_base::{List, NoMemory, TableDef};
+use std::alloc::Global;
+
+/// The line that begins a node.
+fn push_node_line(out: &mut Vec<u8>, number: usize) -> Result<(), NoMemory>
+    ensures { OnOk result (out.new.items ≡ out.old.items ++ node_line number) }
+{
+    push(out, b"node ")?;
+    push_number(out, number as u64)?;
+    push(out, b"\n")
+}
+
+/// The height of a node, which is the number of its blocks.
+fn push_height_line(out: &mut Vec<u8>, blocks: &[BlockResult]) -> Result<(), NoMemory>
+    ensures { OnOk result (out.new.items ≡ out.old.items ++ height_line blocks.now) }
+{
+    push(out, b"height ")?;
+    push_number(out, blocks.len() as u64)?;
+    push(out, b"\n")
+}
+
+/// A node: its blocks, its tables after the last of them, and its height.
+fn push_node(
+    out: &mut Vec<u8>,
+    tables: &[TableDef],
+    number: usize,
+    node: &NodeResult,
+) -> Result<(), NoMemory>
+    ensures { OnOk result (out.new.items ≡ out.old.items ++ node_lines tables.now number node.now) }
+{
+    push_node_line(out, number)?;
+    push_blocks(out, tables, node.blocks.as_slice())?;
+    push_tables(out, tables, node.tables.as_slice())?;
+    push_height_line(out, node.blocks.as_slice())
+}
+
+/// Nodes, numbered from 1.
+fn push_nodes(out: &mut Vec<u8>, tables: &[TableDef], nodes: &[NodeResult]) -> Result<(), NoMemory>
+    ensures { OnOk result (out.new.items ≡ out.old.items ++ numbered (node_lines tables.now) 1 nodes.now) }
+{
+    for (before, node) in nodes.iter().enumerate() {
+        push_node(out, tables, before + 1, node)?;
+    }
+    Ok(())
+}
+
+/// The report of the nodes: for each in turn its blocks with the outcome of every transaction, its tables with their
+/// rows, and its height; after the last node the line `done`. Every line ends with a newline.
+///
+/// A table is shown by its name in the declarations; a number that none of them has is shown as an empty name. The only
+/// error is want of memory.
+pub fn report(
+    alloc: Global,
+    tables: &List<TableDef>,
+    nodes: &List<NodeResult>,
+) -> Result<List<u8>, NoMemory>
+    ensures { IfOk result (λ bytes. bytes ≡ report_text tables.now nodes.now) }
+{
+    let mut out = Vec::new(alloc);
+    push_nodes(&mut out, tables.as_slice(), nodes.as_slice())?;
+    push(&mut out, b"done\n")?;
+    Ok(List::from_vec(out))
+}

@@ -1,0 +1,235 @@
+use crate::report;
+use node_model::{BlockResult, Clash, Late, NodeResult, Outcome, TableRows, Told};
+use proc_syntax::Fault;
+use rel_base::{Blob, Id, Key, List, Name, Place, Row, Str, TableDef, Value};
+use std::alloc::Global;
+use std::test::Fail;
+
+// Of a declaration a report shows the name alone.
+fn table(alloc: Global, name: &str) -> Result<TableDef, Fail> {
+    Ok(TableDef {
+        name: Name::new(alloc, name)?,
+        columns: List::new(alloc),
+        key: List::new(alloc),
+        index: List::new(alloc),
+    })
+}
+
+fn tables(alloc: Global) -> Result<List<TableDef>, Fail> {
+    Ok(List::from_vec(vec![in alloc; table(alloc, "acct")?, table(alloc, "lot")?]?))
+}
+
+fn text(alloc: Global, text: &str) -> Result<Value, Fail> {
+    Ok(Value::Text(Str::new(alloc, text)?))
+}
+
+fn account(alloc: Global, id: i64, owner: &str, balance: i64) -> Result<Row, Fail> {
+    Ok(List::from_vec(vec![in alloc; Value::Int(id), text(alloc, owner)?, Value::Int(balance)]?))
+}
+
+fn account_key(alloc: Global, id: i64) -> Result<Key, Fail> {
+    Ok(List::from_vec(vec![in alloc; Value::Int(id)]?))
+}
+
+fn told(alloc: Global, id: &str, outcome: Outcome) -> Result<Told, Fail> {
+    Ok(Told {
+        id: Id::new(alloc, id)?,
+        outcome,
+    })
+}
+
+fn block(alloc: Global, number: u64, outcomes: Vec<Told>) -> BlockResult {
+    BlockResult {
+        number,
+        time: 0,
+        outcomes: List::from_vec(outcomes),
+        writes: List::new(alloc),
+    }
+}
+
+fn accounts(alloc: Global, rows: Vec<Row>) -> Result<List<TableRows>, Fail> {
+    let rows = List::from_vec(rows);
+    Ok(List::from_vec(vec![in alloc; TableRows { table: 0, rows }]?))
+}
+
+fn node(alloc: Global, blocks: Vec<BlockResult>, rows: Vec<Row>) -> Result<NodeResult, Fail> {
+    Ok(NodeResult {
+        blocks: List::from_vec(blocks),
+        tables: accounts(alloc, rows)?,
+    })
+}
+
+fn shows(alloc: Global, node: NodeResult, want: &str) -> Result<bool, Fail> {
+    let nodes = List::from_vec(vec![in alloc; node]?);
+    let bytes = report(alloc, &tables(alloc)?, &nodes)?;
+    Ok(bytes.as_slice() == want.as_bytes())
+}
+
+fn committed(alloc: Global, number: u64, id: &str) -> Result<BlockResult, Fail> {
+    let outcomes = vec![in alloc; told(alloc, id, Outcome::Committed)?]?;
+    Ok(block(alloc, number, outcomes))
+}
+
+// The report after an insert that committed in block 1, and a transaction alone in block 2.
+fn after_insert(alloc: Global, outcome: Outcome) -> Result<NodeResult, Fail> {
+    let second = vec![in alloc; told(alloc, "b1", outcome)?]?;
+    let blocks = vec![in alloc; committed(alloc, 1, "a1")?, block(alloc, 2, second)]?;
+    node(
+        alloc,
+        blocks,
+        vec![in alloc; account(alloc, 1, "ann", 50)?]?,
+    )
+}
+
+#[test]
+fn no_blocks(rt: HostRuntime) -> Result<(), Fail> {
+    let alloc = rt.alloc();
+    let empty = node(alloc, Vec::new(alloc), Vec::new(alloc))?;
+    assert!(rt; shows(alloc, empty, "node 1\ntable acct\nheight 0\ndone\n")?);
+    Ok(())
+}
+
+#[test]
+fn one_insert(rt: HostRuntime) -> Result<(), Fail> {
+    let alloc = rt.alloc();
+    let blocks = vec![in alloc; committed(alloc, 1, "a1")?]?;
+    let rows = vec![in alloc; account(alloc, 1, "ann", 50)?]?;
+    let want = "node 1\nblock 1\ntx 1 a1 committed\ntable acct\nrow 1 \"ann\" 50\nheight 1\ndone\n";
+    assert!(rt; shows(alloc, node(alloc, blocks, rows)?, want)?);
+    Ok(())
+}
+
+#[test]
+fn early_outcomes(rt: HostRuntime) -> Result<(), Fail> {
+    let alloc = rt.alloc();
+    let first = vec![in alloc;
+        told(alloc, "a1", Outcome::Committed)?,
+        told(alloc, "a1", Outcome::DuplicateId)?,
+        told(alloc, "n1", Outcome::UnknownProcedure)?,
+        told(alloc, "b1", Outcome::BadArguments)?,
+    ]?;
+    let second = vec![in alloc; told(alloc, "n1", Outcome::DuplicateId)?]?;
+    let blocks = vec![in alloc; block(alloc, 1, first), block(alloc, 2, second)]?;
+    let rows = vec![in alloc; account(alloc, 1, "ann", 50)?]?;
+    let want = "node 1\nblock 1\ntx 1 a1 committed\ntx 2 a1 aborted duplicate-id\n\
+        tx 3 n1 aborted unknown-procedure\ntx 4 b1 aborted bad-arguments\n\
+        block 2\ntx 1 n1 aborted duplicate-id\ntable acct\nrow 1 \"ann\" 50\nheight 2\ndone\n";
+    assert!(rt; shows(alloc, node(alloc, blocks, rows)?, want)?);
+    Ok(())
+}
+
+#[test]
+fn late_insert_and_duplicate_key(rt: HostRuntime) -> Result<(), Fail> {
+    let alloc = rt.alloc();
+    let late = Outcome::Late(Late {
+        stale: false,
+        read: 1,
+        place: Place { block: 1, pos: 1 },
+        table: 0,
+        key: account_key(alloc, 1)?,
+    });
+    let want =
+        "node 1\nblock 1\ntx 1 a1 committed\nblock 2\ntx 1 b1 aborted phantom 1 by 1 1 acct 1\n\
+        table acct\nrow 1 \"ann\" 50\nheight 2\ndone\n";
+    assert!(rt; shows(alloc, after_insert(alloc, late)?, want)?);
+
+    let want = "node 1\nblock 1\ntx 1 a1 committed\nblock 2\ntx 1 b1 aborted fault duplicate-key\n\
+        table acct\nrow 1 \"ann\" 50\nheight 2\ndone\n";
+    assert!(rt;
+        shows(
+            alloc,
+            after_insert(alloc, Outcome::Fault(Fault::DuplicateKey))?,
+            want
+        )?
+    );
+    Ok(())
+}
+
+#[test]
+fn same_key_in_block(rt: HostRuntime) -> Result<(), Fail> {
+    let alloc = rt.alloc();
+    let clash = Outcome::WriteConflict(Clash {
+        with: 1,
+        table: 0,
+        key: account_key(alloc, 1)?,
+    });
+    let outcomes = vec![in alloc;
+        told(alloc, "a1", Outcome::Committed)?,
+        told(alloc, "a2", clash)?,
+    ]?;
+    let blocks = vec![in alloc; block(alloc, 1, outcomes)]?;
+    let rows = vec![in alloc; account(alloc, 1, "ann", 50)?]?;
+    let want = "node 1\nblock 1\ntx 1 a1 committed\ntx 2 a2 aborted write-conflict with 1 acct 1\n\
+        table acct\nrow 1 \"ann\" 50\nheight 1\ndone\n";
+    assert!(rt; shows(alloc, node(alloc, blocks, rows)?, want)?);
+    Ok(())
+}
+
+// The causes that the rows above do not show, the first with a key of two columns.
+fn other_causes(alloc: Global) -> Result<Vec<Told>, Fail> {
+    let key = List::from_vec(vec![in alloc; text(alloc, "oslo")?, Value::Int(2)]?);
+    let stale = Late {
+        stale: true,
+        read: 3,
+        place: Place {
+            block: 18446744073709551615,
+            pos: 1024,
+        },
+        table: 1,
+        key,
+    };
+    let failed = Fault::Failed(Str::new(alloc, "no \"funds\" in C:\\bank")?);
+    Ok(vec![in alloc;
+        told(alloc, "t-1", Outcome::FutureHeight)?,
+        told(alloc, "t-2", Outcome::Late(stale))?,
+        told(alloc, "t-3", Outcome::Fault(Fault::Overflow))?,
+        told(alloc, "t-4", Outcome::Fault(Fault::ZeroDivide))?,
+        told(alloc, "t-5", Outcome::Fault(Fault::NoRow))?,
+        told(alloc, "t-6", Outcome::Fault(Fault::TextTooLong))?,
+        told(alloc, "t-7", Outcome::Fault(Fault::Steps))?,
+        told(alloc, "t-8", Outcome::Fault(failed))?,
+    ]?)
+}
+
+#[test]
+fn every_cause(rt: HostRuntime) -> Result<(), Fail> {
+    let alloc = rt.alloc();
+    let blocks = vec![in alloc; block(alloc, 7, other_causes(alloc)?)]?;
+    let want = "node 1\nblock 7\ntx 1 t-1 aborted future-height\n\
+        tx 2 t-2 aborted stale 3 by 18446744073709551615 1024 lot \"oslo\" 2\ntx 3 t-3 aborted fault overflow\n\
+        tx 4 t-4 aborted fault zero-divide\ntx 5 t-5 aborted fault no-row\ntx 6 t-6 aborted fault text-too-long\n\
+        tx 7 t-7 aborted fault steps\ntx 8 t-8 aborted fault failed \"no \\\"funds\\\" in C:\\\\bank\"\n\
+        table acct\nheight 1\ndone\n";
+    assert!(rt; shows(alloc, node(alloc, blocks, Vec::new(alloc))?, want)?);
+    Ok(())
+}
+
+fn lot(alloc: Global, site: &str, number: i64, tag: &[u8], held: bool) -> Result<Row, Fail> {
+    let tag = Value::Bytes(Blob::new(alloc, tag)?);
+    Ok(List::from_vec(vec![in alloc;
+        text(alloc, site)?,
+        Value::Int(number),
+        tag,
+        Value::Bool(held),
+    ]?))
+}
+
+#[test]
+fn two_nodes_and_values_of_each_kind(rt: HostRuntime) -> Result<(), Fail> {
+    let alloc = rt.alloc();
+    let rows = List::from_vec(vec![in alloc;
+        lot(alloc, "\"o\\slo\" \u{e9}", i64::MIN, b"", true)?,
+        lot(alloc, "", i64::MAX, b"\x00\x0a\xff", false)?,
+    ]?);
+    let second = NodeResult {
+        blocks: List::new(alloc),
+        tables: List::from_vec(vec![in alloc; TableRows { table: 1, rows }]?),
+    };
+    let first = node(alloc, Vec::new(alloc), Vec::new(alloc))?;
+    let nodes = List::from_vec(vec![in alloc; first, second]?);
+    let want = "node 1\ntable acct\nheight 0\nnode 2\ntable lot\n\
+        row \"\\\"o\\\\slo\\\" \u{e9}\" -9223372036854775808 x\"\" true\n\
+        row \"\" 9223372036854775807 x\"000aff\" false\nheight 0\ndone\n";
+    assert!(rt; report(alloc, &tables(alloc)?, &nodes)?.as_slice() == want.as_bytes());
+    Ok(())
+}
