@@ -1,0 +1,10 @@
+pub mod Inserted
+pub mod Told
+pub mod Aborts
+pub mod Grown
+pub mod Deciding
+pub mod Going
+pub mod Applied
+pub mod Started
+pub mod WholeRows
+pub mod Fitting

@@ -1,0 +1,4 @@
+pub mod Ids
+pub mod Causes
+pub mod Working
+pub mod Following
