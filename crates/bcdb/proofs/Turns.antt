@@ -1,0 +1,54 @@
+-- The block file has its turn where the bytes that were read are an application.
+use Rattle.std.proofs.Common.{Bool, IfOk, IfSome, List, None, Option, Some, ap, arith, cond, false, inl, inr, length, refl, subst, sym, true, ◌<◌, ◌∙◌, ◌≡◌, ◌⊎◌, ℕ}
+use Rattle.std.specs.Prelude.{Err, IsSome, Ok, Result, codes, nat_le}
+use Rattle.bcdb.specs.Accepted.{application, typed}
+use Rattle.bcdb.specs.Answer.{over_app, read_refused, says}
+use Rattle.bcdb.specs.Reply.{Means}
+use Rattle.bcdb.specs.declared.decide.Reply.{Reply}
+use Rattle.bcdb.specs.declared.status.Status.TheVariants.{AppRefused}
+use Rattle.edge_traits.specs.Shelf.{Files}
+use Rattle.proc_parse.specs.Grammar.{app_of}
+use Rattle.proc_syntax.specs.declared.tree.App.{App}
+
+pub accepted : (told : Option Files) (name bytes : List ℕ) (app : App) → IfSome told (λ files. bytes ≡ files name) → application bytes ≡ Some app
+    → IfSome told (λ files. IsSome (application (files name)))
+accepted None name bytes app same is = tt
+accepted (Some files) name bytes app same is = subst (λ found. IsSome found) (sym (ap application (sym same) ∙ is)) refl
+
+refused : (b : Bool) (found : Option App) → b ≡ false → cond b found None ≡ None
+refused true found is = absurd (not_both is)
+  where
+    not_both : true ≡ false → ⊥
+    not_both is = cc
+refused false found is = refl
+
+not_short : (most count : ℕ) → most < count → nat_le count most ≡ false
+not_short most count lt = grind (arith, lt)
+
+-- a text above the limit is no application
+pub too_long : (told : Option Files) (name : List ℕ) → IfSome told (λ files. 1048576 < length (files name)) → IfSome told (λ files. application (files name) ≡ None)
+too_long None name long = tt
+too_long (Some files) name long = refused (nat_le (length (files name)) 1048576) (typed (app_of (files name))) (not_short 1048576 (length (files name)) long)
+
+-- what holds of what a call gives
+pub if_ok_then : {T E : Type 0} (answer : Result T E) (Before After : T → Type 0) → IfOk answer Before → ((value : T) → Before value → After value) → IfOk answer After
+if_ok_then (Ok value) Before After holds follows = follows value holds
+if_ok_then (Err fault) Before After holds follows = tt
+
+-- the reply over an accepted application is the reply over its bytes
+pub accepted_told : (told : Option Files) (app_name name bytes : List ℕ) (app : App) (Rose : Type 0) (reply : Reply) → IfSome told (λ files. bytes ≡ files app_name) → application bytes ≡ Some app
+    → IfSome told (λ files. Means (over_app (Some app) (files name)) reply ⊎ (Means read_refused reply × Rose))
+    → IfSome told (λ files. Means (over_app (application (files app_name)) (files name)) reply ⊎ (Means read_refused reply × IsSome (application (files app_name)) × Rose))
+accepted_told None app_name name bytes app Rose reply same is means = tt
+accepted_told (Some files) app_name name bytes app Rose reply same is (inl means) =
+    inl (subst (λ found. Means (over_app found (files name)) reply) (sym (ap application (sym same) ∙ is)) means)
+accepted_told (Some files) app_name name bytes app Rose reply same is (inr failed) =
+    inr (failed.0, subst (λ found. IsSome found) (sym (ap application (sym same) ∙ is)) refl, failed.1)
+
+-- and so is the refusal of bytes that are none
+pub refused_told : (told : Option Files) (app_name name bytes : List ℕ) (Rose : Type 0) (reply : Reply) → IfSome told (λ files. bytes ≡ files app_name) → application bytes ≡ None
+    → Means (says AppRefused (codes "refused application\n")) reply
+    → IfSome told (λ files. Means (over_app (application (files app_name)) (files name)) reply ⊎ (Means read_refused reply × IsSome (application (files app_name)) × Rose))
+refused_told None app_name name bytes Rose reply same is means = tt
+refused_told (Some files) app_name name bytes Rose reply same is means =
+    inl (subst (λ found. Means (over_app found (files name)) reply) (sym (ap application (sym same) ∙ is)) means)

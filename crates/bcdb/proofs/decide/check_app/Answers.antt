@@ -1,0 +1,13 @@
+use Rattle.std.proofs.Common.{rules}
+use Rattle.bcdb.proofs.Turns.{accepted_told, if_ok_then, refused_told}
+use Rattle.bcdb.proofs.decide.check_app.Goals as goal
+
+pub returns-in-Ok-clause-told : goal.returns-in-Ok-clause-told
+returns-in-Ok-clause-told g c =
+    if_ok_then c.read_blocks.result _ _ c.read_blocks.ensures.told (λ reply told.
+    accepted_told (g.S.Shelf.told c.args.shelf.now) c.args.app_name.now c.args.name.now c.args.app.now c.in-Ok.checked.app _ reply c.requires.bytes c.in-Ok.ensures.ok told)
+
+pub returns-in-Err-Refused-clause-told : goal.returns-in-Err-Refused-clause-told
+returns-in-Err-Refused-clause-told g c =
+    if_ok_then c.plain.result _ _ c.plain.ensures (λ reply means.
+    refused_told (g.S.Shelf.told c.args.shelf.now) c.args.app_name.now c.args.name.now c.args.app.now _ reply c.requires.bytes (search rules) means)

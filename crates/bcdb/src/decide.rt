@@ -1,0 +1,121 @@
+//! What is meant to be answered, from the shelf alone.
+ghost use Rattle.std.specs.Prelude.{◌≡◌, ◌⊎◌, List, ℕ, IfOk, IfSome, IsSome, Some, None, codes, true, Option};
+ghost use Rattle.bcdb.specs.Accepted.{application};
+ghost use Rattle.bcdb.specs.Answer.{Answer, answer, over_app, over_settings, read_refused, says};
+ghost use Rattle.bcdb.specs.Causes.{AllowsNamed, RoseAtNamed, RoseInTurn};
+ghost use Rattle.bcdb.specs.Reply.{Means, is_of_files, is_reply};
+ghost use Rattle.cli_words.specs.Language.{settings_of, texts};
+ghost use Rattle.cli_words.specs.declared.settings.Settings.TheVariants.{Run};
+ghost use Rattle.edge_traits.specs.Causes.{NoneFell, Rose};
+
+use crate::files::{AppFault, LONGEST_APPLICATION, read_application};
+use crate::run::answer_blocks;
+use crate::status::Status;
+use cli_words::{Settings, WordsFault, read_words};
+use edge_traits::{FetchFault, Shelf, read_whole};
+use proc_check::Checked;
+use rel_base::{List, NoMemory};
+use std::alloc::Global;
+
+/// A status, and what is to be written.
+#[derive(Drop)]
+pub struct Reply {
+    pub status: Status,
+    pub bytes: List<u8>,
+}
+
+/// The reply of one line.
+pub fn plain(alloc: Global, status: Status, text: &[u8]) -> Result<Reply, NoMemory>
+    ensures { IfOk result (λ reply. Means (says status text.now) reply) }
+{
+    let bytes = List::from_vec(text.to_vec(alloc)?);
+    Ok(Reply { status, bytes })
+}
+
+// The greatest number of bytes that are asked of a block file; memory holds fewer.
+const MOST_BYTES: u64 = u64::MAX - 1;
+
+// The reply over an accepted application, once the blocks are read.
+fn read_blocks<S: Shelf>(
+    alloc: Global,
+    shelf: &mut S,
+    app: Checked,
+    name: &str,
+) -> Result<Reply, NoMemory>
+    requires allowed { S.may_read shelf.old name.now }
+    ensures later { NoneFell (S.faults shelf.old) (S.faults shelf.new) }
+    ensures told { IfOk result (λ reply. IfSome (S.told shelf.old) (λ files. Means (over_app (Some app.app) (files name.now)) reply
+        ⊎ (Means read_refused reply × Rose (S.faults shelf.old name.now) (S.faults shelf.new name.now)))) }
+    ensures read { IfOk result (λ reply. reply.status ≡ Status.ReadFault → Rose (S.faults shelf.old name.now) (S.faults shelf.new name.now)) }
+    ensures kind { IfOk result (λ reply. is_of_files reply.status ≡ true) }
+{
+    match read_whole(alloc, shelf, name, MOST_BYTES) {
+        Ok(blocks) => answer_blocks(alloc, app, blocks.as_slice()),
+        Err(FetchFault::Failed) => plain(alloc, Status::ReadFault, b"refused read\n"),
+        Err(FetchFault::TooLong) => Err(NoMemory),
+        Err(FetchFault::NoMemory) => Err(NoMemory),
+    }
+}
+
+// The reply over the bytes of an application, and then the block file.
+#[tactic(auto, using(crate::proofs::Turns::accepted))]
+fn check_app<S: Shelf>(
+    alloc: Global,
+    shelf: &mut S,
+    app_name: &str,
+    app: &[u8],
+    name: &str,
+) -> Result<Reply, NoMemory>
+    requires bytes { IfSome (S.told shelf.old) (λ files. app.now ≡ files app_name.now) }
+    requires allowed { IfSome (S.told shelf.old) (λ files. IsSome (application (files app_name.now))) → S.may_read shelf.old name.now }
+    ensures later { NoneFell (S.faults shelf.old) (S.faults shelf.new) }
+    ensures told { IfOk result (λ reply. IfSome (S.told shelf.old) (λ files. Means (over_app (application (files app_name.now)) (files name.now)) reply
+        ⊎ (Means read_refused reply × IsSome (application (files app_name.now)) × Rose (S.faults shelf.old name.now) (S.faults shelf.new name.now)))) }
+    ensures read { IfOk result (λ reply. reply.status ≡ Status.ReadFault → Rose (S.faults shelf.old name.now) (S.faults shelf.new name.now)) }
+    ensures kind { IfOk result (λ reply. is_of_files reply.status ≡ true) }
+{
+    match read_application(alloc, app) {
+        Ok(checked) => read_blocks(alloc, shelf, checked, name),
+        Err(AppFault::Refused) => plain(alloc, Status::AppRefused, b"refused application\n"),
+        Err(AppFault::NoMemory) => Err(NoMemory),
+    }
+}
+
+// The reply over two names.
+#[tactic(auto, using(crate::proofs::Turns::too_long))]
+fn read_app<S: Shelf>(
+    alloc: Global,
+    shelf: &mut S,
+    app_name: &str,
+    name: &str,
+) -> Result<Reply, NoMemory>
+    requires allowed { AllowsNamed (Some (Run app_name.now name.now)) (S.told shelf.old) (S.may_read shelf.old) }
+    ensures told { IfOk result (λ reply. IfSome (S.told shelf.old) (λ files. Means (over_app (application (files app_name.now)) (files name.now)) reply
+        ⊎ (Means read_refused reply × RoseInTurn (Some (Run app_name.now name.now)) files (S.faults shelf.old) (S.faults shelf.new)))) }
+    ensures read { IfOk result (λ reply. reply.status ≡ Status.ReadFault → RoseAtNamed (Some (Run app_name.now name.now)) (S.faults shelf.old) (S.faults shelf.new)) }
+    ensures kind { IfOk result (λ reply. is_of_files reply.status ≡ true) }
+{
+    match read_whole(alloc, shelf, app_name, LONGEST_APPLICATION) {
+        Ok(app) => check_app(alloc, shelf, app_name, app.as_slice(), name),
+        Err(FetchFault::TooLong) => plain(alloc, Status::AppRefused, b"refused application\n"),
+        Err(FetchFault::Failed) => plain(alloc, Status::ReadFault, b"refused read\n"),
+        Err(FetchFault::NoMemory) => Err(NoMemory),
+    }
+}
+
+/// What is meant to be answered to these words over this shelf.
+pub fn decide<S: Shelf>(alloc: Global, words: &[&str], shelf: &mut S) -> Result<Reply, NoMemory>
+    requires allowed { AllowsNamed (settings_of (texts words.now)) (S.told shelf.old) (S.may_read shelf.old) }
+    ensures told { IfOk result (λ reply. IfSome (S.told shelf.old) (λ files. Means (answer (texts words.now) files) reply
+        ⊎ (Means read_refused reply × RoseInTurn (settings_of (texts words.now)) files (S.faults shelf.old) (S.faults shelf.new)))) }
+    ensures read { IfOk result (λ reply. reply.status ≡ Status.ReadFault → RoseAtNamed (settings_of (texts words.now)) (S.faults shelf.old) (S.faults shelf.new)) }
+    ensures usage { IfOk result (λ reply. reply.status ≡ Status.Usage → settings_of (texts words.now) ≡ None) }
+    ensures refuses { IfOk result (λ reply. settings_of (texts words.now) ≡ None → Means (says Status.Usage (codes "refused usage\n")) reply) }
+    ensures kind { IfOk result (λ reply. is_reply reply.status ≡ true) }
+{
+    match read_words(alloc, words) {
+        Ok(Settings::Run { app, blocks }) => read_app(alloc, shelf, app.as_str(), blocks.as_str()),
+        Err(WordsFault::Usage) => plain(alloc, Status::Usage, b"refused usage\n"),
+        Err(WordsFault::NoMemory) => Err(NoMemory),
+    }
+}
