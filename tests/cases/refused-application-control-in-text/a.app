@@ -1,0 +1,2 @@
+table acct (name text) key (name);
+proc p() { insert acct ("a	b"); }

@@ -1,0 +1,1 @@
+table from (id int) key (id);

@@ -1,0 +1,1 @@
+table acct (id int) key (nr);

@@ -1,0 +1,2 @@
+table acct (id int) key (id);
+proc p(t text) { insert acct (t); }

@@ -1,0 +1,120 @@
+"""Cases at each limit of the formats, and one above it.
+
+cases() yields (name, files, status, test of the output). The limits stand in docs/FORMATS.md.
+"""
+
+APP = b"""table acct (id int, owner text, bal int) key (id) index (owner);
+proc add(i int, o text, b int) { insert acct (i, o, b); }
+"""
+NO_BLOCKS = b"draft 1\n"
+USAGE = b"refused usage\n"
+BAD_APP = b"refused application\n"
+BAD_BLOCKS = b"refused blocks\n"
+
+
+def is_done(out):
+    return out.endswith(b"\ndone\n")
+
+
+def equals(wanted):
+    return lambda out: out == wanted
+
+
+def app_case(name, app, accepted):
+    return name, {"a.app": app, "b.draft": NO_BLOCKS}, 0 if accepted else 4, is_done if accepted else equals(BAD_APP)
+
+
+def draft_case(name, draft, accepted):
+    return name, {"a.app": APP, "b.draft": draft}, 0 if accepted else 5, is_done if accepted else equals(BAD_BLOCKS)
+
+
+def table(name, columns, keys=1, indexes=0):
+    listed = b", ".join(b"c%d int" % n for n in range(columns))
+    key = b", ".join(b"c%d" % n for n in range(keys))
+    index = b" index (%s)" % b", ".join(b"c%d" % n for n in range(indexes)) if indexes else b""
+    return b"table %s (%s) key (%s)%s;\n" % (name, listed, key, index)
+
+
+def tables(count):
+    return b"".join(table(b"t%d" % n, 1) for n in range(count))
+
+
+def procedures(count):
+    return b"".join(b"proc p%d() { }\n" % n for n in range(count))
+
+
+def procedure(params):
+    return b"proc p(%s) { }\n" % b", ".join(b"a%d int" % n for n in range(params))
+
+
+def inserted_text(length):
+    return b'table t (x1 text) key (x1);\nproc p() { insert t ("%s"); }\n' % (b"a" * length)
+
+
+def inserted_bytes(length):
+    return b'table t (x1 bytes) key (x1);\nproc p() { insert t (x"%s"); }\n' % (b"0f" * length)
+
+
+def padded(length):
+    return APP + b" " * (length - len(APP))
+
+
+def block(number, lines):
+    return b"block %d\n" % number + b"".join(lines) + b"end\n"
+
+
+def transactions(count):
+    return NO_BLOCKS + block(1, [b'tx a%d 0 add %d "ann" 50\n' % (n, n) for n in range(1, count + 1)])
+
+
+def empty_blocks(count):
+    return NO_BLOCKS + b"".join(b"block %d\nend\n" % n for n in range(1, count + 1))
+
+
+def line_of(length):
+    """A transaction line of a length, without its newline, with texts of at most 255 bytes as arguments."""
+    line = b"tx a1 0 add"
+    while length - len(line) > 3:
+        room = min(255, length - len(line) - 3)
+        if 0 < length - len(line) - 3 - room < 3:
+            room -= 3
+        line += b' "%s"' % (b"a" * room)
+    assert len(line) == length, len(line)
+    return NO_BLOCKS + block(1, [line + b"\n"])
+
+
+def argument(text):
+    return NO_BLOCKS + block(1, [b"tx a1 0 add 1 " + text + b" 50\n"])
+
+
+def cases():
+    yield app_case("64 tables", tables(64), True)
+    yield app_case("65 tables", tables(65), False)
+    yield app_case("32 columns", table(b"t", 32), True)
+    yield app_case("33 columns", table(b"t", 33), False)
+    yield app_case("8 key columns", table(b"t", 9, keys=8), True)
+    yield app_case("9 key columns", table(b"t", 9, keys=9), False)
+    yield app_case("8 indexed columns", table(b"t", 9, indexes=8), True)
+    yield app_case("9 indexed columns", table(b"t", 9, indexes=9), False)
+    yield app_case("256 procedures", procedures(256), True)
+    yield app_case("257 procedures", procedures(257), False)
+    yield app_case("16 parameters", procedure(16), True)
+    yield app_case("17 parameters", procedure(17), False)
+    yield app_case("a name of 32 bytes", table(b"t" * 32, 1), True)
+    yield app_case("a name of 33 bytes", table(b"t" * 33, 1), False)
+    yield app_case("a text of 255 bytes", inserted_text(255), True)
+    yield app_case("a text of 256 bytes", inserted_text(256), False)
+    yield app_case("bytes of 255 pairs", inserted_bytes(255), True)
+    yield app_case("bytes of 256 pairs", inserted_bytes(256), False)
+    yield app_case("an application of 1,048,576 bytes", padded(1048576), True)
+    yield app_case("an application of 1,048,577 bytes", padded(1048577), False)
+    yield draft_case("1,024 transactions", transactions(1024), True)
+    yield draft_case("1,025 transactions", transactions(1025), False)
+    yield draft_case("a line of 4,096 bytes", line_of(4096), True)
+    yield draft_case("a line of 4,097 bytes", line_of(4097), False)
+    yield draft_case("an argument of 255 bytes", argument(b'"%s"' % (b"a" * 255)), True)
+    yield draft_case("an argument of 256 bytes", argument(b'"%s"' % (b"a" * 256)), False)
+    yield draft_case("an id of 32 bytes", NO_BLOCKS + block(1, [b"tx %s 0 nope\n" % (b"a" * 32)]), True)
+    yield draft_case("an id of 33 bytes", NO_BLOCKS + block(1, [b"tx %s 0 nope\n" % (b"a" * 33)]), False)
+    yield draft_case("1,000,000 blocks", empty_blocks(1000000), True)
+    yield draft_case("1,000,001 blocks", empty_blocks(1000001), False)

@@ -1,0 +1,92 @@
+#!/usr/bin/env python3
+"""Runs the built program on the cases of tests/cases and compares every byte.
+
+A case is a folder: `words` (one word a line), the files that the words name, `stdout` (the bytes wanted) and `status`.
+The folder `prefixes-of-a-draft` has one draft, of which each prefix is a case of its own: a prefix that ends with the
+first line or with an `end` line is a whole draft, and every other one is refused. Cases at the limits are made by
+tests/limits.py, since their files are large and regular. Usage: run_cases.py PROGRAM
+"""
+import os
+import shutil
+import subprocess
+import sys
+import tempfile
+
+import limits
+
+HERE = os.path.dirname(os.path.abspath(__file__))
+CASES = os.path.join(HERE, "cases")
+
+
+def run(program, folder, words):
+    done = subprocess.run([program, *words], cwd=folder, stdin=subprocess.DEVNULL, capture_output=True, timeout=300)
+    return done.returncode, done.stdout
+
+
+def read(path):
+    with open(path, "rb") as file:
+        return file.read()
+
+
+class Tally:
+    def __init__(self):
+        self.passed = 0
+        self.failed = 0
+
+    def note(self, name, wanted, found):
+        if wanted == found:
+            self.passed += 1
+            return
+        self.failed += 1
+        print(f"case {name}: wanted status {wanted[0]}, found {found[0]}")
+        if wanted[1] != found[1]:
+            print(f"  wanted {wanted[1][:400]!r}\n  found  {found[1][:400]!r}")
+
+
+def run_folder(program, name, tally):
+    folder = os.path.join(CASES, name)
+    words = read(os.path.join(folder, "words")).decode().split("\n")[:-1]
+    wanted = int(read(os.path.join(folder, "status"))), read(os.path.join(folder, "stdout"))
+    tally.note(name, wanted, run(program, folder, words))
+
+
+def run_prefixes(program, name, tally):
+    folder = os.path.join(CASES, name)
+    whole = read(os.path.join(folder, "b.draft"))
+    with tempfile.TemporaryDirectory() as scratch:
+        shutil.copy(os.path.join(folder, "a.app"), scratch)
+        for length in range(len(whole) + 1):
+            prefix = whole[:length]
+            with open(os.path.join(scratch, "b.draft"), "wb") as file:
+                file.write(prefix)
+            status, out = run(program, scratch, ["run", "--app", "a.app", "--blocks", "b.draft"])
+            if prefix == b"draft 1\n" or prefix.endswith(b"\nend\n"):
+                tally.note(f"{name} at {length}", (0, True), (status, out.endswith(b"done\n")))
+            else:
+                tally.note(f"{name} at {length}", (5, b"refused blocks\n"), (status, out))
+
+
+def run_limits(program, tally):
+    for name, files, wanted_status, is_wanted in limits.cases():
+        with tempfile.TemporaryDirectory() as scratch:
+            for file_name, content in files.items():
+                with open(os.path.join(scratch, file_name), "wb") as file:
+                    file.write(content)
+            status, out = run(program, scratch, ["run", "--app", "a.app", "--blocks", "b.draft"])
+            tally.note(name, (wanted_status, True), (status, is_wanted(out)))
+
+
+def main():
+    program = os.path.abspath(sys.argv[1])
+    tally = Tally()
+    for name in sorted(os.listdir(CASES)):
+        if name == "prefixes-of-a-draft":
+            run_prefixes(program, name, tally)
+        else:
+            run_folder(program, name, tally)
+    run_limits(program, tally)
+    print(f"{tally.passed} passed, {tally.failed} failed")
+    sys.exit(1 if tally.failed or not tally.passed else 0)
+
+
+main()
