@@ -38,12 +38,11 @@ fn told(alloc: Global, id: &str, outcome: Outcome) -> Result<Told, Fail> {
     })
 }
 
-fn block(alloc: Global, number: u64, outcomes: Vec<Told>) -> BlockResult {
+fn block(number: u64, outcomes: Vec<Told>) -> BlockResult {
     BlockResult {
         number,
         time: 0,
         outcomes: List::from_vec(outcomes),
-        writes: List::new(alloc),
     }
 }
 
@@ -67,13 +66,13 @@ fn shows(alloc: Global, node: NodeResult, want: &str) -> Result<bool, Fail> {
 
 fn committed(alloc: Global, number: u64, id: &str) -> Result<BlockResult, Fail> {
     let outcomes = vec![in alloc; told(alloc, id, Outcome::Committed)?]?;
-    Ok(block(alloc, number, outcomes))
+    Ok(block(number, outcomes))
 }
 
 // The report after an insert that committed in block 1, and a transaction alone in block 2.
 fn after_insert(alloc: Global, outcome: Outcome) -> Result<NodeResult, Fail> {
     let second = vec![in alloc; told(alloc, "b1", outcome)?]?;
-    let blocks = vec![in alloc; committed(alloc, 1, "a1")?, block(alloc, 2, second)]?;
+    let blocks = vec![in alloc; committed(alloc, 1, "a1")?, block(2, second)]?;
     node(
         alloc,
         blocks,
@@ -109,7 +108,7 @@ fn early_outcomes(rt: HostRuntime) -> Result<(), Fail> {
         told(alloc, "b1", Outcome::BadArguments)?,
     ]?;
     let second = vec![in alloc; told(alloc, "n1", Outcome::DuplicateId)?]?;
-    let blocks = vec![in alloc; block(alloc, 1, first), block(alloc, 2, second)]?;
+    let blocks = vec![in alloc; block(1, first), block(2, second)]?;
     let rows = vec![in alloc; account(alloc, 1, "ann", 50)?]?;
     let want = "node 1\nblock 1\ntx 1 a1 committed\ntx 2 a1 aborted duplicate-id\n\
         tx 3 n1 aborted unknown-procedure\ntx 4 b1 aborted bad-arguments\n\
@@ -157,7 +156,7 @@ fn same_key_in_block(rt: HostRuntime) -> Result<(), Fail> {
         told(alloc, "a1", Outcome::Committed)?,
         told(alloc, "a2", clash)?,
     ]?;
-    let blocks = vec![in alloc; block(alloc, 1, outcomes)]?;
+    let blocks = vec![in alloc; block(1, outcomes)]?;
     let rows = vec![in alloc; account(alloc, 1, "ann", 50)?]?;
     let want = "node 1\nblock 1\ntx 1 a1 committed\ntx 2 a2 aborted write-conflict with 1 acct 1\n\
         table acct\nrow 1 \"ann\" 50\nheight 1\ndone\n";
@@ -194,7 +193,7 @@ fn other_causes(alloc: Global) -> Result<Vec<Told>, Fail> {
 #[test]
 fn every_cause(rt: HostRuntime) -> Result<(), Fail> {
     let alloc = rt.alloc();
-    let blocks = vec![in alloc; block(alloc, 7, other_causes(alloc)?)]?;
+    let blocks = vec![in alloc; block(7, other_causes(alloc)?)]?;
     let want = "node 1\nblock 7\ntx 1 t-1 aborted future-height\n\
         tx 2 t-2 aborted stale 3 by 18446744073709551615 1024 lot \"oslo\" 2\ntx 3 t-3 aborted fault overflow\n\
         tx 4 t-4 aborted fault zero-divide\ntx 5 t-5 aborted fault no-row\ntx 6 t-6 aborted fault text-too-long\n\
