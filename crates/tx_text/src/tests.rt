@@ -1,5 +1,5 @@
 use super::{LineFault, read_tx, read_value, write_tx, write_value};
-use rel_base::Value;
+use rel_base::{Blob, Str, Value};
 use std::alloc::Global;
 use std::test::Fail;
 
@@ -28,29 +28,25 @@ fn long_line(alloc: Global, count: usize) -> Result<Vec<u8>, Fail> {
     Ok(line)
 }
 
+/// Whether the bytes are a value.
+fn is_read(alloc: Global, text: &[u8], wanted: &Value) -> bool {
+    match read_value(alloc, text) {
+        Ok(value) => value == *wanted,
+        Err(_) => false,
+    }
+}
+
 #[test]
 fn values(rt: HostRuntime) -> Result<(), Fail> {
     let alloc = rt.alloc();
-    assert!(rt;
-        matches!(
-            read_value(alloc, b"9223372036854775807")?,
-            Value::Int(i64::MAX)
-        )
-    );
-    assert!(rt;
-        matches!(
-            read_value(alloc, b"-9223372036854775808")?,
-            Value::Int(i64::MIN)
-        )
-    );
-    assert!(rt; matches!(read_value(alloc, b"true")?, Value::Bool(true)));
-    assert!(rt; matches!(read_value(alloc, b"false")?, Value::Bool(false)));
-    assert!(rt;
-        matches!(read_value(alloc, b"\"a b\"")?, Value::Text(text) if text.as_str() == "a b")
-    );
-    assert!(rt;
-        matches!(read_value(alloc, b"x\"00\"")?, Value::Bytes(blob) if blob.as_slice().len() == 1)
-    );
+    assert!(rt; is_read(alloc, b"9223372036854775807", &Value::Int(i64::MAX)));
+    assert!(rt; is_read(alloc, b"-9223372036854775808", &Value::Int(i64::MIN)));
+    assert!(rt; is_read(alloc, b"true", &Value::Bool(true)));
+    assert!(rt; is_read(alloc, b"false", &Value::Bool(false)));
+    let text = Value::Text(Str::new(alloc, "a b")?);
+    assert!(rt; is_read(alloc, b"\"a b\"", &text));
+    let bytes = Value::Bytes(Blob::new(alloc, b"\0")?);
+    assert!(rt; is_read(alloc, b"x\"00\"", &bytes));
     Ok(())
 }
 
