@@ -6,7 +6,7 @@ use Rattle.rel_base.specs.Schema.{key_of_row}
 use Rattle.rel_base.specs.Value.{key_cmp}
 use Rattle.rel_base.specs.declared.access.Seen.{Seen}
 use Rattle.rel_base.specs.declared.schema.TableDef.{TableDef}
-use Rattle.proc_syntax.specs.OwnWrites.{keyed}
+use Rattle.rel_base.specs.OwnWrites.{keyed}
 use Rattle.proc_syntax.proofs.Merging.{put_front}
 
 first : (a b : Bool) → T (a && b) → T a

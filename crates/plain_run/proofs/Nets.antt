@@ -2,7 +2,7 @@
 use Rattle.std.proofs.Common.{◌≡◌, ℕ, List, [], ◌∷◌, ◌++◌, Option, Some, None, refl, ap, sym, ◌∙◌, append_assoc}
 use Rattle.rel_base.specs.declared.access.Write.{Write}
 use Rattle.rel_base.specs.declared.value.Value.{Value}
-use Rattle.proc_syntax.specs.Run.{write_before}
+use Rattle.rel_base.specs.NetWrites.{write_before}
 
 -- a write that is put before others stands before them
 pub write_apart : (ref : ℕ × List Value) (before after : Option (List Value)) (rest : List Write) → write_before ref before after rest ≡ write_before ref before after [] ++ rest

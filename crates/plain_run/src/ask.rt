@@ -4,7 +4,7 @@ ghost use Rattle.std.specs.Prelude.{◌≡◌, IfOk, OnOk, Some, slice_get};
 ghost use Rattle.rel_base.specs.Access.{read_table, ReadFits};
 ghost use Rattle.rel_base.specs.Tables.{rows};
 ghost use Rattle.proc_syntax.specs.Meaning.{asked};
-ghost use Rattle.proc_syntax.specs.OwnWrites.{merged};
+ghost use Rattle.rel_base.specs.OwnWrites.{merged};
 ghost use Rattle.plain_run.specs.State.{state, IsReady};
 
 use crate::merge::merge;

@@ -9,7 +9,7 @@ ghost use Rattle.std.specs.Option.{option_copied, option_to_list};
 ghost use Rattle.rel_base.specs.Schema.{key_of_row};
 ghost use Rattle.rel_base.specs.Tables.{ref_cmp};
 ghost use Rattle.rel_base.specs.Value.{key_cmp};
-ghost use Rattle.proc_syntax.specs.OwnWrites.{first_row, own_or, keyed, set_row, covered, lay, lay_all, merged};
+ghost use Rattle.rel_base.specs.OwnWrites.{first_row, own_or, keyed, set_row, covered, lay, lay_all, merged};
 
 use crate::cover::{is_covered, key_by};
 use crate::own::OwnRows;

@@ -4,8 +4,8 @@ ghost use Rattle.std.specs.Prelude.{◌≡◌, [], ◌++◌, IfOk, OnOk, Some, s
 ghost use Rattle.std.specs.Option.{option_copied};
 ghost use Rattle.rel_base.specs.declared.access.Read.TheVariants.{Point};
 ghost use Rattle.rel_base.specs.Tables.{rows};
-ghost use Rattle.proc_syntax.specs.OwnWrites.{first_row};
-ghost use Rattle.proc_syntax.specs.Run.{row_in, write_before, net_from};
+ghost use Rattle.rel_base.specs.OwnWrites.{first_row};
+ghost use Rattle.rel_base.specs.NetWrites.{row_in, write_before, net_from};
 ghost use Rattle.plain_run.specs.State.{IsReady};
 
 use crate::ask::fetch;

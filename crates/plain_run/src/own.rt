@@ -24,7 +24,7 @@ impl Model for OwnRows {
     ghost use Rattle.std.specs.Coded.{coded×, coded_ℕ, coded_list, coded_option};
     ghost use Rattle.rel_base.specs.contracts.value.Value as value;
     ghost use Rattle.rel_base.specs.Tables.{ref_cmp};
-    ghost use Rattle.proc_syntax.specs.OwnWrites.{Own};
+    ghost use Rattle.rel_base.specs.OwnWrites.{Own};
 
     ghost Value = { Own };
 
@@ -61,7 +61,7 @@ impl OwnRows {
         Ok(())
     }
 
-    ghost use Rattle.proc_syntax.specs.OwnWrites.{lay_all};
+    ghost use Rattle.rel_base.specs.OwnWrites.{lay_all};
 
     /// Lays the own writes over the rows of a read, by their keys.
     pub fn lay(
@@ -77,7 +77,7 @@ impl OwnRows {
     }
 
     ghost use Rattle.std.specs.Prelude.{IfOk};
-    ghost use Rattle.proc_syntax.specs.Run.{net};
+    ghost use Rattle.rel_base.specs.NetWrites.{net};
     ghost use Rattle.plain_run.specs.State.{IsReady};
 
     /// The net writes: for each key in order, its row in a snapshot and the row that was left there.

@@ -19,7 +19,7 @@ use Rattle.rel_base.specs.Schema.{RowFits, key_of_row}
 use Rattle.rel_base.specs.Tables.{Tables, rows, rows_among, is_read, ref_cmp, ref_cmp-total, ref_cmp-exact}
 use Rattle.rel_base.specs.Value.{key_cmp}
 use Rattle.rel_base.specs.Among.{StandsIn}
-use Rattle.proc_syntax.specs.OwnWrites.{Own, Keyed, keyed, set_row, covered, lay, lay_all, first_row, own_or, merged}
+use Rattle.rel_base.specs.OwnWrites.{Own, Keyed, keyed, set_row, covered, lay, lay_all, first_row, own_or, merged}
 use Rattle.proc_syntax.proofs.Fits.{first_true, second_true, keys_equal}
 use Rattle.proc_syntax.proofs.Sound.{all_put}
 

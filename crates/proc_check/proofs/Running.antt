@@ -32,7 +32,7 @@ use Rattle.proc_syntax.specs.declared.tree.Stmt.TheOpen as stmt
 use Rattle.proc_syntax.specs.declared.tree.TableText.{TableText}
 use Rattle.proc_syntax.specs.Declaring.{declare}
 use Rattle.proc_syntax.specs.Meaning.{State, Outcome, Going, Stopped, then_do, step_then, with_value, with_some, bound, wrote, asked, point_of, span_of, end_has, row_fits, key_for, row_under, set_columns, insert_at, update_at, delete_at, get_at, visit, in_turn, in_turn_if, with_rows, act_step, act}
-use Rattle.proc_syntax.specs.OwnWrites.{merged}
+use Rattle.rel_base.specs.OwnWrites.{merged}
 use Rattle.proc_syntax.specs.Scope.{table_named, column_in, value_of, values_of, end_of, changes_of}
 use Rattle.proc_syntax.specs.Values.{has_kind, have_kinds, flag_of}
 use Rattle.proc_syntax.proofs.Fits.{kinds_hold}

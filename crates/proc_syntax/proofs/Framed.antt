@@ -16,7 +16,7 @@ use Rattle.proc_syntax.specs.declared.tree.Stmt.{Stmt, Stmt-F, map-Stmt}
 use Rattle.proc_syntax.specs.declared.tree.Stmt.TheOpen as stmt
 use Rattle.rel_base.specs.Among.{rows_in, rows_by}
 use Rattle.proc_syntax.specs.Meaning.{State, Outcome, Going, Stopped, then_do, step_then, with_value, with_some, bound, asked, point_of, span_of, key_for, row_under, set_columns, insert_at, update_at, delete_at, get_at, visit, in_turn, with_rows, act_step, act, block}
-use Rattle.proc_syntax.specs.OwnWrites.{merged}
+use Rattle.rel_base.specs.OwnWrites.{merged}
 use Rattle.proc_syntax.specs.Scope.{table_named, column_in, value_of, values_of, end_of, changes_of}
 use Rattle.proc_syntax.specs.Values.{flag_of}
 use Rattle.proc_syntax.proofs.Trees.{Such, bare, stripped, every_two}

@@ -22,7 +22,7 @@ use Rattle.rel_base.specs.Value.{key_cmp}
 use Rattle.rel_base.proofs.Frames.{filter-put, filter-where_key, entries-remove}
 use Rattle.rel_base.specs.Among.{StandsIn, TablesFit}
 use Rattle.proc_syntax.specs.Laws.{laid}
-use Rattle.proc_syntax.specs.OwnWrites.{Own, Keyed, keyed, set_row, covered, lay, lay_all}
+use Rattle.rel_base.specs.OwnWrites.{Own, Keyed, keyed, set_row, covered, lay, lay_all}
 use Rattle.proc_syntax.proofs.Fits.{first_true}
 
 first : (a b : Bool) → T (a && b) → T a

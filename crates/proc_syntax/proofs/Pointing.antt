@@ -18,7 +18,7 @@ use Rattle.rel_base.specs.Tables.{Tables, rows, rows_among, is_read, ref_cmp, re
 use Rattle.rel_base.proofs.Commutes.{get-set_entry}
 use Rattle.rel_base.specs.Among.{StandsIn, TablesFit}
 use Rattle.proc_syntax.specs.Laws.{OwnFit, laid, SeesItsWrites}
-use Rattle.proc_syntax.specs.OwnWrites.{Own, first_row, own_or}
+use Rattle.rel_base.specs.OwnWrites.{Own, first_row, own_or}
 use Rattle.proc_syntax.proofs.Merging.{entries_set, sees_laid}
 use Rattle.proc_syntax.proofs.Runs.{covers_is, first_is}
 use Rattle.proc_syntax.proofs.Sound.{all_put}

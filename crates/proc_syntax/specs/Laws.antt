@@ -15,7 +15,7 @@ use Rattle.rel_base.specs.Tables.{Tables, rows, ref_cmp, Finds, write_ref, set_e
 use Rattle.proc_syntax.specs.declared.call.Tx.{Tx}
 use Rattle.proc_syntax.specs.declared.tree.App.{App}
 use Rattle.proc_syntax.specs.Declaring.{tables_of}
-use Rattle.proc_syntax.specs.OwnWrites.{Own, merged}
+use Rattle.rel_base.specs.OwnWrites.{Own, merged}
 use Rattle.proc_syntax.specs.Run.{run}
 
 -- each read of a run is listed with its rows in the tables

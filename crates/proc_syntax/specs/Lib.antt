@@ -1,7 +1,6 @@
 pub mod Declaring
 pub mod Values
 pub mod Scope
-pub mod OwnWrites
 pub mod Meaning
 pub mod Run
 pub mod Call

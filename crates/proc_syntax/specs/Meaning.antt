@@ -23,7 +23,7 @@ use Rattle.proc_syntax.specs.declared.tree.Change.{Change}
 use Rattle.proc_syntax.specs.declared.tree.Expr.{Expr}
 use Rattle.proc_syntax.specs.declared.tree.Stmt.{Stmt, Stmt-F, fold-Stmt}
 use Rattle.proc_syntax.specs.declared.tree.Stmt.TheOpen as stmt
-use Rattle.proc_syntax.specs.OwnWrites.{Own, merged}
+use Rattle.rel_base.specs.OwnWrites.{Own, merged}
 use Rattle.proc_syntax.specs.Scope.{bind, table_named, column_in, value_of, values_of, end_of, changes_of}
 use Rattle.proc_syntax.specs.Values.{has_kind, have_kinds, flag_of}
 

@@ -4,6 +4,8 @@ pub mod Row
 pub mod Schema
 pub mod Access
 pub mod Tables
+pub mod OwnWrites
+pub mod NetWrites
 pub mod Among
 pub mod Late
 pub mod Versions

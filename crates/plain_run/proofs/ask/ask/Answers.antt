@@ -1,7 +1,7 @@
 use Rattle.std.proofs.Common.{T, sym, subst}
 use Rattle.std.specs.FinMap.Entries.{is_sorted}
 use Rattle.rel_base.specs.Value.{key_cmp}
-use Rattle.proc_syntax.specs.OwnWrites.{keyed}
+use Rattle.rel_base.specs.OwnWrites.{keyed}
 use Rattle.proc_syntax.proofs.Merging.{keyed_sorted}
 use Rattle.plain_run.proofs.ask.ask.Goals as goal
 

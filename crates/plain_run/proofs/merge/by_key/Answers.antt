@@ -2,7 +2,7 @@ use Rattle.std.proofs.Common.{◌≡◌, ◌<◌, suc, ◌-◌, length, drop, ar
 use Rattle.std.specs.FinMap.Entries.{put}
 use Rattle.rel_base.specs.Schema.{key_of_row}
 use Rattle.rel_base.specs.Value.{key_cmp}
-use Rattle.proc_syntax.specs.OwnWrites.{keyed}
+use Rattle.rel_base.specs.OwnWrites.{keyed}
 use Rattle.plain_run.proofs.Filling.{put_before}
 use Rattle.plain_run.proofs.merge.by_key.Goals as goal
 

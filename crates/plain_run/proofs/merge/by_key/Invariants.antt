@@ -1,5 +1,5 @@
 use Rattle.std.proofs.Common.{◌≡◌, ◌≤◌, drop, length}
-use Rattle.proc_syntax.specs.OwnWrites.{keyed}
+use Rattle.rel_base.specs.OwnWrites.{keyed}
 use Rattle.plain_run.proofs.merge.by_key.Given as goal
 
 abbrev pub invariant-loop-i : goal.invariant-loop-i

@@ -1,5 +1,5 @@
 use Rattle.std.proofs.Common.{◌≡◌}
-use Rattle.proc_syntax.specs.OwnWrites.{lay_all}
+use Rattle.rel_base.specs.OwnWrites.{lay_all}
 use Rattle.plain_run.proofs.merge.lay_each.Given as goal
 
 -- laying those that are left gives what laying all gives

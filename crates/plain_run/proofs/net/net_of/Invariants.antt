@@ -1,5 +1,5 @@
 use Rattle.std.proofs.Common.{◌≡◌, ◌++◌}
-use Rattle.proc_syntax.specs.Run.{net_from}
+use Rattle.rel_base.specs.NetWrites.{net_from}
 use Rattle.plain_run.proofs.net.net_of.Given as goal
 
 -- the writes so far, and those of the keys that are left

@@ -1,6 +1,6 @@
 use Rattle.std.proofs.Common.{◌≡◌, ap, sym, subst, ◌∙◌, OnOk}
 use Rattle.std.specs.FinMap.{entries}
-use Rattle.proc_syntax.specs.OwnWrites.{lay_all}
+use Rattle.rel_base.specs.OwnWrites.{lay_all}
 use Rattle.plain_run.proofs.Entries.{entries-from_rising}
 use Rattle.plain_run.proofs.own.OwnRows.lay.Goals as goal
 

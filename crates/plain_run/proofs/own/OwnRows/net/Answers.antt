@@ -1,6 +1,6 @@
 use Rattle.std.proofs.Common.{◌≡◌, ap, sym, subst, ◌∙◌, IfOk}
 use Rattle.std.specs.FinMap.{entries}
-use Rattle.proc_syntax.specs.Run.{net_from}
+use Rattle.rel_base.specs.NetWrites.{net_from}
 use Rattle.plain_run.proofs.Entries.{entries-from_rising}
 use Rattle.plain_run.proofs.own.OwnRows.net.Goals as goal
 
