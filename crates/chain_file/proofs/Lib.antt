@@ -5,3 +5,4 @@ pub mod Numbered
 pub mod Spelled
 pub mod Plain
 pub mod Again
+pub mod Bounded

@@ -16,7 +16,7 @@ use Rattle.chain_file.specs.Numbered.{NumberedFrom}
 use Rattle.chain_file.specs.Draft.{block_if, block_of, within_block, between_blocks, is_block_line, end_block, add_tx, line_after, take_line, all_ended, last_part, read_parts, start, after_header, draft}
 
 -- what is found is so
-abbrev Holds : {A : Type 0} → (A → Type 0) → Option A → Type 0
+abbrev pub Holds : {A : Type 0} → (A → Type 0) → Option A → Type 0
 Holds P None = Unit {0}
 Holds P (Some x) = P x
 

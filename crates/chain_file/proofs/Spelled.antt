@@ -18,7 +18,7 @@ use Rattle.chain_file.specs.Lines.{parts_of}
 use Rattle.chain_file.specs.Text.{line_text, tx_line, begun_text, block_text, draft_text}
 use Rattle.chain_file.specs.Draft.{block_if, block_of, within_block, between_blocks, is_block_line, end_block, add_tx, line_after, take_line, all_ended, last_part, read_parts, start, after_header, draft}
 
-same_bytes : (xs ys : List ℕ) → bytes_eq xs ys ≡ true → xs ≡ ys
+pub same_bytes : (xs ys : List ℕ) → bytes_eq xs ys ≡ true → xs ≡ ys
 same_bytes [] [] e = refl
 same_bytes [] (y ∷ ys) e = absurd (false≢true e)
 same_bytes (x ∷ xs) [] e = absurd (false≢true e)

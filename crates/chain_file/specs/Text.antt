@@ -31,6 +31,14 @@ draft_text blocks = line_text (codes "draft 1") ++ flat_map block_text blocks
 abbrev pub DraftsHaveOneText : Type 0
 DraftsHaveOneText = (bytes : List ℕ) (blocks : List Block) → draft bytes ≡ Some blocks → bytes ≡ draft_text blocks
 
+-- 1,026,000,002 lines of at most 4,096 bytes and a newline: the header, 1,026 for each of 1,000,000 blocks, and one line more
+abbrev pub longest_draft : ℕ
+longest_draft = 4203522008194
+
+-- a file that is read has at most so many bytes
+abbrev pub DraftsAreBounded : Type 0
+DraftsAreBounded = (bytes : List ℕ) (blocks : List Block) → draft bytes ≡ Some blocks → length bytes ≤ longest_draft
+
 -- a transaction that has a line
 pub record HasLine (tx : Tx) : Type 0 where
   pub sound : IsTx tx

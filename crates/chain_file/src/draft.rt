@@ -19,6 +19,10 @@ use tx_text::{LineFault, read_tx};
 /// The number of blocks that a file may have.
 pub const MOST_BLOCKS: usize = 1_000_000;
 
+/// No draft has more bytes: the header, `MOST_BLOCKS` blocks of at most 1,026 lines, and one line more, each of at most 4,096
+/// bytes and its newline.
+pub const LONGEST_DRAFT: u64 = 4_203_522_008_194;
+
 /// A block that has begun: its number, and its transactions so far.
 #[derive(Drop)]
 pub struct Begun {

@@ -8,5 +8,5 @@ pub mod lines;
 #[cfg(test)]
 mod tests;
 
-pub use draft::read_draft;
+pub use draft::{LONGEST_DRAFT, read_draft};
 pub use fault::DraftFault;
