@@ -1,6 +1,6 @@
 //! The tables that an application declares.
 
-ghost use Rattle.std.specs.Prelude.{◌≡◌, ◌<◌, ◌^◌, true, IfOk, All, length, map};
+ghost use Rattle.std.specs.Prelude.{◌≡◌, ◌<◌, ◌^◌, ◌↔◌, true, IfOk, All, length, map};
 ghost use Rattle.std.specs.List.{position_from};
 ghost use Rattle.proc_syntax.specs.Declaring.{column_number, known_columns, column_of, declare, tables_of};
 
@@ -84,7 +84,7 @@ pub fn tables_of(alloc: Global, app: &App) -> Result<List<TableDef>, NoMemory>
 
 /// Whether each table has fewer than 2^32 columns, so that columns have numbers.
 pub fn has_few_columns(app: &App) -> bool
-    ensures { result ≡ true → All (λ table. length table.columns < 2 ^ 32) app.now.tables }
+    ensures { (result ≡ true) ↔ All (λ table. length table.columns < 2 ^ 32) app.now.tables }
 {
     for text in app.tables.as_slice() {
         if text.columns.len() >= 4_294_967_296 {
