@@ -1,12 +1,10 @@
 -- What holds of every run, of every application.
-use Rattle.std.specs.Prelude.{◌≡◌, ℕ, ℤ, ◌≤◌, List, [], ◌∷◌, length, map, Option, Some, None, All, Contains, MatchOption, IfSome, slice_get}
+use Rattle.std.specs.Prelude.{◌≡◌, ℕ, ℤ, ◌≤◌, List, [], ◌∷◌, length, map, Option, Some, All, Contains, IfSome, slice_get}
 use Rattle.std.specs.declared.cmp.Ordering.TheVariants.{Less}
 use Rattle.std.specs.FinMap as finite
 use Rattle.std.specs.List.{AllPairs}
 use Rattle.rel_base.specs.declared.access.Read.{Read}
 use Rattle.rel_base.specs.declared.access.Read.TheVariants.{Point}
-use Rattle.rel_base.specs.declared.access.Seen.{Seen}
-use Rattle.rel_base.specs.declared.access.Write.{Write}
 use Rattle.rel_base.specs.declared.schema.TableDef.{TableDef}
 use Rattle.rel_base.specs.declared.value.Value.{Value}
 use Rattle.rel_base.specs.Access.{read_table}
