@@ -1,5 +1,5 @@
 -- Lists of phrases, a phrase at a time.
-use Rattle.std.proofs.Common.{◌≡◌, ℕ, zero, suc, ◌<◌, ◌≤◌, List, [], ◌∷◌, ◌++◌, length, Bool, true, false, cond, Option, Some, None, Ok, Err, refl, sym, ap, ◌∙◌, arith}
+use Rattle.std.proofs.Common.{◌≡◌, ℕ, zero, suc, ◌<◌, ◌≤◌, List, [], ◌∷◌, ◌++◌, length, Bool, true, false, cond, Option, Some, None, Ok, Err, refl, sym, ap, subst, ◌∙◌, arith}
 use Rattle.proc_parse.specs.declared.token.Token.{Token}
 use Rattle.proc_parse.specs.declared.token.Lexeme.{Lexeme}
 use Rattle.proc_parse.specs.declared.token.Sign.TheVariants as sign
@@ -28,7 +28,7 @@ read_same ts (Ok x) f g h same = same x.0 x.1 h
 read_same ts (Err rest) f g h same = refl
 
 -- as many steps as tokens are enough
-list_enough : {A : Type 0} → (item : Reader A) → Shortens item → (n m : ℕ) (items : List A) (ts : List Token) → length ts ≤ n → length ts ≤ m
+pub list_enough : {A : Type 0} → (item : Reader A) → Shortens item → (n m : ℕ) (items : List A) (ts : List Token) → length ts ≤ n → length ts ≤ m
     → list_from item n items ts ≡ list_from item m items ts
 list_enough item short zero zero items ts h k = refl
 list_enough item short zero (suc m) items ts h k = sym (none_of ts (item ts) _ (short.shorter ts) h)
@@ -76,7 +76,7 @@ none_before : {A : Type 0} → (test : Lexeme → Bool) (ts : List Token) (go st
 none_before test [] go stay e = refl
 none_before test (t ∷ ts) go stay e = absurd (omega (arith, e))
 
-many_enough : {A : Type 0} → (test : Lexeme → Bool) (item : Reader A) → Shortens item → (n m : ℕ) (items : List A) (ts : List Token) → length ts ≤ n → length ts ≤ m
+pub many_enough : {A : Type 0} → (test : Lexeme → Bool) (item : Reader A) → Shortens item → (n m : ℕ) (items : List A) (ts : List Token) → length ts ≤ n → length ts ≤ m
     → many_from test item n items ts ≡ many_from test item m items ts
 many_enough test item short zero zero items ts h k = refl
 many_enough test item short zero (suc m) items ts h k = sym (none_before test ts (on_read (item ts) (λ x. many_from test item m (items ++ x ∷ []))) (Ok (items, ts)) h)
@@ -119,3 +119,7 @@ pub many_last : {A : Type 0} → (test : Lexeme → Bool) (item : Reader A) → 
 many_last {A = A} test item short items ts b =
     many_step test item short items ts
     ∙ ap (λ b. cond b (on_read (item ts) (many_more test item items)) (Ok (items, ts))) b
+
+-- what is read takes a token
+pub ok_shorter : {A : Type 0} → (item : Reader A) → Shortens item → (ts after : List Token) (x : A) → item ts ≡ Ok (x, after) → length after < length ts
+ok_shorter {A = A} item short ts after x e = subst (λ (r : Read A). IsShorter ts r) e (short.shorter ts)

@@ -2,5 +2,10 @@ pub mod Words
 pub mod Tokens
 pub mod Reading
 pub mod Lists
+pub mod Phrases
+pub mod Expressions
+pub mod Found
+pub mod Statements
 pub mod Grammar
 pub mod Shorter
+pub mod Faults

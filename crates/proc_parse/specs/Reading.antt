@@ -57,6 +57,10 @@ begins test (t ∷ ts) = test t.lexeme
 abbrev pub before : {A : Type 0} → (Lexeme → Bool) → Reader A → Reader A → Reader A
 before test go stay ts = cond (begins test ts) (go ts) (stay ts)
 
+-- one of several, by what the first token is
+abbrev pub by_first : {A H : Type 0} → (List Token → H) → (H → Reader A) → Reader A
+by_first head go ts = go (head ts) ts
+
 -- a token that passes the test
 abbrev pub expect : (Lexeme → Bool) → Reader (Unit {0})
 expect test = behind test (done tt) refuse

@@ -7,10 +7,19 @@ use Rattle.proc_parse.specs.declared.token.Word.{Word}
 use Rattle.proc_parse.specs.declared.token.Sign.{Sign}
 use Rattle.proc_parse.specs.declared.token.Sign.TheVariants as sign
 use Rattle.proc_parse.specs.Words.{is_word, is_sign}
-use Rattle.proc_parse.specs.Reading.{Read, Reader, on_read, ◌>>=◌, ◌>>◌, done, refuse, past, if_past, begins, behind, before, expect, one, if_found, IsShorter, Shortens}
+use Rattle.proc_parse.specs.Reading.{Read, Reader, on_read, ◌>>=◌, ◌>>◌, done, refuse, past, if_past, begins, behind, before, by_first, expect, one, if_found, IsShorter, Shortens}
 use Rattle.proc_parse.specs.Lists.{list_from, list_of, many_from, many_of}
 use Rattle.proc_parse.specs.declared.token.Word.TheVariants as word
-use Rattle.proc_parse.specs.Grammar.{the_word, the_sign, in_parens, named, kind_rule, column, columns, names, table, expression, expressions, statement, block, parameters, procedure}
+use Rattle.proc_syntax.specs.declared.tree.Op.{Op}
+use Rattle.proc_syntax.specs.declared.tree.Expr.{Expr}
+use Rattle.proc_syntax.specs.declared.tree.Expr.TheVariants as expr
+use Rattle.proc_syntax.specs.declared.tree.Stmt.{Stmt}
+use Rattle.proc_parse.specs.declared.statements.Head.{Head}
+use Rattle.proc_parse.specs.declared.statements.Head.TheVariants as head
+use Rattle.proc_parse.specs.Phrases.{the_word, the_sign, in_parens, named, kind_rule, column, columns, names}
+use Rattle.proc_parse.specs.Expressions.{op_before, if_op, op_at, with_op, chain_from, chain_of, comparison_op, or_op, and_op, sum_op, term_op, literal, is_name, name_or_field, line_at, Inner, inner, deeper, atom_of, unary_of, term_of, sum_of, comparison_of, negation_of, conjunction_of, expression_of, expression}
+use Rattle.proc_parse.specs.Statements.{keys, let_statement, assignment, some_block, if_statement, get_statement, span_end, for_statement, insert_statement, change, update_statement, delete_statement, fail_statement, text_rule, head_of, statement_by, statement_of, no_close, block_at, block}
+use Rattle.proc_parse.specs.Grammar.{table, parameters, procedure}
 
 abbrev pub IsWithin : {A : Type 0} → List Token → Read A → Type 0
 IsWithin ts (Ok x) = length x.1 ≤ length ts
@@ -83,6 +92,16 @@ shortens_behind test go stay kg ss = record { shorter = λ ts. shorter_past test
 pub keeps_before : {A : Type 0} → (test : Lexeme → Bool) (go stay : Reader A) → Keeps go → Keeps stay → Keeps (before test go stay)
 keeps_before test go stay kg ks = record { within = λ ts. within_before (begins test ts) ts (go ts) (stay ts) (kg.within ts) (ks.within ts) }
 
+shorter_before : {A : Type 0} → (b : Bool) (ts : List Token) (go stay : Read A) → IsShorter ts go → IsShorter ts stay → IsShorter ts (cond b go stay)
+shorter_before true ts go stay sg ss = sg
+shorter_before false ts go stay sg ss = ss
+
+pub shortens_before : {A : Type 0} → (test : Lexeme → Bool) (go stay : Reader A) → Shortens go → Shortens stay → Shortens (before test go stay)
+shortens_before test go stay sg ss = record { shorter = λ ts. shorter_before (begins test ts) ts (go ts) (stay ts) (sg.shorter ts) (ss.shorter ts) }
+
+pub shortens_first : {A H : Type 0} → (head : List Token → H) (go : H → Reader A) → ((h : H) → Shortens (go h)) → Shortens (by_first head go)
+shortens_first head go sg = record { shorter = λ ts. (sg (head ts)).shorter ts }
+
 pub shortens_expect : (test : Lexeme → Bool) → Shortens (expect test)
 shortens_expect test = shortens_behind test (done tt) refuse (keeps_done tt) (shortens_refuse (Unit {0}))
 
@@ -142,6 +161,142 @@ shortens_columns = shortens_parens (list_of column) (shortens_list column shorte
 pub shortens_names : Shortens names
 shortens_names = shortens_parens (list_of named) (shortens_list named shortens_named)
 
+-- ---- expressions
+
+within_op : {A : Type 0} → (ops : Lexeme → Option Op) (ts : List Token) (go : Op → Reader A) (stay : A) → ((o : Op) → Keeps (go o)) → IsWithin ts (if_op (op_at ops ts) go stay ts)
+within_op ops [] go stay kg = omega arith
+within_op {A = A} ops (t ∷ ts) go stay kg =
+    elim (ops t.lexeme) as (λ o. IsWithin (t ∷ ts) (if_op {A = A} (op_before o ts) go stay (t ∷ ts)))
+    [ None ↦ omega arith | Some o ↦ within_more ts (t ∷ ts) (go o ts) (omega arith) ((kg o).within ts) ]
+
+within_no_op : {A : Type 0} → (o : Option (Op × List Token)) (ts : List Token) (stay : A) → IsWithin ts (if_op {A = A} o (λ _ _. Err ts) stay ts)
+within_no_op None ts stay = omega arith
+within_no_op (Some found) ts stay = omega arith
+
+keeps_op : {A : Type 0} → (ops : Lexeme → Option Op) (go : Op → Reader A) (stay : A) → ((o : Op) → Keeps (go o)) → Keeps (with_op ops go stay)
+keeps_op ops go stay kg = record { within = λ ts. within_op ops ts go stay kg }
+
+keeps_chain : (ops : Lexeme → Option Op) (operand : Reader Expr) → Shortens operand → (more : ℕ) (left : Expr) → Keeps (chain_from ops operand more left)
+keeps_chain ops operand short zero left = record { within = λ ts. within_no_op (op_at ops ts) ts left }
+keeps_chain ops operand short (suc more) left =
+    keeps_op ops _ left (λ o. keeps_then operand _ (keeps_of operand short) (λ right. keeps_chain ops operand short more (expr.Two o left right)))
+
+pub shortens_chain : (ops : Lexeme → Option Op) (operand : Reader Expr) → Shortens operand → Shortens (chain_of ops operand)
+shortens_chain ops operand short = shortens_then operand _ short (λ left. keeps_chain ops operand short 32 left)
+
+pub record ShortInner (i : Inner) : Type 0 where
+  pub minus : Shortens i.minus
+  pub nots : Shortens i.nots
+  pub parens : Shortens i.parens
+
+shortens_field : Shortens name_or_field
+shortens_field = shortens_then named _ shortens_named
+    (λ name. keeps_behind (is_sign sign.Dot) _ _ (keeps_then named _ (keeps_of _ shortens_named) (λ column. keeps_done (expr.Field name column))) (keeps_done (expr.Var name)))
+
+shortens_atom : (i : Inner) → ShortInner i → Shortens (atom_of i)
+shortens_atom i s = shortens_before (is_sign sign.Open) i.parens _ s.parens (shortens_before is_name name_or_field literal shortens_field (shortens_one _))
+
+shortens_unary : (i : Inner) → ShortInner i → Shortens (unary_of i)
+shortens_unary i s = shortens_before (is_sign sign.Minus) i.minus (atom_of i) s.minus (shortens_atom i s)
+
+shortens_sum : (i : Inner) → ShortInner i → Shortens (sum_of i)
+shortens_sum i s = shortens_chain sum_op (term_of i) (shortens_chain term_op (unary_of i) (shortens_unary i s))
+
+shortens_comparison : (i : Inner) → ShortInner i → Shortens (comparison_of i)
+shortens_comparison i s = shortens_then (sum_of i) _ (shortens_sum i s)
+    (λ left. keeps_op comparison_op _ left (λ o. keeps_then (sum_of i) _ (keeps_of _ (shortens_sum i s)) (λ right. keeps_done (expr.Two o left right))))
+
+shortens_negation : (i : Inner) → ShortInner i → Shortens (negation_of i)
+shortens_negation i s = shortens_before (is_word word.Not) i.nots (comparison_of i) s.nots (shortens_comparison i s)
+
+shortens_whole : (i : Inner) → ShortInner i → Shortens (expression_of i)
+shortens_whole i s = shortens_chain or_op (conjunction_of i) (shortens_chain and_op (negation_of i) (shortens_negation i s))
+
+short_deeper : (i : Inner) → ShortInner i → ShortInner (deeper i)
+short_deeper i s = record {
+  minus = shortens_then (line_at (is_sign sign.Minus)) _ (shortens_one _) (λ line. keeps_then (unary_of i) _ (keeps_of _ (shortens_unary i s)) (λ e. keeps_done (expr.Neg e line)));
+  nots = shortens_then (line_at (is_word word.Not)) _ (shortens_one _) (λ line. keeps_then (negation_of i) _ (keeps_of _ (shortens_negation i s)) (λ e. keeps_done (expr.Not e line)));
+  parens = shortens_then (line_at (is_sign sign.Open)) _ (shortens_one _)
+      (λ line. keeps_then (expression_of i) _ (keeps_of _ (shortens_whole i s)) (λ e. keeps_sign sign.Close _ (keeps_done (expr.Paren e line))));
+}
+
+short_inner : (more : ℕ) → ShortInner (inner more)
+short_inner zero = record { minus = shortens_refuse Expr; nots = shortens_refuse Expr; parens = shortens_refuse Expr }
+short_inner (suc more) = short_deeper (inner more) (short_inner more)
+
+pub shortens_expression : Shortens expression
+shortens_expression = shortens_whole (inner 16) (short_inner 16)
+
+-- ---- statements
+
+keeps_expression : Keeps expression
+keeps_expression = keeps_of expression shortens_expression
+
+keeps_named : Keeps named
+keeps_named = keeps_of named shortens_named
+
+keeps_keys : Keeps keys
+keeps_keys = keeps_of keys (shortens_parens (list_of expression) (shortens_list expression shortens_expression))
+
+shortens_let : Shortens let_statement
+shortens_let = shortens_word word.Let _ (keeps_then named _ keeps_named (λ name. keeps_sign sign.Equal _ (keeps_then expression _ keeps_expression (λ e. keeps_sign sign.Semicolon _ (keeps_done _)))))
+
+shortens_assignment : Shortens assignment
+shortens_assignment = shortens_then named _ shortens_named (λ name. keeps_sign sign.Equal _ (keeps_then expression _ keeps_expression (λ e. keeps_sign sign.Semicolon _ (keeps_done _))))
+
+shortens_if : (b : Reader (List Stmt)) → Keeps b → Shortens (if_statement b)
+shortens_if b kb = shortens_word word.If _ (keeps_then expression _ keeps_expression (λ test. keeps_then b _ kb (λ body.
+    keeps_then (behind (is_word word.Else) (some_block b) (done None)) _ (keeps_behind (is_word word.Else) (some_block b) _ (keeps_then b _ kb (λ body. keeps_done _)) (keeps_done None)) (λ other. keeps_done _))))
+
+shortens_get : (b : Reader (List Stmt)) → Keeps b → Shortens (get_statement b)
+shortens_get b kb = shortens_word word.Get _ (keeps_then named _ keeps_named (λ name. keeps_word word.From _ (keeps_then named _ keeps_named (λ table.
+    keeps_word word.Key _ (keeps_then keys _ keeps_keys (λ key. keeps_then b _ kb (λ found. keeps_word word.Else _ (keeps_then b _ kb (λ absent. keeps_done _)))))))))
+
+keeps_span : (w : Word) → Keeps (span_end w)
+keeps_span w = keeps_behind (is_word w) _ _ (keeps_then expression _ keeps_expression (λ e. keeps_done _)) (keeps_done None)
+
+shortens_for : (b : Reader (List Stmt)) → Keeps b → Shortens (for_statement b)
+shortens_for b kb = shortens_word word.For _ (keeps_then named _ keeps_named (λ name. keeps_word word.In _ (keeps_then named _ keeps_named (λ table.
+    keeps_word word.Span _ (keeps_word word.On _ (keeps_then named _ keeps_named (λ column. keeps_then (span_end word.From) _ (keeps_span word.From) (λ low.
+    keeps_then (span_end word.To) _ (keeps_span word.To) (λ high. keeps_then b _ kb (λ body. keeps_done _))))))))))
+
+shortens_insert : Shortens insert_statement
+shortens_insert = shortens_word word.Insert _ (keeps_then named _ keeps_named (λ table. keeps_then keys _ keeps_keys (λ values. keeps_sign sign.Semicolon _ (keeps_done _))))
+
+pub shortens_change : Shortens change
+shortens_change = shortens_then named _ shortens_named (λ column. keeps_sign sign.Equal _ (keeps_then expression _ keeps_expression (λ e. keeps_done _)))
+
+shortens_update : Shortens update_statement
+shortens_update = shortens_word word.Update _ (keeps_then named _ keeps_named (λ table. keeps_word word.Key _ (keeps_then keys _ keeps_keys (λ key.
+    keeps_word word.Set _ (keeps_then (list_of change) _ (keeps_of _ (shortens_list change shortens_change)) (λ changes. keeps_sign sign.Semicolon _ (keeps_done _)))))))
+
+shortens_delete : Shortens delete_statement
+shortens_delete = shortens_word word.Delete _ (keeps_then named _ keeps_named (λ table. keeps_word word.Key _ (keeps_then keys _ keeps_keys (λ key. keeps_sign sign.Semicolon _ (keeps_done _)))))
+
+shortens_fail : Shortens fail_statement
+shortens_fail = shortens_word word.Fail _ (keeps_then text_rule _ (keeps_of text_rule (shortens_one _)) (λ text. keeps_sign sign.Semicolon _ (keeps_done _)))
+
+shortens_by : (b : Reader (List Stmt)) → Keeps b → (h : Head) → Shortens (statement_by b h)
+shortens_by b kb head.Let = shortens_let
+shortens_by b kb head.If = shortens_if b kb
+shortens_by b kb head.Get = shortens_get b kb
+shortens_by b kb head.For = shortens_for b kb
+shortens_by b kb head.Insert = shortens_insert
+shortens_by b kb head.Update = shortens_update
+shortens_by b kb head.Delete = shortens_delete
+shortens_by b kb head.Fail = shortens_fail
+shortens_by b kb head.Name = shortens_assignment
+
+pub shortens_statement : (b : Reader (List Stmt)) → Keeps b → Shortens (statement_of b)
+shortens_statement b kb = shortens_first head_of (statement_by b) (shortens_by b kb)
+
+pub keeps_block : (more : ℕ) → Keeps (block_at more)
+keeps_block zero = keeps_of _ (shortens_refuse (List Stmt))
+keeps_block (suc more) = keeps_sign sign.OpenBrace _ (keeps_then (many_of no_close (statement_of (block_at more))) _
+    (keeps_many no_close (statement_of (block_at more)) (shortens_statement (block_at more) (keeps_block more))) (λ body. keeps_sign sign.CloseBrace _ (keeps_done body)))
+
+-- ---- declarations
+
 pub shortens_table : Shortens table
 shortens_table = shortens_word word.Table _ (keeps_then named _ (keeps_of _ shortens_named)
     (λ name. keeps_then columns _ (keeps_of _ shortens_columns)
@@ -149,24 +304,10 @@ shortens_table = shortens_word word.Table _ (keeps_then named _ (keeps_of _ shor
     (λ key. keeps_then (behind (is_word word.Index) names (done [])) _ (keeps_behind _ names _ (keeps_of _ shortens_names) (keeps_done []))
     (λ index. keeps_sign sign.Semicolon _ (keeps_done _)))))))
 
-pub shortens_expression : Shortens expression
-shortens_expression = shortens_one _
-
-pub shortens_expressions : Shortens expressions
-shortens_expressions = shortens_parens (list_of expression) (shortens_list expression shortens_expression)
-
-pub shortens_statement : Shortens statement
-shortens_statement = shortens_word word.Insert _ (keeps_then named _ (keeps_of _ shortens_named)
-    (λ name. keeps_then expressions _ (keeps_of _ shortens_expressions) (λ values. keeps_sign sign.Semicolon _ (keeps_done _))))
-
-pub keeps_block : Keeps block
-keeps_block = keeps_sign sign.OpenBrace _ (keeps_then (many_of (is_word word.Insert) statement) _ (keeps_many (is_word word.Insert) statement shortens_statement)
-    (λ body. keeps_sign sign.CloseBrace _ (keeps_done body)))
-
 pub keeps_parameters : Keeps parameters
 keeps_parameters = keeps_sign sign.Open _ (keeps_behind (is_sign sign.Close) _ _ (keeps_done [])
     (keeps_then (list_of column) _ (keeps_of _ (shortens_list column shortens_column)) (λ params. keeps_sign sign.Close _ (keeps_done params))))
 
 pub shortens_procedure : Shortens procedure
-shortens_procedure = shortens_word word.Proc _ (keeps_then named _ (keeps_of _ shortens_named)
-    (λ name. keeps_then parameters _ keeps_parameters (λ params. keeps_then block _ keeps_block (λ body. keeps_done _))))
+shortens_procedure = shortens_word word.Proc _ (keeps_then named _ keeps_named
+    (λ name. keeps_then parameters _ keeps_parameters (λ params. keeps_then block _ (keeps_block 16) (λ body. keeps_done _))))

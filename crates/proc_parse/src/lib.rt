@@ -1,10 +1,13 @@
 //! The parser of applications.
 #![tactic(auto)]
 
+mod declarations;
+mod expressions;
 mod lexer;
+mod names;
 mod parser;
 mod phrase;
-mod rules;
+mod statements;
 #[cfg(test)]
 mod tests;
 mod token;

@@ -5,7 +5,7 @@ ghost use Rattle.std.specs.Option.{option_copied};
 ghost use Rattle.proc_parse.specs.Words.{is_word, is_sign};
 ghost use Rattle.proc_parse.specs.Reading.{Reader, Gives, GoesOn, Shortens, begins, past, expect};
 ghost use Rattle.proc_parse.specs.Lists.{list_of, many_of};
-ghost use Rattle.proc_parse.specs.Grammar.{in_parens};
+ghost use Rattle.proc_parse.specs.Phrases.{in_parens};
 
 use crate::token::{Lexeme, Sign, Token, Word};
 use rel_base::{List, NoMemory};

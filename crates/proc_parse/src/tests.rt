@@ -10,7 +10,7 @@ fn is_read(alloc: Global, text: &str) -> Result<bool, ParseFault> {
     }
     match parse(alloc, text.as_bytes()) {
         Ok(_) => Ok(true),
-        Err(ParseFault::Syntax) => Ok(false),
+        Err(ParseFault::Syntax { .. }) => Ok(false),
         Err(ParseFault::NoMemory) => Err(ParseFault::NoMemory),
     }
 }
@@ -158,5 +158,72 @@ fn texts_lose_their_escapes(rt: HostRuntime) -> Result<(), Fail> {
         _ => false,
     };
     assert!(rt; is_right);
+    Ok(())
+}
+
+/// The place of the fault, and line 0 where there is none.
+fn fault_of(alloc: Global, text: &str) -> Result<(u32, u32), ParseFault> {
+    if text.len() > 10_000 {
+        return Ok((0, 0));
+    }
+    match parse(alloc, text.as_bytes()) {
+        Ok(_) => Ok((0, 0)),
+        Err(ParseFault::Syntax { line, col }) => Ok((line, col)),
+        Err(ParseFault::NoMemory) => Err(ParseFault::NoMemory),
+    }
+}
+
+#[test]
+fn statements_are_read(rt: HostRuntime) -> Result<(), Fail> {
+    let alloc = rt.alloc();
+    for text in [
+        "proc p() { let a = (1 + 1 + 1 + 1 + 1 + 1 + 1 + 1 + 1 + 1 + 1 + 1 + 1 + 1 + 1 + 1 + 1 + 1 + 1 + 1 + 1 + 1 + 1 + 1 + 1 + 1 + 1 + 1 + 1 + 1 + 1 + 1 + 1) + 1 + 1 + 1 + 1 + 1 + 1 + 1 + 1 + 1 + 1 + 1 + 1 + 1 + 1 + 1 + 1 + 1 + 1 + 1 + 1 + 1 + 1 + 1 + 1 + 1 + 1 + 1 + 1 + 1 + 1 + 1 + 1; }",
+        "proc p() { let a = ((((((((((((((((1)))))))))))))))); }",
+        "proc p() { if a { if a { if a { if a { if a { if a { if a { if a { if a { if a { if a { if a { if a { if a { if a { } } } } } } } } } } } } } } } }",
+        "proc p(a int) { let b = not a = 1 or - a * 2 + 3 < a % 4 and true; b = (b); }",
+        "proc p(a int) { if a < 1 { fail \"no\"; } else { a = a - 1; } }",
+        "proc p(f int, n int) { get a from acct key (f) { update acct key (f) set bal = a.bal - n, owner = a.owner ++ \"x\"; } else { fail \"no payer\"; } }",
+        "proc p(o text, t int) { let sum = 0; for r in acct span on owner from o to o { sum = sum + r.bal; } for r in acct span on id { } delete acct key (t); }",
+    ] {
+        assert_eq!(rt; fault_of(alloc, text)?, (0, 0), "at {text}");
+    }
+    Ok(())
+}
+
+#[test]
+fn faults_have_places(rt: HostRuntime) -> Result<(), Fail> {
+    let alloc = rt.alloc();
+    for (text, line, col) in [
+        ("proc p() { let = 1; }", 1, 16),
+        ("table acct (id int) key (id)\nproc p() { }", 2, 1),
+        ("proc p() {", 1, 11),
+        ("proc p() {\n", 2, 1),
+        (
+            "proc p() { let a = 1 + 1 + 1 + 1 + 1 + 1 + 1 + 1 + 1 + 1 + 1 + 1 + 1 + 1 + 1 + 1 + 1 + 1 + 1 + 1 + 1 + 1 + 1 + 1 + 1 + 1 + 1 + 1 + 1 + 1 + 1 + 1 + 1 + 1; }",
+            1,
+            150,
+        ),
+        (
+            "proc p() { let a = (((((((((((((((((1))))))))))))))))); }",
+            1,
+            36,
+        ),
+        ("proc p() { let a = -----------------1; }", 1, 36),
+        (
+            "proc p() { if a { if a { if a { if a { if a { if a { if a { if a { if a { if a { if a { if a { if a { if a { if a { if a { } } } } } } } } } } } } } } } } }",
+            1,
+            122,
+        ),
+        ("proc p() { let a = x\"0g\"; }", 1, 20),
+        ("table t (i int) key (i); # \u{e9}", 1, 28),
+        ("proc p() { let a = \"\u{e9}\"; b }", 1, 28),
+        ("proc p() { let a = 1 < 2 < 3; }", 1, 26),
+        ("proc p() { get a from t key (1) { } }", 1, 37),
+        ("proc p() { update t key (1) set ; }", 1, 33),
+        ("proc p() { fail a; }", 1, 17),
+        ("proc p() { a.b = 1; }", 1, 13),
+    ] {
+        assert_eq!(rt; fault_of(alloc, text)?, (line, col), "at {text}");
+    }
     Ok(())
 }

@@ -1,0 +1,13 @@
+use Rattle.std.proofs.Common.{◌<◌, subst, sym, arith}
+use Rattle.proc_syntax.specs.declared.tree.Expr.{Expr}
+use Rattle.proc_parse.specs.Reading.{Read, Gives}
+use Rattle.proc_parse.specs.Expressions.{inner, op_of, operand_of}
+use Rattle.proc_parse.proofs.Depth.{chain_more}
+use Rattle.proc_parse.proofs.expressions.+operands.Goals as goal
+
+pub more-returns-else-most-eq0 : goal.more-returns-else-most-eq0
+more-returns-else-most-eq0 t c =
+    let some : 0 < c.args.most = omega (arith, c.if-most-eq0.false) in
+    subst (λ (meant : Read Expr). Gives c.more_after.result meant)
+    (sym (chain_more (op_of c.args.level) (operand_of c.args.level (inner c.args.depth)) c.args.most c.args.left c.in-Some.op c.args.tokens.now c.in-Some.rest.now some c.in-Some.ensures))
+    c.more_after.ensures

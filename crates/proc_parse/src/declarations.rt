@@ -1,0 +1,117 @@
+//! Declarations of tables and procedures, and whole applications.
+
+ghost use Rattle.std.specs.Prelude.{◌≡◌, []};
+ghost use Rattle.proc_parse.specs.Words.{is_word};
+ghost use Rattle.proc_parse.specs.Reading.{Gives, GoesOn, behind, done, expect};
+ghost use Rattle.proc_parse.specs.Phrases.{names};
+ghost use Rattle.proc_parse.specs.Grammar.{table, more_parameters, parameters, procedure, is_end, application};
+ghost use Rattle.proc_parse.specs.Shorter.{shortens_procedure, shortens_table};
+
+use crate::phrase::{Phrase, Stop, list, list_in_parens, many, past_sign, past_word, sign, word};
+use crate::statements::{DEEPEST_BLOCK, block};
+use crate::token::{Lexeme, Sign, Token, Word};
+use proc_syntax::{App, ColumnText, Named, ProcDef, TableText};
+use rel_base::List;
+use std::alloc::Global;
+
+/// Reads the part of a table's declaration that names its indexed columns, which may be absent.
+fn index_part<'a>(
+    alloc: Global,
+    tokens: &'a [Token],
+) -> Result<(List<Named>, &'a [Token]), Stop<'a>>
+    ensures { Gives result (behind (is_word Word.Index) names (done []) tokens.now) }
+{
+    match past_word(tokens, Word::Index) {
+        Some(rest) => list_in_parens(alloc, rest),
+        None => Ok((List::new(alloc), tokens)),
+    }
+}
+
+impl Phrase for TableText {
+    ghost rule = { table };
+
+    fn read<'a>(alloc: Global, tokens: &'a [Token]) -> Result<(TableText, &'a [Token]), Stop<'a>> {
+        let rest = word(tokens, Word::Table)?;
+        let (name, rest) = Named::read(alloc, rest)?;
+        let (columns, rest) = list_in_parens(alloc, rest)?;
+        let rest = word(rest, Word::Key)?;
+        let (key, rest) = list_in_parens(alloc, rest)?;
+        let (index, rest) = index_part(alloc, rest)?;
+        let rest = sign(rest, Sign::Semicolon)?;
+        let table = TableText {
+            name,
+            columns,
+            key,
+            index,
+        };
+        Ok((table, rest))
+    }
+
+    ghost shortens = { shortens_table };
+}
+
+/// Reads the parameters of a procedure.
+fn parameters<'a>(
+    alloc: Global,
+    tokens: &'a [Token],
+) -> Result<(List<ColumnText>, &'a [Token]), Stop<'a>>
+    ensures { Gives result (parameters tokens.now) }
+{
+    let rest = sign(tokens, Sign::Open)?;
+    match past_sign(rest, Sign::Close) {
+        Some(rest) => Ok((List::new(alloc), rest)),
+        None => more_parameters(alloc, rest),
+    }
+}
+
+/// Reads one parameter at least, after the parenthesis.
+fn more_parameters<'a>(
+    alloc: Global,
+    tokens: &'a [Token],
+) -> Result<(List<ColumnText>, &'a [Token]), Stop<'a>>
+    ensures { Gives result (more_parameters tokens.now) }
+{
+    let (params, rest) = list(alloc, tokens)?;
+    let rest = sign(rest, Sign::Close)?;
+    Ok((params, rest))
+}
+
+impl Phrase for ProcDef {
+    ghost rule = { procedure };
+
+    fn read<'a>(alloc: Global, tokens: &'a [Token]) -> Result<(ProcDef, &'a [Token]), Stop<'a>> {
+        let rest = word(tokens, Word::Proc)?;
+        let (name, rest) = Named::read(alloc, rest)?;
+        let (params, rest) = parameters(alloc, rest)?;
+        let (body, rest) = block(alloc, DEEPEST_BLOCK, rest)?;
+        Ok((ProcDef { name, params, body }, rest))
+    }
+
+    ghost shortens = { shortens_procedure };
+}
+
+/// Reads the end of the text.
+fn end(tokens: &[Token]) -> Result<&[Token], Stop<'_>>
+    ensures { GoesOn result (expect is_end tokens.now) }
+{
+    match tokens {
+        [
+            Token {
+                lexeme: Lexeme::End,
+                ..
+            },
+            rest @ ..,
+        ] => Ok(rest),
+        _ => Err(Stop::At(tokens)),
+    }
+}
+
+/// Reads a whole application.
+pub fn application<'a>(alloc: Global, tokens: &'a [Token]) -> Result<(App, &'a [Token]), Stop<'a>>
+    ensures { Gives result (application tokens.now) }
+{
+    let (tables, rest) = many(alloc, tokens, Word::Table)?;
+    let (procs, rest) = many(alloc, rest, Word::Proc)?;
+    let rest = end(rest)?;
+    Ok((App { tables, procs }, rest))
+}

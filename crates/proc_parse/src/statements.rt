@@ -1,0 +1,358 @@
+//! Statements and blocks.
+
+ghost use Rattle.std.specs.Prelude.{◌≡◌, ◌<◌, ◌-◌, None};
+ghost use Rattle.proc_parse.specs.Words.{is_word};
+ghost use Rattle.proc_parse.specs.Reading.{Gives, begins, behind, done, one};
+ghost use Rattle.proc_parse.specs.Lists.{many_of};
+ghost use Rattle.proc_parse.specs.Statements.{let_statement, assignment, some_block, if_statement, get_statement, some_expression, span_end, for_statement};
+ghost use Rattle.proc_parse.specs.Statements.{insert_statement, change, update_statement, delete_statement, text_of, text_rule, fail_statement};
+ghost use Rattle.proc_parse.specs.Statements.{head_of_word, head_of_lexeme, head_of, statement_of, no_close, block_at};
+ghost use Rattle.proc_parse.specs.Shorter.{shortens_change};
+
+use crate::phrase::{Phrase, Stop, list, list_in_parens, past_word, sign, word};
+use crate::token::{Lexeme, Sign, Token, Word};
+use proc_syntax::{Change, Expr, Named, Stmt};
+use rel_base::{List, NoMemory, Str, Twin};
+use std::alloc::Global;
+
+/// How deep blocks may be, that of the procedure being the first.
+pub const DEEPEST_BLOCK: usize = 16;
+
+/// What a statement begins with.
+#[derive(Clone, Copy, Debug, PartialEq, Eq)]
+pub enum Head {
+    Let,
+    If,
+    Get,
+    For,
+    Insert,
+    Update,
+    Delete,
+    Fail,
+    /// A name, or what begins no statement.
+    Name,
+}
+
+fn head_of_word(word: Word) -> Head
+    ensures { result ≡ head_of_word word }
+{
+    match word {
+        Word::Let => Head::Let,
+        Word::If => Head::If,
+        Word::Get => Head::Get,
+        Word::For => Head::For,
+        Word::Insert => Head::Insert,
+        Word::Update => Head::Update,
+        Word::Delete => Head::Delete,
+        Word::Fail => Head::Fail,
+        _ => Head::Name,
+    }
+}
+
+fn head_of_lexeme(lexeme: &Lexeme) -> Head
+    ensures { result ≡ head_of_lexeme lexeme.now }
+{
+    match lexeme {
+        Lexeme::Word(word) => head_of_word(*word),
+        _ => Head::Name,
+    }
+}
+
+/// The statement that the tokens begin.
+fn head_of(tokens: &[Token]) -> Head
+    ensures { result ≡ head_of tokens.now }
+{
+    match tokens {
+        [first, ..] => head_of_lexeme(&first.lexeme),
+        [] => Head::Name,
+    }
+}
+
+/// Reads `let NAME = VALUE;`.
+fn let_statement<'a>(alloc: Global, tokens: &'a [Token]) -> Result<(Stmt, &'a [Token]), Stop<'a>>
+    ensures { Gives result (let_statement tokens.now) }
+{
+    let rest = word(tokens, Word::Let)?;
+    let (name, rest) = Named::read(alloc, rest)?;
+    let rest = sign(rest, Sign::Equal)?;
+    let (value, rest) = Expr::read(alloc, rest)?;
+    let rest = sign(rest, Sign::Semicolon)?;
+    Ok((Stmt::Let { name, value }, rest))
+}
+
+/// Reads `NAME = VALUE;`.
+fn assignment<'a>(alloc: Global, tokens: &'a [Token]) -> Result<(Stmt, &'a [Token]), Stop<'a>>
+    ensures { Gives result (assignment tokens.now) }
+{
+    let (name, rest) = Named::read(alloc, tokens)?;
+    let rest = sign(rest, Sign::Equal)?;
+    let (value, rest) = Expr::read(alloc, rest)?;
+    let rest = sign(rest, Sign::Semicolon)?;
+    Ok((Stmt::Assign { name, value }, rest))
+}
+
+/// Reads `insert TABLE (VALUES);`.
+fn insert_statement<'a>(alloc: Global, tokens: &'a [Token]) -> Result<(Stmt, &'a [Token]), Stop<'a>>
+    ensures { Gives result (insert_statement tokens.now) }
+{
+    let rest = word(tokens, Word::Insert)?;
+    let (table, rest) = Named::read(alloc, rest)?;
+    let (values, rest) = list_in_parens(alloc, rest)?;
+    let rest = sign(rest, Sign::Semicolon)?;
+    Ok((Stmt::Insert { table, values }, rest))
+}
+
+impl Phrase for Change {
+    ghost rule = { change };
+
+    fn read<'a>(alloc: Global, tokens: &'a [Token]) -> Result<(Change, &'a [Token]), Stop<'a>> {
+        let (column, rest) = Named::read(alloc, tokens)?;
+        let rest = sign(rest, Sign::Equal)?;
+        let (value, rest) = Expr::read(alloc, rest)?;
+        Ok((Change { column, value }, rest))
+    }
+
+    ghost shortens = { shortens_change };
+}
+
+/// Reads `update TABLE key (KEY) set CHANGES;`.
+fn update_statement<'a>(alloc: Global, tokens: &'a [Token]) -> Result<(Stmt, &'a [Token]), Stop<'a>>
+    ensures { Gives result (update_statement tokens.now) }
+{
+    let rest = word(tokens, Word::Update)?;
+    let (table, rest) = Named::read(alloc, rest)?;
+    let rest = word(rest, Word::Key)?;
+    let (key, rest) = list_in_parens(alloc, rest)?;
+    let rest = word(rest, Word::Set)?;
+    let (changes, rest) = list(alloc, rest)?;
+    let rest = sign(rest, Sign::Semicolon)?;
+    let update = Stmt::Update {
+        table,
+        key,
+        changes,
+    };
+    Ok((update, rest))
+}
+
+/// Reads `delete TABLE key (KEY);`.
+fn delete_statement<'a>(alloc: Global, tokens: &'a [Token]) -> Result<(Stmt, &'a [Token]), Stop<'a>>
+    ensures { Gives result (delete_statement tokens.now) }
+{
+    let rest = word(tokens, Word::Delete)?;
+    let (table, rest) = Named::read(alloc, rest)?;
+    let rest = word(rest, Word::Key)?;
+    let (key, rest) = list_in_parens(alloc, rest)?;
+    let rest = sign(rest, Sign::Semicolon)?;
+    Ok((Stmt::Delete { table, key }, rest))
+}
+
+/// Reads a text.
+fn text<'a>(alloc: Global, tokens: &'a [Token]) -> Result<(Str, &'a [Token]), Stop<'a>>
+    ensures { Gives result (text_rule tokens.now) }
+{
+    match tokens {
+        [
+            Token {
+                lexeme: Lexeme::Text(text),
+                ..
+            },
+            rest @ ..,
+        ] => Ok((text.copy(alloc)?, rest)),
+        _ => Err(Stop::At(tokens)),
+    }
+}
+
+/// Reads `fail TEXT;`.
+fn fail_statement<'a>(alloc: Global, tokens: &'a [Token]) -> Result<(Stmt, &'a [Token]), Stop<'a>>
+    ensures { Gives result (fail_statement tokens.now) }
+{
+    let rest = word(tokens, Word::Fail)?;
+    let (text, rest) = text(alloc, rest)?;
+    let rest = sign(rest, Sign::Semicolon)?;
+    Ok((Stmt::Fail { text }, rest))
+}
+
+/// Reads a whole expression, as one that need not have come.
+fn some_expression<'a>(
+    alloc: Global,
+    tokens: &'a [Token],
+) -> Result<(Option<Expr>, &'a [Token]), Stop<'a>>
+    ensures { Gives result (some_expression tokens.now) }
+{
+    let (expr, rest) = Expr::read(alloc, tokens)?;
+    Ok((Some(expr), rest))
+}
+
+/// Reads an end of a span after its word, which may be absent.
+fn span_end<'a>(
+    alloc: Global,
+    tokens: &'a [Token],
+    word: Word,
+) -> Result<(Option<Expr>, &'a [Token]), Stop<'a>>
+    ensures { Gives result (span_end word tokens.now) }
+{
+    match past_word(tokens, word) {
+        Some(rest) => some_expression(alloc, rest),
+        None => Ok((None, tokens)),
+    }
+}
+
+/// Reads a block where blocks may be so deep.
+#[cycle(blocks)]
+#[tactic(auto, using(crate::proofs::Depth::block_less, crate::proofs::Depth::block_none))]
+pub fn block<'a>(
+    alloc: Global,
+    depth: usize,
+    tokens: &'a [Token],
+) -> Result<(List<Stmt>, &'a [Token]), Stop<'a>>
+    ensures { Gives result (block_at depth tokens.now) }
+{
+    if depth == 0 {
+        return Err(Stop::At(tokens));
+    }
+    let rest = sign(tokens, Sign::OpenBrace)?;
+    let (body, rest) = statements(alloc, depth - 1, rest)?;
+    let rest = sign(rest, Sign::CloseBrace)?;
+    Ok((body, rest))
+}
+
+/// Whether there is a token, and no brace that closes a block.
+fn goes_on(tokens: &[Token]) -> bool
+    ensures { result ≡ begins no_close tokens.now }
+{
+    match tokens {
+        [first, ..] => !first.is_sign(Sign::CloseBrace),
+        [] => false,
+    }
+}
+
+/// Reads statements up to the brace that closes their block, where blocks in them may be so deep.
+#[cycle(blocks)]
+fn statements<'a>(
+    alloc: Global,
+    depth: usize,
+    tokens: &'a [Token],
+) -> Result<(List<Stmt>, &'a [Token]), Stop<'a>>
+    ensures { Gives result (many_of no_close (statement_of (block_at depth)) tokens.now) }
+{
+    let mut body = List::new(alloc);
+    let mut rest = tokens;
+    while goes_on(rest) {
+        let (statement, after) = statement(alloc, depth, rest)?;
+        body.push(statement)?;
+        rest = after;
+    }
+    Ok((body, rest))
+}
+
+/// Reads a statement.
+#[cycle(blocks)]
+fn statement<'a>(
+    alloc: Global,
+    depth: usize,
+    tokens: &'a [Token],
+) -> Result<(Stmt, &'a [Token]), Stop<'a>>
+    ensures { Gives result (statement_of (block_at depth) tokens.now) }
+{
+    match head_of(tokens) {
+        Head::Let => let_statement(alloc, tokens),
+        Head::If => if_statement(alloc, depth, tokens),
+        Head::Get => get_statement(alloc, depth, tokens),
+        Head::For => for_statement(alloc, depth, tokens),
+        Head::Insert => insert_statement(alloc, tokens),
+        Head::Update => update_statement(alloc, tokens),
+        Head::Delete => delete_statement(alloc, tokens),
+        Head::Fail => fail_statement(alloc, tokens),
+        Head::Name => assignment(alloc, tokens),
+    }
+}
+
+/// Reads `if TEST { THEN } else { OTHER }`, of which the second block may be absent.
+#[cycle(blocks)]
+fn if_statement<'a>(
+    alloc: Global,
+    depth: usize,
+    tokens: &'a [Token],
+) -> Result<(Stmt, &'a [Token]), Stop<'a>>
+    ensures { Gives result (if_statement (block_at depth) tokens.now) }
+{
+    let rest = word(tokens, Word::If)?;
+    let (test, rest) = Expr::read(alloc, rest)?;
+    let (then, rest) = block(alloc, depth, rest)?;
+    let (other, rest) = other_block(alloc, depth, rest)?;
+    Ok((Stmt::If { test, then, other }, rest))
+}
+
+/// Reads `else { OTHER }`, which may be absent.
+#[cycle(blocks)]
+fn other_block<'a>(
+    alloc: Global,
+    depth: usize,
+    tokens: &'a [Token],
+) -> Result<(Option<List<Stmt>>, &'a [Token]), Stop<'a>>
+    ensures { Gives result (behind (is_word Word.Else) (some_block (block_at depth)) (done None) tokens.now) }
+{
+    let Some(rest) = past_word(tokens, Word::Else) else {
+        return Ok((None, tokens));
+    };
+    let (other, rest) = block(alloc, depth, rest)?;
+    Ok((Some(other), rest))
+}
+
+/// Reads `get NAME from TABLE key (KEY) { FOUND } else { ABSENT }`.
+#[cycle(blocks)]
+fn get_statement<'a>(
+    alloc: Global,
+    depth: usize,
+    tokens: &'a [Token],
+) -> Result<(Stmt, &'a [Token]), Stop<'a>>
+    ensures { Gives result (get_statement (block_at depth) tokens.now) }
+{
+    let rest = word(tokens, Word::Get)?;
+    let (name, rest) = Named::read(alloc, rest)?;
+    let rest = word(rest, Word::From)?;
+    let (table, rest) = Named::read(alloc, rest)?;
+    let rest = word(rest, Word::Key)?;
+    let (key, rest) = list_in_parens(alloc, rest)?;
+    let (found, rest) = block(alloc, depth, rest)?;
+    let rest = word(rest, Word::Else)?;
+    let (absent, rest) = block(alloc, depth, rest)?;
+    let get = Stmt::Get {
+        name,
+        table,
+        key,
+        found,
+        absent,
+    };
+    Ok((get, rest))
+}
+
+/// Reads `for NAME in TABLE span on COLUMN from LOW to HIGH { BODY }`, of which each end may be absent.
+#[cycle(blocks)]
+fn for_statement<'a>(
+    alloc: Global,
+    depth: usize,
+    tokens: &'a [Token],
+) -> Result<(Stmt, &'a [Token]), Stop<'a>>
+    ensures { Gives result (for_statement (block_at depth) tokens.now) }
+{
+    let rest = word(tokens, Word::For)?;
+    let (name, rest) = Named::read(alloc, rest)?;
+    let rest = word(rest, Word::In)?;
+    let (table, rest) = Named::read(alloc, rest)?;
+    let rest = word(rest, Word::Span)?;
+    let rest = word(rest, Word::On)?;
+    let (column, rest) = Named::read(alloc, rest)?;
+    let (low, rest) = span_end(alloc, rest, Word::From)?;
+    let (high, rest) = span_end(alloc, rest, Word::To)?;
+    let (body, rest) = block(alloc, depth, rest)?;
+    let each = Stmt::For {
+        name,
+        table,
+        column,
+        low,
+        high,
+        body,
+    };
+    Ok((each, rest))
+}
