@@ -8,7 +8,6 @@ proc add(i int, o text, b int) { insert acct (i, o, b); }
 """
 NO_BLOCKS = b"draft 1\n"
 USAGE = b"refused usage\n"
-BAD_APP = b"refused application\n"
 BAD_BLOCKS = b"refused blocks\n"
 
 
@@ -20,8 +19,11 @@ def equals(wanted):
     return lambda out: out == wanted
 
 
-def app_case(name, app, accepted):
-    return name, {"a.app": app, "b.draft": NO_BLOCKS}, 0 if accepted else 4, is_done if accepted else equals(BAD_APP)
+def app_case(name, app, refusal=None):
+    files = {"a.app": app, "b.draft": NO_BLOCKS}
+    if refusal is None:
+        return name, files, 0, is_done
+    return name, files, 4, equals(b"refused application " + refusal + b"\n")
 
 
 def draft_case(name, draft, accepted):
@@ -88,26 +90,26 @@ def argument(text):
 
 
 def cases():
-    yield app_case("64 tables", tables(64), True)
-    yield app_case("65 tables", tables(65), False)
-    yield app_case("32 columns", table(b"t", 32), True)
-    yield app_case("33 columns", table(b"t", 33), False)
-    yield app_case("8 key columns", table(b"t", 9, keys=8), True)
-    yield app_case("9 key columns", table(b"t", 9, keys=9), False)
-    yield app_case("8 indexed columns", table(b"t", 9, indexes=8), True)
-    yield app_case("9 indexed columns", table(b"t", 9, indexes=9), False)
-    yield app_case("256 procedures", procedures(256), True)
-    yield app_case("257 procedures", procedures(257), False)
-    yield app_case("16 parameters", procedure(16), True)
-    yield app_case("17 parameters", procedure(17), False)
-    yield app_case("a name of 32 bytes", table(b"t" * 32, 1), True)
-    yield app_case("a name of 33 bytes", table(b"t" * 33, 1), False)
-    yield app_case("a text of 255 bytes", inserted_text(255), True)
-    yield app_case("a text of 256 bytes", inserted_text(256), False)
-    yield app_case("bytes of 255 pairs", inserted_bytes(255), True)
-    yield app_case("bytes of 256 pairs", inserted_bytes(256), False)
-    yield app_case("an application of 1,048,576 bytes", padded(1048576), True)
-    yield app_case("an application of 1,048,577 bytes", padded(1048577), False)
+    yield app_case("64 tables", tables(64))
+    yield app_case("65 tables", tables(65), b"65 Limit")
+    yield app_case("32 columns", table(b"t", 32))
+    yield app_case("33 columns", table(b"t", 33), b"1 Limit")
+    yield app_case("8 key columns", table(b"t", 9, keys=8))
+    yield app_case("9 key columns", table(b"t", 9, keys=9), b"1 Limit")
+    yield app_case("8 indexed columns", table(b"t", 9, indexes=8))
+    yield app_case("9 indexed columns", table(b"t", 9, indexes=9), b"1 Limit")
+    yield app_case("256 procedures", procedures(256))
+    yield app_case("257 procedures", procedures(257), b"257 Limit")
+    yield app_case("16 parameters", procedure(16))
+    yield app_case("17 parameters", procedure(17), b"1 Limit")
+    yield app_case("a name of 32 bytes", table(b"t" * 32, 1))
+    yield app_case("a name of 33 bytes", table(b"t" * 33, 1), b"1 Syntax")
+    yield app_case("a text of 255 bytes", inserted_text(255))
+    yield app_case("a text of 256 bytes", inserted_text(256), b"2 Syntax")
+    yield app_case("bytes of 255 pairs", inserted_bytes(255))
+    yield app_case("bytes of 256 pairs", inserted_bytes(256), b"2 Syntax")
+    yield app_case("an application of 1,048,576 bytes", padded(1048576))
+    yield app_case("an application of 1,048,577 bytes", padded(1048577), b"0 TooLong")
     yield draft_case("1,024 transactions", transactions(1024), True)
     yield draft_case("1,025 transactions", transactions(1025), False)
     yield draft_case("a line of 4,096 bytes", line_of(4096), True)

@@ -1,21 +1,28 @@
 -- The block file has its turn where the bytes that were read are an application.
-use Rattle.std.proofs.Common.{Bool, IfOk, IfSome, List, None, Option, Some, ap, arith, cond, false, inl, inr, length, refl, subst, sym, true, ◌<◌, ◌∙◌, ◌≡◌, ◌⊎◌, ℕ}
-use Rattle.std.specs.Prelude.{Err, IsSome, Ok, Result, codes, nat_le}
-use Rattle.bcdb.specs.Accepted.{application, typed}
-use Rattle.bcdb.specs.Answer.{over_app, read_refused, says}
+use Rattle.std.proofs.Common.{Bool, IfOk, IfSome, List, None, Option, Some, ap, arith, cond, false, inl, inr, length, refl, subst, sym, true, ◌<◌, ◌≤◌, ◌∙◌, ◌≡◌, ◌⊎◌, ℕ}
+use Rattle.std.specs.Prelude.{Err, Ok, Result, codes, nat_le}
+use Rattle.std.specs.Result.{IsOk}
+use Rattle.bcdb.specs.Accepted.{accepted, too_long, typed}
+use Rattle.bcdb.specs.Answer.{over_app, over_blocks, read_refused, says}
 use Rattle.bcdb.specs.Reply.{Means}
 use Rattle.bcdb.specs.declared.decide.Reply.{Reply}
-use Rattle.bcdb.specs.declared.status.Status.TheVariants.{AppRefused}
+use Rattle.bcdb.specs.declared.status.Status.TheVariants.{AppRefused, BlocksRefused}
+use Rattle.chain_file.specs.Draft.{draft}
+use Rattle.chain_file.specs.Text.{DraftsAreBounded}
 use Rattle.edge_traits.specs.Shelf.{Files}
-use Rattle.proc_parse.specs.Grammar.{app_of}
+use Rattle.bcdb.specs.Refusals.{refusal_line}
+use Rattle.bcdb.specs.declared.refusal.Refusal.{Refusal}
+use Rattle.proc_parse.specs.Grammar.{application}
+use Rattle.proc_parse.specs.Tokens.{tokens_of}
+use Rattle.proc_syntax.specs.declared.call.Block.{Block}
 use Rattle.proc_syntax.specs.declared.tree.App.{App}
 
-pub accepted : (told : Option Files) (name bytes : List ℕ) (app : App) → IfSome told (λ files. bytes ≡ files name) → application bytes ≡ Some app
-    → IfSome told (λ files. IsSome (application (files name)))
-accepted None name bytes app same is = tt
-accepted (Some files) name bytes app same is = subst (λ found. IsSome found) (sym (ap application (sym same) ∙ is)) refl
+pub has_turn : (told : Option Files) (name bytes : List ℕ) (app : App) → IfSome told (λ files. bytes ≡ files name) → accepted bytes ≡ Ok app
+    → IfSome told (λ files. IsOk (accepted (files name)))
+has_turn None name bytes app same is = tt
+has_turn (Some files) name bytes app same is = subst (λ found. IsOk found) (sym (ap accepted (sym same) ∙ is)) refl
 
-refused : (b : Bool) (found : Option App) → b ≡ false → cond b found None ≡ None
+refused : (b : Bool) (found : Result App Refusal) → b ≡ false → cond b found (Err too_long) ≡ Err too_long
 refused true found is = absurd (not_both is)
   where
     not_both : true ≡ false → ⊥
@@ -26,9 +33,9 @@ not_short : (most count : ℕ) → most < count → nat_le count most ≡ false
 not_short most count lt = grind (arith, lt)
 
 -- a text above the limit is no application
-pub too_long : (told : Option Files) (name : List ℕ) → IfSome told (λ files. 1048576 < length (files name)) → IfSome told (λ files. application (files name) ≡ None)
-too_long None name long = tt
-too_long (Some files) name long = refused (nat_le (length (files name)) 1048576) (typed (app_of (files name))) (not_short 1048576 (length (files name)) long)
+pub too_long_told : (told : Option Files) (name : List ℕ) → IfSome told (λ files. 1048576 < length (files name)) → IfSome told (λ files. accepted (files name) ≡ Err too_long)
+too_long_told None name long = tt
+too_long_told (Some files) name long = refused (nat_le (length (files name)) 1048576) (typed (application (tokens_of (files name)))) (not_short 1048576 (length (files name)) long)
 
 -- what holds of what a call gives
 pub if_ok_then : {T E : Type 0} (answer : Result T E) (Before After : T → Type 0) → IfOk answer Before → ((value : T) → Before value → After value) → IfOk answer After
@@ -36,19 +43,34 @@ if_ok_then (Ok value) Before After holds follows = follows value holds
 if_ok_then (Err fault) Before After holds follows = tt
 
 -- the reply over an accepted application is the reply over its bytes
-pub accepted_told : (told : Option Files) (app_name name bytes : List ℕ) (app : App) (Rose : Type 0) (reply : Reply) → IfSome told (λ files. bytes ≡ files app_name) → application bytes ≡ Some app
-    → IfSome told (λ files. Means (over_app (Some app) (files name)) reply ⊎ (Means read_refused reply × Rose))
-    → IfSome told (λ files. Means (over_app (application (files app_name)) (files name)) reply ⊎ (Means read_refused reply × IsSome (application (files app_name)) × Rose))
+pub accepted_told : (told : Option Files) (app_name name bytes : List ℕ) (app : App) (Rose : Type 0) (reply : Reply) → IfSome told (λ files. bytes ≡ files app_name) → accepted bytes ≡ Ok app
+    → IfSome told (λ files. Means (over_app (Ok app) (files name)) reply ⊎ (Means read_refused reply × Rose))
+    → IfSome told (λ files. Means (over_app (accepted (files app_name)) (files name)) reply ⊎ (Means read_refused reply × IsOk (accepted (files app_name)) × Rose))
 accepted_told None app_name name bytes app Rose reply same is means = tt
 accepted_told (Some files) app_name name bytes app Rose reply same is (inl means) =
-    inl (subst (λ found. Means (over_app found (files name)) reply) (sym (ap application (sym same) ∙ is)) means)
+    inl (subst (λ found. Means (over_app found (files name)) reply) (sym (ap accepted (sym same) ∙ is)) means)
 accepted_told (Some files) app_name name bytes app Rose reply same is (inr failed) =
-    inr (failed.0, subst (λ found. IsSome found) (sym (ap application (sym same) ∙ is)) refl, failed.1)
+    inr (failed.0, subst (λ found. IsOk found) (sym (ap accepted (sym same) ∙ is)) refl, failed.1)
 
 -- and so is the refusal of bytes that are none
-pub refused_told : (told : Option Files) (app_name name bytes : List ℕ) (Rose : Type 0) (reply : Reply) → IfSome told (λ files. bytes ≡ files app_name) → application bytes ≡ None
-    → Means (says AppRefused (codes "refused application\n")) reply
-    → IfSome told (λ files. Means (over_app (application (files app_name)) (files name)) reply ⊎ (Means read_refused reply × IsSome (application (files app_name)) × Rose))
-refused_told None app_name name bytes Rose reply same is means = tt
-refused_told (Some files) app_name name bytes Rose reply same is means =
-    inl (subst (λ found. Means (over_app found (files name)) reply) (sym (ap application (sym same) ∙ is)) means)
+pub refused_told : (told : Option Files) (app_name name bytes : List ℕ) (refusal : Refusal) (Rose : Type 0) (reply : Reply) → IfSome told (λ files. bytes ≡ files app_name) → accepted bytes ≡ Err refusal
+    → Means (says AppRefused (refusal_line refusal)) reply
+    → IfSome told (λ files. Means (over_app (accepted (files app_name)) (files name)) reply ⊎ (Means read_refused reply × IsOk (accepted (files app_name)) × Rose))
+refused_told None app_name name bytes refusal Rose reply same is means = tt
+refused_told (Some files) app_name name bytes refusal Rose reply same is means =
+    inl (subst (λ found. Means (over_app found (files name)) reply) (sym (ap accepted (sym same) ∙ is)) means)
+
+not_longer : (most count : ℕ) → count ≤ most → most < count → ⊥
+not_longer most count few many = omega arith
+
+no_draft : (bytes : List ℕ) (most : ℕ) (found : Option (List Block)) → draft bytes ≡ found → ((blocks : List Block) → draft bytes ≡ Some blocks → length bytes ≤ most) → most < length bytes → draft bytes ≡ None
+no_draft bytes most None is bounded long = is
+no_draft bytes most (Some blocks) is bounded long = absurd (not_longer most (length bytes) (bounded blocks is) long)
+
+-- a file that is longer than any draft is refused
+pub longer_told : (told : Option Files) (name : List ℕ) (app : App) (Rose : Type 0) (reply : Reply) → DraftsAreBounded → IfSome told (λ files. 4203522008194 < length (files name))
+    → Means (says BlocksRefused (codes "refused blocks\n")) reply
+    → IfSome told (λ files. Means (over_app (Ok app) (files name)) reply ⊎ (Means read_refused reply × Rose))
+longer_told None name app Rose reply bounded long means = tt
+longer_told (Some files) name app Rose reply bounded long means =
+    inl (subst (λ found. Means (over_blocks app found) reply) (sym (no_draft (files name) 4203522008194 _ refl (bounded (files name)) long)) means)

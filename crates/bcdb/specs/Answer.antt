@@ -1,6 +1,8 @@
 -- What the program means to answer, over whole files: the report of the fold of the blocks on the application.
-use Rattle.std.specs.Prelude.{List, None, Option, Some, [], codes, ◌≡◌, ◌∷◌, ℕ}
-use Rattle.bcdb.specs.Accepted.{application}
+use Rattle.std.specs.Prelude.{Err, List, None, Ok, Option, Result, Some, [], codes, ◌≡◌, ◌∷◌, ℕ}
+use Rattle.bcdb.specs.Accepted.{accepted}
+use Rattle.bcdb.specs.Refusals.{refusal_line}
+use Rattle.bcdb.specs.declared.refusal.Refusal.{Refusal}
 use Rattle.bcdb.specs.declared.status.Status.TheVariants.{AppRefused, BlocksRefused, Done, NoMemory, ReadFault, Usage, WriteFault}
 use Rattle.bcdb.specs.declared.status.Status.{Status}
 use Rattle.chain_file.specs.Draft.{draft}
@@ -29,14 +31,14 @@ over_blocks app None = says BlocksRefused (codes "refused blocks\n")
 over_blocks app (Some blocks) = says Done (report_text (tables_of app) (node_result app blocks ∷ []))
 
 -- the application decides before the blocks
-abbrev pub over_app : Option App → List ℕ → Answer
-over_app None blocks = says AppRefused (codes "refused application\n")
-over_app (Some app) blocks = over_blocks app (draft blocks)
+abbrev pub over_app : Result App Refusal → List ℕ → Answer
+over_app (Err refusal) blocks = says AppRefused (refusal_line refusal)
+over_app (Ok app) blocks = over_blocks app (draft blocks)
 
 -- the words decide first
 abbrev pub over_settings : Option Settings → Files → Answer
 over_settings None files = says Usage (codes "refused usage\n")
-over_settings (Some (Run app blocks)) files = over_app (application (files app)) (files blocks)
+over_settings (Some (Run app blocks)) files = over_app (accepted (files app)) (files blocks)
 
 -- what the words mean over files
 abbrev pub answer : List (List ℕ) → Files → Answer

@@ -1,6 +1,7 @@
 -- The files that the words name: which may be read, and whether reading one of them failed.
-use Rattle.std.specs.Prelude.{IfSome, IsSome, List, None, Option, Some, ℕ, ◌≡◌, ◌⊎◌}
-use Rattle.bcdb.specs.Accepted.{application}
+use Rattle.std.specs.Prelude.{IfSome, List, None, Option, Some, ℕ, ◌≡◌, ◌⊎◌}
+use Rattle.std.specs.Result.{IsOk}
+use Rattle.bcdb.specs.Accepted.{accepted}
 use Rattle.cli_words.specs.declared.settings.Settings.TheVariants.{Run}
 use Rattle.cli_words.specs.declared.settings.Settings.{Settings}
 use Rattle.edge_traits.specs.Causes.{Counts, Rose}
@@ -15,10 +16,10 @@ RoseAtNamed (Some (Run app blocks)) before now = Rose (before app) (now app) ⊎
 abbrev pub RoseInTurn : Option Settings → Files → Counts → Counts → Type 0
 RoseInTurn None files before now = ⊥
 RoseInTurn (Some (Run app blocks)) files before now =
-    Rose (before app) (now app) ⊎ (IsSome (application (files app)) × Rose (before blocks) (now blocks))
+    Rose (before app) (now app) ⊎ (IsOk (accepted (files app)) × Rose (before blocks) (now blocks))
 
 -- the application that the words name may be read, and the blocks once it is accepted
 abbrev pub AllowsNamed : Option Settings → Option Files → (List ℕ → Type 0) → Type 0
 AllowsNamed None told may_read = Unit {0}
 AllowsNamed (Some (Run app blocks)) told may_read =
-    may_read app × (IfSome told (λ files. IsSome (application (files app))) → may_read blocks)
+    may_read app × (IfSome told (λ files. IsOk (accepted (files app))) → may_read blocks)

@@ -1,4 +1,6 @@
+pub mod Refusals
 pub mod Accepted
+pub mod Told
 pub mod Answer
 pub mod Causes
 pub mod Reply

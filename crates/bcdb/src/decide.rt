@@ -1,6 +1,8 @@
 //! What is meant to be answered, from the shelf alone.
-ghost use Rattle.std.specs.Prelude.{◌≡◌, ◌⊎◌, List, ℕ, IfOk, IfSome, IsSome, Some, None, codes, true, Option};
-ghost use Rattle.bcdb.specs.Accepted.{application};
+ghost use Rattle.std.specs.Prelude.{◌≡◌, ◌⊎◌, List, ℕ, IfOk, IfSome, Ok, Some, None, codes, true, Option};
+ghost use Rattle.std.specs.Result.{IsOk};
+ghost use Rattle.bcdb.specs.Accepted.{accepted};
+ghost use Rattle.bcdb.specs.Refusals.{refusal_line};
 ghost use Rattle.bcdb.specs.Answer.{Answer, answer, over_app, over_settings, read_refused, says};
 ghost use Rattle.bcdb.specs.Causes.{AllowsNamed, RoseAtNamed, RoseInTurn};
 ghost use Rattle.bcdb.specs.Reply.{Means, is_of_files, is_reply};
@@ -9,8 +11,11 @@ ghost use Rattle.cli_words.specs.declared.settings.Settings.TheVariants.{Run};
 ghost use Rattle.edge_traits.specs.Causes.{NoneFell, Rose};
 
 use crate::files::{AppFault, LONGEST_APPLICATION, read_application};
+use crate::refusal::{Refusal, TOO_LONG, refusal_line};
 use crate::run::answer_blocks;
 use crate::status::Status;
+use chain_file::LONGEST_DRAFT;
+use chain_file::laws::drafts_are_bounded;
 use cli_words::{Settings, WordsFault, read_words};
 use edge_traits::{FetchFault, Shelf, read_whole};
 use proc_check::Checked;
@@ -32,8 +37,16 @@ pub fn plain(alloc: Global, status: Status, text: &[u8]) -> Result<Reply, NoMemo
     Ok(Reply { status, bytes })
 }
 
-// The greatest number of bytes that are asked of a block file; memory holds fewer.
-const MOST_BYTES: u64 = u64::MAX - 1;
+// The reply that refuses an application.
+fn refuse_app(alloc: Global, refusal: Refusal) -> Result<Reply, NoMemory>
+    ensures { IfOk result (λ reply. Means (says Status.AppRefused (refusal_line refusal)) reply) }
+{
+    let bytes = refusal_line(alloc, refusal)?;
+    Ok(Reply {
+        status: Status::AppRefused,
+        bytes,
+    })
+}
 
 // The reply over an accepted application, once the blocks are read.
 fn read_blocks<S: Shelf>(
@@ -44,21 +57,23 @@ fn read_blocks<S: Shelf>(
 ) -> Result<Reply, NoMemory>
     requires allowed { S.may_read shelf.old name.now }
     ensures later { NoneFell (S.faults shelf.old) (S.faults shelf.new) }
-    ensures told { IfOk result (λ reply. IfSome (S.told shelf.old) (λ files. Means (over_app (Some app.app) (files name.now)) reply
+    ensures told { IfOk result (λ reply. IfSome (S.told shelf.old) (λ files. Means (over_app (Ok app.app) (files name.now)) reply
         ⊎ (Means read_refused reply × Rose (S.faults shelf.old name.now) (S.faults shelf.new name.now)))) }
     ensures read { IfOk result (λ reply. reply.status ≡ Status.ReadFault → Rose (S.faults shelf.old name.now) (S.faults shelf.new name.now)) }
     ensures kind { IfOk result (λ reply. is_of_files reply.status ≡ true) }
 {
-    match read_whole(alloc, shelf, name, MOST_BYTES) {
+    // so that a file with more bytes is none
+    drafts_are_bounded();
+    match read_whole(alloc, shelf, name, LONGEST_DRAFT) {
         Ok(blocks) => answer_blocks(alloc, app, blocks.as_slice()),
         Err(FetchFault::Failed) => plain(alloc, Status::ReadFault, b"refused read\n"),
-        Err(FetchFault::TooLong) => Err(NoMemory),
+        Err(FetchFault::TooLong) => plain(alloc, Status::BlocksRefused, b"refused blocks\n"),
         Err(FetchFault::NoMemory) => Err(NoMemory),
     }
 }
 
 // The reply over the bytes of an application, and then the block file.
-#[tactic(auto, using(crate::proofs::Turns::accepted))]
+#[tactic(auto, using(crate::proofs::Turns::has_turn))]
 fn check_app<S: Shelf>(
     alloc: Global,
     shelf: &mut S,
@@ -67,22 +82,22 @@ fn check_app<S: Shelf>(
     name: &str,
 ) -> Result<Reply, NoMemory>
     requires bytes { IfSome (S.told shelf.old) (λ files. app.now ≡ files app_name.now) }
-    requires allowed { IfSome (S.told shelf.old) (λ files. IsSome (application (files app_name.now))) → S.may_read shelf.old name.now }
+    requires allowed { IfSome (S.told shelf.old) (λ files. IsOk (accepted (files app_name.now))) → S.may_read shelf.old name.now }
     ensures later { NoneFell (S.faults shelf.old) (S.faults shelf.new) }
-    ensures told { IfOk result (λ reply. IfSome (S.told shelf.old) (λ files. Means (over_app (application (files app_name.now)) (files name.now)) reply
-        ⊎ (Means read_refused reply × IsSome (application (files app_name.now)) × Rose (S.faults shelf.old name.now) (S.faults shelf.new name.now)))) }
+    ensures told { IfOk result (λ reply. IfSome (S.told shelf.old) (λ files. Means (over_app (accepted (files app_name.now)) (files name.now)) reply
+        ⊎ (Means read_refused reply × IsOk (accepted (files app_name.now)) × Rose (S.faults shelf.old name.now) (S.faults shelf.new name.now)))) }
     ensures read { IfOk result (λ reply. reply.status ≡ Status.ReadFault → Rose (S.faults shelf.old name.now) (S.faults shelf.new name.now)) }
     ensures kind { IfOk result (λ reply. is_of_files reply.status ≡ true) }
 {
     match read_application(alloc, app) {
         Ok(checked) => read_blocks(alloc, shelf, checked, name),
-        Err(AppFault::Refused) => plain(alloc, Status::AppRefused, b"refused application\n"),
+        Err(AppFault::Refused(refusal)) => refuse_app(alloc, refusal),
         Err(AppFault::NoMemory) => Err(NoMemory),
     }
 }
 
 // The reply over two names.
-#[tactic(auto, using(crate::proofs::Turns::too_long))]
+#[tactic(auto, using(crate::proofs::Turns::too_long_told))]
 fn read_app<S: Shelf>(
     alloc: Global,
     shelf: &mut S,
@@ -90,14 +105,14 @@ fn read_app<S: Shelf>(
     name: &str,
 ) -> Result<Reply, NoMemory>
     requires allowed { AllowsNamed (Some (Run app_name.now name.now)) (S.told shelf.old) (S.may_read shelf.old) }
-    ensures told { IfOk result (λ reply. IfSome (S.told shelf.old) (λ files. Means (over_app (application (files app_name.now)) (files name.now)) reply
+    ensures told { IfOk result (λ reply. IfSome (S.told shelf.old) (λ files. Means (over_app (accepted (files app_name.now)) (files name.now)) reply
         ⊎ (Means read_refused reply × RoseInTurn (Some (Run app_name.now name.now)) files (S.faults shelf.old) (S.faults shelf.new)))) }
     ensures read { IfOk result (λ reply. reply.status ≡ Status.ReadFault → RoseAtNamed (Some (Run app_name.now name.now)) (S.faults shelf.old) (S.faults shelf.new)) }
     ensures kind { IfOk result (λ reply. is_of_files reply.status ≡ true) }
 {
     match read_whole(alloc, shelf, app_name, LONGEST_APPLICATION) {
         Ok(app) => check_app(alloc, shelf, app_name, app.as_slice(), name),
-        Err(FetchFault::TooLong) => plain(alloc, Status::AppRefused, b"refused application\n"),
+        Err(FetchFault::TooLong) => refuse_app(alloc, TOO_LONG),
         Err(FetchFault::Failed) => plain(alloc, Status::ReadFault, b"refused read\n"),
         Err(FetchFault::NoMemory) => Err(NoMemory),
     }

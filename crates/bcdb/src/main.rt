@@ -3,6 +3,7 @@
 
 pub mod decide;
 pub mod files;
+pub mod refusal;
 pub mod run;
 pub mod status;
 #[cfg(test)]

@@ -1,6 +1,6 @@
 //! The blocks of a draft on an application, and their report.
 
-ghost use Rattle.std.specs.Prelude.{◌≡◌, IfOk, Some, [], true};
+ghost use Rattle.std.specs.Prelude.{◌≡◌, IfOk, Ok, Some, [], true};
 ghost use Rattle.bcdb.specs.Answer.{over_blocks, over_app};
 ghost use Rattle.bcdb.specs.Reply.{Means, is_of_files};
 ghost use Rattle.chain_file.specs.Draft.{draft};
@@ -53,7 +53,7 @@ fn report_blocks(alloc: Global, app: &Arc<Checked>, blocks: &List<Block>) -> Res
 
 /// The reply over an accepted application and the bytes of a block file.
 pub fn answer_blocks(alloc: Global, app: Checked, bytes: &[u8]) -> Result<Reply, NoMemory>
-    ensures means { IfOk result (λ reply. Means (over_app (Some app.app) bytes.now) reply) }
+    ensures means { IfOk result (λ reply. Means (over_app (Ok app.app) bytes.now) reply) }
     ensures kind { IfOk result (λ reply. is_of_files reply.status ≡ true) }
     ensures read { IfOk result (λ reply. reply.status ≡ Status.ReadFault → ⊥) }
 {

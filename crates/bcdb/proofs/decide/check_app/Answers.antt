@@ -9,5 +9,5 @@ returns-in-Ok-clause-told g c =
 
 pub returns-in-Err-Refused-clause-told : goal.returns-in-Err-Refused-clause-told
 returns-in-Err-Refused-clause-told g c =
-    if_ok_then c.plain.result _ _ c.plain.ensures (λ reply means.
-    refused_told (g.S.Shelf.told c.args.shelf.now) c.args.app_name.now c.args.name.now c.args.app.now _ reply c.requires.bytes (search rules) means)
+    if_ok_then c.refuse_app.result _ _ c.refuse_app.ensures (λ reply means.
+    refused_told (g.S.Shelf.told c.args.shelf.now) c.args.app_name.now c.args.name.now c.args.app.now c.in-Err-Refused.refusal _ reply c.requires.bytes (search rules) means)

@@ -1,0 +1,26 @@
+-- The line that says why an application is refused.
+use Rattle.std.specs.Prelude.{List, codes, decimal, ◌++◌, ℕ}
+use Rattle.bcdb.specs.declared.refusal.Refusal.{Refusal}
+use Rattle.bcdb.specs.declared.refusal.RefusalKind.TheVariants.{Bad, Syntax, TooLong}
+use Rattle.bcdb.specs.declared.refusal.RefusalKind.{RefusalKind}
+use Rattle.proc_check.specs.declared.fault.BadKind.TheVariants.{KeySet, Limit, NameTwice, NoIndex, UnknownName, WrongCount, WrongKind}
+
+-- what is wrong, by its name
+abbrev pub kind_text : RefusalKind → List ℕ
+kind_text TooLong = codes "TooLong"
+kind_text Syntax = codes "Syntax"
+kind_text (Bad UnknownName) = codes "UnknownName"
+kind_text (Bad NameTwice) = codes "NameTwice"
+kind_text (Bad WrongKind) = codes "WrongKind"
+kind_text (Bad WrongCount) = codes "WrongCount"
+kind_text (Bad KeySet) = codes "KeySet"
+kind_text (Bad NoIndex) = codes "NoIndex"
+kind_text (Bad Limit) = codes "Limit"
+
+-- ` LINE KIND`
+abbrev pub place_text : Refusal → List ℕ
+place_text refusal = codes " " ++ decimal refusal.line ++ codes " " ++ kind_text refusal.kind ++ codes "\n"
+
+-- `refused application LINE KIND`
+abbrev pub refusal_line : Refusal → List ℕ
+refusal_line refusal = codes "refused application" ++ place_text refusal

@@ -1,0 +1,79 @@
+//! Why an application is refused, and the line that says so.
+
+ghost use Rattle.std.specs.Prelude.{◌≡◌, ◌++◌, IfOk, OnOk};
+ghost use Rattle.bcdb.specs.Refusals.{kind_text, place_text, refusal_line};
+
+use literals::push_number;
+use proc_check::BadKind;
+use rel_base::{List, NoMemory};
+use std::alloc::Global;
+
+/// What is wrong with an application.
+#[derive(Clone, Copy, Debug, PartialEq, Eq)]
+pub enum RefusalKind {
+    /// It has more bytes than an application may have.
+    TooLong,
+    /// It is not in the grammar.
+    Syntax,
+    /// It is in the grammar, but not well typed.
+    Bad(BadKind),
+}
+
+/// Why an application is refused: the line on which it is wrong, from 1, and what is wrong there. Of one that is too long the line
+/// is 0.
+#[derive(Clone, Copy, Debug, PartialEq, Eq)]
+pub struct Refusal {
+    pub line: u32,
+    pub kind: RefusalKind,
+}
+
+/// Why an application with too many bytes is refused.
+pub const TOO_LONG: Refusal = Refusal {
+    line: 0,
+    kind: RefusalKind::TooLong,
+};
+
+// The word for what is wrong.
+fn kind_text(kind: RefusalKind) -> &'static [u8]
+    ensures { result.now ≡ kind_text kind }
+{
+    match kind {
+        RefusalKind::TooLong => b"TooLong",
+        RefusalKind::Syntax => b"Syntax",
+        RefusalKind::Bad(BadKind::UnknownName) => b"UnknownName",
+        RefusalKind::Bad(BadKind::NameTwice) => b"NameTwice",
+        RefusalKind::Bad(BadKind::WrongKind) => b"WrongKind",
+        RefusalKind::Bad(BadKind::WrongCount) => b"WrongCount",
+        RefusalKind::Bad(BadKind::KeySet) => b"KeySet",
+        RefusalKind::Bad(BadKind::NoIndex) => b"NoIndex",
+        RefusalKind::Bad(BadKind::Limit) => b"Limit",
+    }
+}
+
+// Writes some bytes at the end.
+fn push(out: &mut Vec<u8>, bytes: &[u8]) -> Result<(), NoMemory>
+    ensures { OnOk result (out.new.items ≡ out.old.items ++ bytes.now) }
+{
+    out.extend_from_slice(bytes)?;
+    Ok(())
+}
+
+// Writes what follows the word for an application at the end.
+fn push_place(out: &mut Vec<u8>, refusal: Refusal) -> Result<(), NoMemory>
+    ensures { OnOk result (out.new.items ≡ out.old.items ++ place_text refusal) }
+{
+    push(out, b" ")?;
+    push_number(out, u64::from(refusal.line))?;
+    push(out, b" ")?;
+    push(out, kind_text(refusal.kind))?;
+    push(out, b"\n")
+}
+
+/// The line that says why an application is refused.
+pub fn refusal_line(alloc: Global, refusal: Refusal) -> Result<List<u8>, NoMemory>
+    ensures { IfOk result (λ bytes. bytes ≡ refusal_line refusal) }
+{
+    let mut out = b"refused application".to_vec(alloc)?;
+    push_place(&mut out, refusal)?;
+    Ok(List::from_vec(out))
+}

@@ -1,0 +1,1 @@
+proc p() { if true { if true { if true { if true { if true { if true { if true { if true { if true { if true { if true { if true { if true { if true { if true { } } } } } } } } } } } } } } } }

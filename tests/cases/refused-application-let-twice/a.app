@@ -1,0 +1,4 @@
+proc p() {
+  let a = 1;
+  let a = 2;
+}

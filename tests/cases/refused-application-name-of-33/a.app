@@ -1,0 +1,1 @@
+proc p() { let aaaaaaaaaaaaaaaaaaaaaaaaaaaaaaaaa = 1; }

@@ -1,0 +1,1 @@
+proc p() { let now = 1; }

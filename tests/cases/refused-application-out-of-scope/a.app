@@ -1,0 +1,4 @@
+proc p(t bool) {
+  if t { let a = 1; }
+  let b = a;
+}

@@ -1,0 +1,1 @@
+proc p() { let a = 1 + true; }

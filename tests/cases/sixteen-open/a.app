@@ -1,0 +1,2 @@
+table num (id int) key (id);
+proc p() { insert num (((((((((((((((((1))))))))))))))))); }
