@@ -1,0 +1,5 @@
+use Rattle.cli_words.proofs.Orders.{only_runs}
+use Rattle.cli_words.proofs.laws.only_runs.Goals as goal
+
+pub returns : goal.returns
+returns c = only_runs
