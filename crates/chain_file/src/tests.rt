@@ -1,6 +1,9 @@
-use super::{DraftFault, read_draft};
+use super::draft::MOST_BLOCKS;
+use super::{DraftFault, LONGEST_DRAFT, read_draft};
+use proc_syntax::call::MOST_TRANSACTIONS;
 use std::alloc::Global;
 use std::test::Fail;
+use tx_text::MOST_LINE_BYTES;
 
 const SMALL: &[u8] =
     b"draft 1\nblock 1\ntx a1 0 add 1 \"ann\" 50\ntx a2 0 add 2 \"b o b\" 20\nend\nblock 2\nend\n";
@@ -79,5 +82,13 @@ fn crowds(rt: HostRuntime) -> Result<(), Fail> {
     let alloc = rt.alloc();
     assert!(rt; is_one_block(alloc, &crowded(alloc, 1024)?, 1024));
     assert!(rt; is_bad(alloc, &crowded(alloc, 1025)?));
+    Ok(())
+}
+
+#[test]
+fn longest(rt: HostRuntime) -> Result<(), Fail> {
+    // The header and what may follow the last newline, and for each block its first line, its transactions and its end.
+    let lines = 2 + MOST_BLOCKS * (MOST_TRANSACTIONS + 2);
+    assert_eq!(rt; LONGEST_DRAFT, lines as u64 * (MOST_LINE_BYTES as u64 + 1));
     Ok(())
 }

@@ -1,6 +1,6 @@
 //! The fields of a line.
 
-ghost use Rattle.std.specs.Prelude.{◌≡◌, ◌<◌, ◌≤◌, length, cond, Some, None};
+ghost use Rattle.std.specs.Prelude.{◌≡◌, ◌<◌, ◌≤◌, length, cond, Some, None, IsErrOf};
 ghost use Rattle.std.specs.List.{position_or_len};
 ghost use Rattle.literals.specs.Reads.{Reads, Gives, found_text};
 ghost use Rattle.rel_base.specs.Text.{has_id_form, has_name_form};
@@ -19,7 +19,8 @@ pub fn strip<'a>(front: &[u8], bytes: &'a [u8]) -> Option<&'a [u8]>
 
 /// The same, as a part of a line that has to be there.
 pub fn skip<'a>(front: &[u8], bytes: &'a [u8]) -> Result<&'a [u8], LiteralFault>
-    ensures { GivesRest result (after front.now bytes.now) }
+    ensures rest { GivesRest result (after front.now bytes.now) }
+    ensures judged { IsErrOf result LiteralFault.NoMemory → ⊥ }
 {
     match strip(front, bytes) {
         Some(rest) => Ok(rest),

@@ -1,6 +1,6 @@
 //! Values as text.
 
-ghost use Rattle.std.specs.Prelude.{◌≡◌, ◌∷◌, ◌++◌, ◌<◌, ◌≤◌, length, cond, Some, None, OnOk, OnErr, IfOk, codes, true};
+ghost use Rattle.std.specs.Prelude.{◌≡◌, ◌∷◌, ◌++◌, ◌<◌, ◌≤◌, length, cond, Some, None, OnOk, OnErr, IfOk, IsErrOf, codes, true};
 ghost use Rattle.std.specs.Fmt.{signed_decimal};
 ghost use Rattle.std.specs.List.{AllByRecursion};
 ghost use Rattle.std.specs.Option.{option_and_then};
@@ -18,7 +18,8 @@ use std::alloc::Global;
 
 /// Reads the number below 2^64 at the front of the bytes.
 pub fn read_u64(bytes: &[u8]) -> Result<(u64, &[u8]), LiteralFault>
-    ensures { Reads result (u64_at bytes.now) }
+    ensures number { Reads result (u64_at bytes.now) }
+    ensures judged { IsErrOf result LiteralFault.NoMemory → ⊥ }
 {
     match read_number(bytes) {
         Some((number, rest)) => Ok((number, rest)),
