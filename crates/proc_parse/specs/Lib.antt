@@ -9,3 +9,5 @@ pub mod Statements
 pub mod Grammar
 pub mod Shorter
 pub mod Faults
+pub mod Printed
+pub mod Unlined

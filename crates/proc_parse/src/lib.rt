@@ -7,10 +7,15 @@ mod lexer;
 mod names;
 mod parser;
 mod phrase;
+mod printed_expressions;
+mod printed_statements;
+mod printer;
 mod statements;
 #[cfg(test)]
 mod tests;
 mod token;
+mod writing;
 
 pub use parser::{ParseFault, parse};
+pub use printer::print;
 pub use token::{Lexeme, Sign, Token, Word};
