@@ -1,6 +1,6 @@
 //! Tables in memory, as an example of a snapshot.
 
-ghost use Rattle.std.specs.Prelude.{◌≡◌, true, IfOk, IfSome, OnOk, All, Some, None, pos};
+ghost use Rattle.std.specs.Prelude.{◌≡◌, [], true, IfOk, IfSome, OnOk, All, Some, None, pos};
 ghost use Rattle.std.specs.BTreeMap.{IsOrdered};
 ghost use Rattle.std.specs.FinMap.{from_entries};
 ghost use Rattle.rel_base.specs.Tables.{ref_cmp, rows_among, put_entry, put_write};
@@ -87,7 +87,8 @@ fn put_write(
 impl<'a> RowTables<'a> {
     /// Tables without rows.
     pub fn new(alloc: Global, declared: &'a List<TableDef>) -> RowTables<'a>
-        ensures { result.declared.now ≡ declared.now }
+        ensures declared { result.declared.now ≡ declared.now }
+        ensures rows { result.rows.entries ≡ [] }
     {
         RowTables {
             declared,
