@@ -1,4 +1,5 @@
 use super::parser::{ParseFault, parse};
+use super::printer::print;
 use proc_syntax::{App, Expr, Stmt};
 use rel_base::Value;
 use std::alloc::Global;
@@ -224,6 +225,34 @@ fn faults_have_places(rt: HostRuntime) -> Result<(), Fail> {
         ("proc p() { a.b = 1; }", 1, 13),
     ] {
         assert_eq!(rt; fault_of(alloc, text)?, (line, col), "at {text}");
+    }
+    Ok(())
+}
+
+/// Whether a text is printed as it is written.
+fn comes_back(alloc: Global, text: &str) -> Result<bool, ParseFault> {
+    if text.len() > 10_000 {
+        return Ok(false);
+    }
+    let app = parse(alloc, text.as_bytes())?;
+    let printed = print(alloc, &app)?;
+    Ok(printed.as_slice() == text.as_bytes())
+}
+
+#[test]
+fn what_is_printed_is_read_back(rt: HostRuntime) -> Result<(), Fail> {
+    let alloc = rt.alloc();
+    for text in [
+        "",
+        "table acct (id int, owner text, bal int) key (id) index (owner);\n",
+        "table lot (site text, nr int, tag bytes, held bool) key (site, nr);\nproc none() {\n}\n",
+        "proc p(a int, b text) {\n  let c = (1 + 2) * -3 - -a;\n  c = c / 2 % 5;\n}\n",
+        "proc p(t text) {\n  insert lot (t ++ \"\\\"z\\\\\", 7, x\"0aff\", not true or false and 1 <= 2);\n}\n",
+        "proc p(f int) {\n  get a from acct key (f) {\n    if a.bal < 3 {\n      fail \"funds\";\n    } else {\n      update acct key (f) set bal = a.bal - 3, owner = \"n\";\n    }\n  } else {\n    delete acct key (f);\n  }\n}\n",
+        "proc p() {\n  for r in lot span on site {\n  }\n  for r in lot span on site from \"a\" to \"b\" {\n    if r.held {\n    }\n  }\n  for r in lot span on nr to 5 {\n  }\n}\n",
+        "proc p() {\n  let a = (1 + 1 + 1 + 1 + 1 + 1 + 1 + 1 + 1 + 1 + 1 + 1 + 1 + 1 + 1 + 1 + 1 + 1 + 1 + 1 + 1 + 1 + 1 + 1 + 1 + 1 + 1 + 1 + 1 + 1 + 1 + 1 + 1) + 1 + 1 + 1 + 1 + 1 + 1 + 1 + 1 + 1 + 1 + 1 + 1 + 1 + 1 + 1 + 1 + 1 + 1 + 1 + 1 + 1 + 1 + 1 + 1 + 1 + 1 + 1 + 1 + 1 + 1 + 1 + 1;\n}\n",
+    ] {
+        assert!(rt; comes_back(alloc, text)?, "at {text}");
     }
     Ok(())
 }
