@@ -333,6 +333,10 @@ tokens_last (suc steps) place [] h = refl
 tokens_last (suc steps) place (b ∷ bs) h =
     piece_last (piece_at (b ∷ bs)).0 place _ (λ _. tokens_last steps _ (piece_at (b ∷ bs)).1 (omega (arith, piece_shorter b bs, h)))
 
+-- where an application is not read, something is left
+pub some_left : (text : List ℕ) (rest : List Token) → application (tokens_of text) ≡ Err rest → has_last rest ≡ true
+some_left text rest e = subst SomeLeft e (application_left (tokens_of text) (tokens_last (suc (length text)) start text (omega arith)))
+
 some_refused : (ts rest : List Token) → application ts ≡ Err rest → has_last rest ≡ true → IsRefused ts (place_of rest).line (place_of rest).col
 some_refused ts [] e h = absurd cc
 some_refused ts (t ∷ rest) e h =
@@ -350,4 +354,4 @@ some_refused ts (t ∷ rest) e h =
 
 -- where an application is not read, never continuation allows the token at the place
 pub text_refused : (text : List ℕ) (rest : List Token) → application (tokens_of text) ≡ Err rest → IsRefused (tokens_of text) (place_of rest).line (place_of rest).col
-text_refused text rest e = some_refused (tokens_of text) rest e (subst SomeLeft e (application_left (tokens_of text) (tokens_last (suc (length text)) start text (omega arith))))
+text_refused text rest e = some_refused (tokens_of text) rest e (some_left text rest e)

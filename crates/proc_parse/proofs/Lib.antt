@@ -5,3 +5,7 @@ pub mod Lists
 pub mod Local
 pub mod LocalRules
 pub mod Pieces
+pub mod Viable
+pub mod ViableForms
+pub mod ViableRules
+pub mod ViableText

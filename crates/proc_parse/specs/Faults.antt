@@ -7,7 +7,7 @@ use Rattle.proc_parse.specs.declared.parser.ParseFault.{ParseFault}
 use Rattle.proc_parse.specs.declared.parser.ParseFault.TheVariants as fault
 use Rattle.proc_parse.specs.Tokens.{start, tokens_of}
 use Rattle.proc_parse.specs.Reading.{Read}
-use Rattle.proc_parse.specs.Grammar.{application}
+use Rattle.proc_parse.specs.Grammar.{application, deeper_application}
 
 -- the place of the first of some tokens
 abbrev pub place_of : List Token → Place
@@ -31,6 +31,23 @@ pub record IsRefused (ts : List Token) (line col : ℕ) : Type 0 where
   pub has_line : token.line ≡ line
   pub has_col : token.col ≡ col
   pub blocked : (any : List Token) → application (front ++ (token ∷ any)) ≡ Err (token ∷ any)
+
+-- tokens are the front of an application, but that its blocks may be one deeper: so where a block is too deep, the brace that opens it is the first
+-- token that nothing allows, and not the word before it
+pub record IsViable (front : List Token) : Type 0 where
+  pub more : List Token
+  pub app : App
+  pub read : deeper_application (front ++ more) ≡ Ok (app, [])
+
+-- a token of these stands at the place, behind such a front
+pub record IsBehindViable (ts : List Token) (line col : ℕ) : Type 0 where
+  pub front : List Token
+  pub token : Token
+  pub behind : List Token
+  pub split : ts ≡ front ++ (token ∷ behind)
+  pub has_line : token.line ≡ line
+  pub has_col : token.col ≡ col
+  pub viable : IsViable front
 
 -- what is said of a place that is answered
 abbrev pub IfSyntax : Result App ParseFault → (ℕ → ℕ → Type 0) → Type 0

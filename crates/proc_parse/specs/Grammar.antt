@@ -2,6 +2,7 @@
 use Rattle.std.specs.Prelude.{ℕ, List, [], Bool, true, false, Option, Some, None, Ok, Err}
 use Rattle.proc_syntax.specs.declared.tree.ColumnText.{ColumnText}
 use Rattle.proc_syntax.specs.declared.tree.TableText.{TableText}
+use Rattle.proc_syntax.specs.declared.tree.Stmt.{Stmt}
 use Rattle.proc_syntax.specs.declared.tree.ProcDef.{ProcDef}
 use Rattle.proc_syntax.specs.declared.tree.App.{App}
 use Rattle.proc_parse.specs.declared.token.Lexeme.{Lexeme}
@@ -13,7 +14,7 @@ use Rattle.proc_parse.specs.Words.{is_word, is_sign}
 use Rattle.proc_parse.specs.Reading.{Read, Reader, ◌>>=◌, ◌>>◌, done, behind, expect}
 use Rattle.proc_parse.specs.Lists.{list_of, many_of}
 use Rattle.proc_parse.specs.Phrases.{the_word, the_sign, named, column, columns, names}
-use Rattle.proc_parse.specs.Statements.{block}
+use Rattle.proc_parse.specs.Statements.{block, block_at}
 
 -- table = "table" name "(" col ("," col)* ")" "key" "(" name ("," name)* ")" ["index" "(" name ("," name)* ")"] ";"
 abbrev pub table : Reader TableText
@@ -31,18 +32,28 @@ abbrev pub parameters : Reader (List ColumnText)
 parameters = the_sign sign.Open >> behind (is_sign sign.Close) (done []) more_parameters
 
 -- proc = "proc" name "(" [col ("," col)*] ")" block
-abbrev pub procedure : Reader ProcDef
-procedure = the_word word.Proc >> named >>= λ name. parameters >>= λ params. block >>= λ body.
+abbrev pub procedure_of : Reader (List Stmt) → Reader ProcDef
+procedure_of block = the_word word.Proc >> named >>= λ name. parameters >>= λ params. block >>= λ body.
     done (record { name = name; params = params; body = body })
+
+abbrev pub procedure : Reader ProcDef
+procedure = procedure_of block
 
 abbrev pub is_end : Lexeme → Bool
 is_end lexeme.End = true
 is_end _ = false
 
 -- app = table* proc*, and nothing more
-abbrev pub application : Reader App
-application = many_of (is_word word.Table) table >>= λ tables. many_of (is_word word.Proc) procedure >>= λ procs.
+abbrev pub application_of : Reader ProcDef → Reader App
+application_of procedure = many_of (is_word word.Table) table >>= λ tables. many_of (is_word word.Proc) procedure >>= λ procs.
     expect is_end >> done (record { tables = tables; procs = procs })
+
+abbrev pub application : Reader App
+application = application_of procedure
+
+-- the same where blocks are at most 17 deep
+abbrev pub deeper_application : Reader App
+deeper_application = application_of (procedure_of (block_at 17))
 
 abbrev pub tree_of : {A : Type 0} → Read A → Option A
 tree_of (Ok x) = Some x.0

@@ -1,5 +1,5 @@
 -- The text of a tree: one declaration or statement to a line, each block indented by two spaces, the parentheses of the tree and no others.
-use Rattle.std.specs.Prelude.{ℕ, Bool, cond, List, [], ◌∷◌, ◌++◌, Option, Some, None, map, flat_map, codes}
+use Rattle.std.specs.Prelude.{ℕ, cond, List, [], ◌∷◌, ◌++◌, Option, Some, None, map, flat_map, codes}
 use Rattle.std.specs.Fmt.{signed_decimal}
 use Rattle.literals.specs.Text.{text_literal}
 use Rattle.literals.specs.Bytes.{bytes_literal}

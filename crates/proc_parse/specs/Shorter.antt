@@ -124,7 +124,7 @@ shortens_list_from item short (suc steps) items =
 pub shortens_list : {A : Type 0} → (item : Reader A) → Shortens item → Shortens (list_of item)
 shortens_list item short = record { shorter = λ ts. (shortens_list_from item short (length ts) []).shorter ts }
 
-keeps_many_from : {A : Type 0} → (test : Lexeme → Bool) (item : Reader A) → Shortens item → (steps : ℕ) (items : List A) → Keeps (many_from test item steps items)
+pub keeps_many_from : {A : Type 0} → (test : Lexeme → Bool) (item : Reader A) → Shortens item → (steps : ℕ) (items : List A) → Keeps (many_from test item steps items)
 keeps_many_from test item short zero items = keeps_done items
 keeps_many_from test item short (suc steps) items =
     keeps_before test _ _ (keeps_then item _ (keeps_of item short) (λ x. keeps_many_from test item short steps (items ++ x ∷ []))) (keeps_done items)
@@ -189,11 +189,11 @@ pub record ShortInner (i : Inner) : Type 0 where
   pub nots : Shortens i.nots
   pub parens : Shortens i.parens
 
-shortens_field : Shortens name_or_field
+pub shortens_field : Shortens name_or_field
 shortens_field = shortens_then named _ shortens_named
     (λ name. keeps_behind (is_sign sign.Dot) _ _ (keeps_then named _ (keeps_of _ shortens_named) (λ column. keeps_done (expr.Field name column))) (keeps_done (expr.Var name)))
 
-shortens_atom : (i : Inner) → ShortInner i → Shortens (atom_of i)
+pub shortens_atom : (i : Inner) → ShortInner i → Shortens (atom_of i)
 shortens_atom i s = shortens_before (is_sign sign.Open) i.parens _ s.parens (shortens_before is_name name_or_field literal shortens_field (shortens_one _))
 
 shortens_unary : (i : Inner) → ShortInner i → Shortens (unary_of i)
@@ -202,7 +202,7 @@ shortens_unary i s = shortens_before (is_sign sign.Minus) i.minus (atom_of i) s.
 shortens_sum : (i : Inner) → ShortInner i → Shortens (sum_of i)
 shortens_sum i s = shortens_chain sum_op (term_of i) (shortens_chain term_op (unary_of i) (shortens_unary i s))
 
-shortens_comparison : (i : Inner) → ShortInner i → Shortens (comparison_of i)
+pub shortens_comparison : (i : Inner) → ShortInner i → Shortens (comparison_of i)
 shortens_comparison i s = shortens_then (sum_of i) _ (shortens_sum i s)
     (λ left. keeps_op comparison_op _ left (λ o. keeps_then (sum_of i) _ (keeps_of _ (shortens_sum i s)) (λ right. keeps_done (expr.Two o left right))))
 
@@ -220,7 +220,7 @@ short_deeper i s = record {
       (λ line. keeps_then (expression_of i) _ (keeps_of _ (shortens_whole i s)) (λ e. keeps_sign sign.Close _ (keeps_done (expr.Paren e line))));
 }
 
-short_inner : (more : ℕ) → ShortInner (inner more)
+pub short_inner : (more : ℕ) → ShortInner (inner more)
 short_inner zero = record { minus = shortens_refuse Expr; nots = shortens_refuse Expr; parens = shortens_refuse Expr }
 short_inner (suc more) = short_deeper (inner more) (short_inner more)
 

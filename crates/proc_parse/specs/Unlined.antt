@@ -1,5 +1,5 @@
 -- Trees without their line numbers: each line is 0.
-use Rattle.std.specs.Prelude.{ℕ, List, map, Option, Some, None}
+use Rattle.std.specs.Prelude.{map}
 use Rattle.std.specs.Option.{option_map}
 use Rattle.proc_syntax.specs.declared.tree.Named.{Named}
 use Rattle.proc_syntax.specs.declared.tree.ColumnText.{ColumnText}

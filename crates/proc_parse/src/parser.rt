@@ -3,7 +3,7 @@
 ghost use Rattle.std.specs.Prelude.{◌≡◌, ◌<◌, ◌-◌, ◌^◌, length, Some, None, IfOk};
 ghost use Rattle.proc_parse.specs.Tokens.{tokens_of};
 ghost use Rattle.proc_parse.specs.Grammar.{app_of};
-ghost use Rattle.proc_parse.specs.Faults.{place_of, fault_at, IfSyntax, IsRefused};
+ghost use Rattle.proc_parse.specs.Faults.{place_of, fault_at, IfSyntax, IsBehindViable, IsRefused};
 
 use crate::declarations::application;
 use crate::lexer::{Place, tokens};
@@ -64,6 +64,8 @@ pub fn parse(alloc: Global, text: &[u8]) -> Result<App, ParseFault>
     ensures place { IfSyntax result (λ line col. fault_at text.now ≡ Some (record { line = line; col = col })) }
     // A token stands at that place that no continuation of the tokens before it allows.
     ensures refused { IfSyntax result (λ line col. IsRefused (tokens_of text.now) line col) }
+    // The tokens before it go on to an application, of which blocks may be one deeper: it is the first that nothing allows.
+    ensures viable { IfSyntax result (λ line col. IsBehindViable (tokens_of text.now) line col) }
 {
     let tokens = tokens(alloc, text)?;
     match application(alloc, tokens.as_slice()) {
