@@ -12,6 +12,8 @@ mod printed_statements;
 mod printer;
 mod statements;
 #[cfg(test)]
+mod syntax_cases;
+#[cfg(test)]
 mod tests;
 mod token;
 mod writing;

@@ -1,7 +1,8 @@
 use super::parser::{ParseFault, parse};
 use super::printer::print;
+use super::syntax_cases::{EXPRESSIONS, LIMITS, PROCEDURES, RESERVED, STATEMENTS, TABLES, TOKENS};
 use proc_syntax::{App, Expr, Stmt};
-use rel_base::Value;
+use rel_base::{List, NoMemory, Value};
 use std::alloc::Global;
 use std::test::Fail;
 
@@ -229,30 +230,152 @@ fn faults_have_places(rt: HostRuntime) -> Result<(), Fail> {
     Ok(())
 }
 
-/// Whether a text is printed as it is written.
-fn comes_back(alloc: Global, text: &str) -> Result<bool, ParseFault> {
-    if text.len() > 10_000 {
-        return Ok(false);
+/// The text of a case.
+fn text_of(alloc: Global, case: &str) -> Result<Vec<u8>, NoMemory> {
+    let mut text = Vec::new(alloc);
+    for byte in case.as_bytes() {
+        match *byte {
+            b'@' => {}
+            b'$' => text.push(b'\n')?,
+            b'`' => text.push(b'\t')?,
+            other => text.push(other)?,
+        }
     }
-    let app = parse(alloc, text.as_bytes())?;
-    let printed = print(alloc, &app)?;
-    Ok(printed.as_slice() == text.as_bytes())
+    Ok(text)
+}
+
+/// The place of a case's mark, or line 0 where there is none.
+fn mark_of(case: &str) -> (u32, u32) {
+    let mut line: u32 = 1;
+    let mut col: u32 = 1;
+    for byte in case.as_bytes() {
+        match *byte {
+            b'@' => return (line, col),
+            b'$' => {
+                line = line.saturating_add(1);
+                col = 1;
+            }
+            _ => col = col.saturating_add(1),
+        }
+    }
+    (0, 0)
+}
+
+/// The place of the fault of some bytes, or line 0 where there is none.
+fn fault_in(alloc: Global, text: &[u8]) -> Result<(u32, u32), ParseFault> {
+    if text.len() > 100_000 {
+        return Ok((0, 0));
+    }
+    match parse(alloc, text) {
+        Ok(_) => Ok((0, 0)),
+        Err(ParseFault::Syntax { line, col }) => Ok((line, col)),
+        Err(ParseFault::NoMemory) => Err(ParseFault::NoMemory),
+    }
+}
+
+/// The first case of a table whose fault is not at its mark, if there is one.
+fn first_wrong<'a>(alloc: Global, table: &'a str) -> Result<Option<&'a str>, ParseFault> {
+    for case in table.lines() {
+        let text = text_of(alloc, case)?;
+        if fault_in(alloc, text.as_slice())? != mark_of(case) {
+            return Ok(Some(case));
+        }
+    }
+    Ok(None)
 }
 
 #[test]
-fn what_is_printed_is_read_back(rt: HostRuntime) -> Result<(), Fail> {
+fn faults_are_at_their_marks(rt: HostRuntime) -> Result<(), Fail> {
     let alloc = rt.alloc();
-    for text in [
-        "",
-        "table acct (id int, owner text, bal int) key (id) index (owner);\n",
-        "table lot (site text, nr int, tag bytes, held bool) key (site, nr);\nproc none() {\n}\n",
-        "proc p(a int, b text) {\n  let c = (1 + 2) * -3 - -a;\n  c = c / 2 % 5;\n}\n",
-        "proc p(t text) {\n  insert lot (t ++ \"\\\"z\\\\\", 7, x\"0aff\", not true or false and 1 <= 2);\n}\n",
-        "proc p(f int) {\n  get a from acct key (f) {\n    if a.bal < 3 {\n      fail \"funds\";\n    } else {\n      update acct key (f) set bal = a.bal - 3, owner = \"n\";\n    }\n  } else {\n    delete acct key (f);\n  }\n}\n",
-        "proc p() {\n  for r in lot span on site {\n  }\n  for r in lot span on site from \"a\" to \"b\" {\n    if r.held {\n    }\n  }\n  for r in lot span on nr to 5 {\n  }\n}\n",
-        "proc p() {\n  let a = (1 + 1 + 1 + 1 + 1 + 1 + 1 + 1 + 1 + 1 + 1 + 1 + 1 + 1 + 1 + 1 + 1 + 1 + 1 + 1 + 1 + 1 + 1 + 1 + 1 + 1 + 1 + 1 + 1 + 1 + 1 + 1 + 1) + 1 + 1 + 1 + 1 + 1 + 1 + 1 + 1 + 1 + 1 + 1 + 1 + 1 + 1 + 1 + 1 + 1 + 1 + 1 + 1 + 1 + 1 + 1 + 1 + 1 + 1 + 1 + 1 + 1 + 1 + 1 + 1;\n}\n",
+    for table in [
+        TABLES,
+        PROCEDURES,
+        RESERVED,
+        STATEMENTS,
+        EXPRESSIONS,
+        LIMITS,
+        TOKENS,
     ] {
-        assert!(rt; comes_back(alloc, text)?, "at {text}");
+        assert_eq!(rt; first_wrong(alloc, table)?, None);
+    }
+    Ok(())
+}
+
+/// The print of the application that some bytes are, if they are one.
+fn print_of(alloc: Global, text: &[u8]) -> Result<Option<List<u8>>, ParseFault> {
+    if text.len() > 100_000 {
+        return Ok(None);
+    }
+    match parse(alloc, text) {
+        Ok(app) => Ok(Some(print(alloc, &app)?)),
+        Err(ParseFault::Syntax { .. }) => Ok(None),
+        Err(ParseFault::NoMemory) => Err(ParseFault::NoMemory),
+    }
+}
+
+/// Whether the print of a case's application is read back and has the same print, if its text is an application.
+fn comes_back(alloc: Global, case: &str) -> Result<bool, ParseFault> {
+    let text = text_of(alloc, case)?;
+    let Some(first) = print_of(alloc, text.as_slice())? else {
+        return Ok(true);
+    };
+    match print_of(alloc, first.as_slice())? {
+        Some(second) => Ok(second == first),
+        None => Ok(false),
+    }
+}
+
+/// The first case of a table whose print does not come back, if there is one.
+fn first_lost<'a>(alloc: Global, table: &'a str) -> Result<Option<&'a str>, ParseFault> {
+    for case in table.lines() {
+        if !comes_back(alloc, case)? {
+            return Ok(Some(case));
+        }
+    }
+    Ok(None)
+}
+
+#[test]
+fn prints_are_read_back(rt: HostRuntime) -> Result<(), Fail> {
+    let alloc = rt.alloc();
+    for table in [TABLES, PROCEDURES, STATEMENTS, EXPRESSIONS, LIMITS, TOKENS] {
+        assert_eq!(rt; first_lost(alloc, table)?, None);
+    }
+    Ok(())
+}
+
+#[test]
+fn prints_have_lines(rt: HostRuntime) -> Result<(), Fail> {
+    let alloc = rt.alloc();
+    for (text, want) in [
+        ("", ""),
+        (
+            "table acct(id int,owner text,bal int)key(id)index(owner);proc p(){}",
+            "table acct (id int, owner text, bal int) key (id) index (owner);\nproc p() {\n}\n",
+        ),
+        (
+            "proc p(f int) { if (f<1) { fail \"a\\\"\"; } else { get a from acct key (f) { update acct key (f) set bal = -(-a.bal), owner = \"x\"; } else { } } }",
+            "proc p(f int) {\n  if (f < 1) {\n    fail \"a\\\"\";\n  } else {\n    get a from acct key (f) {\n      update acct key (f) set bal = -(-a.bal), owner = \"x\";\n    } else {\n    }\n  }\n}\n",
+        ),
+        (
+            "proc p() { for r in acct span on id from 1 to 9 { delete acct key (r.id); } for r in acct span on id { } }",
+            "proc p() {\n  for r in acct span on id from 1 to 9 {\n    delete acct key (r.id);\n  }\n  for r in acct span on id {\n  }\n}\n",
+        ),
+        (
+            "proc p() { let a = not (1 = 1 or 1 != 1 and 1 <= 1); a = 1 - 1 * 1 / 1 % 1; a = \"\" ++ x\"00ff\"; insert t (true, false); }",
+            "proc p() {\n  let a = not (1 = 1 or 1 != 1 and 1 <= 1);\n  a = 1 - 1 * 1 / 1 % 1;\n  a = \"\" ++ x\"00ff\";\n  insert t (true, false);\n}\n",
+        ),
+        (
+            "proc p() { let a = (1 + 1 + 1 + 1 + 1 + 1 + 1 + 1 + 1 + 1 + 1 + 1 + 1 + 1 + 1 + 1 + 1 + 1 + 1 + 1 + 1 + 1 + 1 + 1 + 1 + 1 + 1 + 1 + 1 + 1 + 1 + 1 + 1) + 1 + 1 + 1 + 1 + 1 + 1 + 1 + 1 + 1 + 1 + 1 + 1 + 1 + 1 + 1 + 1 + 1 + 1 + 1 + 1 + 1 + 1 + 1 + 1 + 1 + 1 + 1 + 1 + 1 + 1 + 1 + 1; }",
+            "proc p() {\n  let a = (1 + 1 + 1 + 1 + 1 + 1 + 1 + 1 + 1 + 1 + 1 + 1 + 1 + 1 + 1 + 1 + 1 + 1 + 1 + 1 + 1 + 1 + 1 + 1 + 1 + 1 + 1 + 1 + 1 + 1 + 1 + 1 + 1) + 1 + 1 + 1 + 1 + 1 + 1 + 1 + 1 + 1 + 1 + 1 + 1 + 1 + 1 + 1 + 1 + 1 + 1 + 1 + 1 + 1 + 1 + 1 + 1 + 1 + 1 + 1 + 1 + 1 + 1 + 1 + 1;\n}\n",
+        ),
+    ] {
+        let printed = print_of(alloc, text.as_bytes())?;
+        let is_right = match printed {
+            Some(bytes) => bytes.as_slice() == want.as_bytes(),
+            None => false,
+        };
+        assert!(rt; is_right, "at {text}");
     }
     Ok(())
 }
