@@ -10,4 +10,3 @@ pub mod Grammar
 pub mod Shorter
 pub mod Faults
 pub mod Printed
-pub mod Unlined
