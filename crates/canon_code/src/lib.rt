@@ -1,0 +1,22 @@
+//! One code in bytes for each value, row and write, so that nodes can compare what they hold by digests.
+//!
+//! Each `put_` call writes the code of a thing at the end of some bytes. Each `read_` call reads the thing whose code stands at
+//! the front of some bytes, and answers what follows; a `get_` call answers the length of the code instead.
+#![tactic(auto)]
+
+pub mod fault;
+pub mod laws;
+pub mod number;
+pub mod row;
+pub mod short;
+#[cfg(test)]
+mod tests;
+pub mod value;
+pub mod write;
+
+pub use fault::CodeFault;
+pub use number::{get_u32, get_u64, put_u32, put_u64, read_u32, read_u64};
+pub use row::{MOST_VALUES, get_row, put_row, read_row};
+pub use short::{put_blob, put_text, read_blob, read_text};
+pub use value::{get_value, put_value, read_value};
+pub use write::{get_write, put_write, read_write};

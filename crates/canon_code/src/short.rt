@@ -1,0 +1,145 @@
+//! Texts and bytes behind one byte, which is their length.
+
+ghost use Rattle.std.specs.Prelude.{◌≡◌, ◌≤◌, ◌++◌, ◌&&◌, true, length, take, cond, Some, None, OnOk, OnErr, IsErrOf, IfOk, nat_le};
+ghost use Rattle.std.specs.Str.{is_utf8};
+ghost use Rattle.rel_base.specs.Text.{has_no_control};
+ghost use Rattle.canon_code.specs.Codes.{AreBytes, HasShortCode, short_code};
+ghost use Rattle.canon_code.specs.Parts.{short_at, parted};
+ghost use Rattle.canon_code.specs.Reads.{Reads, Gives, slice_of, found_text};
+ghost use Rattle.canon_code.specs.Values.{is_text, text_at};
+
+use crate::fault::CodeFault;
+use rel_base::{Blob, BlobFault, NoMemory, Str, StrFault};
+use std::alloc::Global;
+
+/// Writes bytes behind their length at the end, or a part of that.
+fn push_short(out: &mut Vec<u8>, bytes: &[u8]) -> Result<(), NoMemory>
+    requires { length bytes.now ≤ 255 }
+    ensures ok { OnOk result (out.new.items ≡ out.old.items ++ short_code bytes.now) }
+    ensures front { take (length out.old.items) out.new.items ≡ out.old.items }
+{
+    out.push(bytes.len() as u8)?;
+    out.extend_from_slice(bytes)?;
+    Ok(())
+}
+
+/// Writes bytes behind their length at the end, or nothing where memory runs out.
+pub fn put_short(out: &mut Vec<u8>, bytes: &[u8]) -> Result<(), NoMemory>
+    requires { length bytes.now ≤ 255 }
+    ensures ok { OnOk result (out.new.items ≡ out.old.items ++ short_code bytes.now) }
+    ensures err { OnErr result (out.new.items ≡ out.old.items) }
+    ensures sound { HasShortCode bytes.now }
+{
+    let start = out.len();
+    let pushed = push_short(out, bytes);
+    if pushed.is_err() {
+        out.truncate(start);
+    }
+    pushed
+}
+
+/// Writes a text behind its length at the end, or nothing where memory runs out.
+#[tactic(auto, using(crate::proofs::Texts::text_sound))]
+pub fn put_text(out: &mut Vec<u8>, text: &Str) -> Result<(), NoMemory>
+    ensures ok { OnOk result (out.new.items ≡ out.old.items ++ short_code text.now) }
+    ensures err { OnErr result (out.new.items ≡ out.old.items) }
+    ensures sound { is_text text.now ≡ true }
+{
+    put_short(out, text.as_str().as_bytes())
+}
+
+/// Writes a byte string behind its length at the end, or nothing where memory runs out.
+pub fn put_blob(out: &mut Vec<u8>, blob: &Blob) -> Result<(), NoMemory>
+    ensures ok { OnOk result (out.new.items ≡ out.old.items ++ short_code blob.now) }
+    ensures err { OnErr result (out.new.items ≡ out.old.items) }
+    ensures sound { HasShortCode blob.now }
+{
+    put_short(out, blob.as_slice())
+}
+
+/// Reads the bytes behind their length at the front of the bytes, and answers what follows them too.
+pub fn read_short(bytes: &[u8]) -> Result<(&[u8], &[u8]), CodeFault>
+    ensures found { Reads (slice_of result) (short_at bytes.now) }
+    ensures short { IfOk result (λ found. length found.0.now ≤ 255) }
+    ensures judged { IsErrOf result CodeFault.NoMemory → ⊥ }
+{
+    match bytes {
+        [] => Err(CodeFault::Bad),
+        [len, rest @ ..] => split_short(*len, rest),
+    }
+}
+
+/// Parts bytes after so many.
+fn split_short(len: u8, bytes: &[u8]) -> Result<(&[u8], &[u8]), CodeFault>
+    ensures found { Reads (slice_of result) (parted len bytes.now) }
+    ensures short { IfOk result (λ found. length found.0.now ≤ 255) }
+    ensures judged { IsErrOf result CodeFault.NoMemory → ⊥ }
+{
+    let len = usize::from(len);
+    if bytes.len() < len {
+        return Err(CodeFault::Bad);
+    }
+    Ok(bytes.split_at(len))
+}
+
+/// The bytes as UTF-8, if they are.
+#[tactic(auto, using(crate::proofs::Texts::is_utf8_yes, crate::proofs::Texts::is_utf8_no))]
+fn utf8_of(bytes: &[u8]) -> Option<&str>
+    ensures { found_text result ≡ cond (is_utf8 bytes.now) (Some bytes.now) None }
+{
+    match std::str::from_utf8(bytes) {
+        Ok(text) => Some(text),
+        Err(_) => None,
+    }
+}
+
+/// The text, if it is short enough and has no control character.
+fn plain_text(alloc: Global, text: &str) -> Result<Str, CodeFault>
+    ensures { Gives result (cond (nat_le (length text.now) 255 && has_no_control text.now) (Some text.now) None) }
+{
+    match Str::new(alloc, text) {
+        Ok(text) => Ok(text),
+        Err(StrFault::NoMemory) => Err(CodeFault::NoMemory),
+        Err(StrFault::TooLong | StrFault::Control) => Err(CodeFault::Bad),
+    }
+}
+
+/// The text of some bytes, if they are one.
+fn text_of(alloc: Global, bytes: &[u8]) -> Result<Str, CodeFault>
+    ensures { Gives result (cond (is_text bytes.now) (Some bytes.now) None) }
+{
+    match utf8_of(bytes) {
+        Some(text) => plain_text(alloc, text),
+        None => Err(CodeFault::Bad),
+    }
+}
+
+/// Reads the text behind its length at the front of the bytes, and answers what follows it too.
+pub fn read_text(alloc: Global, bytes: &[u8]) -> Result<(Str, &[u8]), CodeFault>
+    ensures { Reads result (text_at bytes.now) }
+{
+    let (found, rest) = read_short(bytes)?;
+    let text = text_of(alloc, found)?;
+    Ok((text, rest))
+}
+
+/// The byte string of some bytes.
+fn blob_of(alloc: Global, bytes: &[u8]) -> Result<Blob, CodeFault>
+    requires { length bytes.now ≤ 255 }
+    ensures { Gives result (Some bytes.now) }
+{
+    match Blob::new(alloc, bytes) {
+        Ok(blob) => Ok(blob),
+        Err(BlobFault::NoMemory) => Err(CodeFault::NoMemory),
+        Err(BlobFault::TooLong) => Err(CodeFault::Bad),
+    }
+}
+
+/// Reads the byte string behind its length at the front of the bytes, and answers what follows it too.
+pub fn read_blob(alloc: Global, bytes: &[u8]) -> Result<(Blob, &[u8]), CodeFault>
+    ensures { Reads result (short_at bytes.now) }
+{
+    let (found, rest) = read_short(bytes)?;
+    let blob = blob_of(alloc, found)?;
+    Ok((blob, rest))
+}
