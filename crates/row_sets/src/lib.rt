@@ -1,6 +1,15 @@
-//! Sets of rows that grow by writes: what stores of committed versions promise.
+//! Sets of rows that grow by writes: what stores of committed versions promise, and a transaction's own writes.
 #![tactic(auto)]
 
+pub mod cover;
+pub mod merge;
+pub mod net;
+pub mod overlay;
+pub mod table_writes;
+#[cfg(test)]
+mod tests;
 pub mod versions;
 
+pub use overlay::Overlay;
+pub use table_writes::OwnWrite;
 pub use versions::{HitRef, Versions};

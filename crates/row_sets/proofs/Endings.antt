@@ -1,0 +1,10 @@
+-- What a call that may end in two ways says, carried on.
+use Rattle.std.proofs.Common.{Result, Ok, Err, OnOk, OnErr}
+
+pub on_ok_then : {A E P Q : Type 0} (result : Result A E) → (P → Q) → OnOk result P → OnOk result Q
+on_ok_then (Ok x) f p = f p
+on_ok_then (Err e) f p = tt
+
+pub on_err_then : {A E P Q : Type 0} (result : Result A E) → (P → Q) → OnErr result P → OnErr result Q
+on_err_then (Ok x) f p = tt
+on_err_then (Err e) f p = f p

@@ -1,0 +1,243 @@
+//! Own writes of accounts with an id and an amount, whose answers were worked by hand.
+
+ghost use Rattle.std.specs.Prelude.{◌≡◌, [], ◌∷◌, IfOk};
+
+use super::overlay::Overlay;
+use rel_base::{Column, Key, Kind, List, Name, Place, Read, Row, Seen, TableDef, Value, Write};
+use std::alloc::Global;
+use std::test::Fail;
+
+fn one<T: Drop>(alloc: Global, item: T) -> Result<List<T>, Fail>
+    ensures { IfOk result (λ list. list ≡ item ∷ []) }
+{
+    let mut list = List::new(alloc);
+    list.push(item)?;
+    Ok(list)
+}
+
+fn key(alloc: Global, id: i64) -> Result<Key, Fail> {
+    one(alloc, Value::Int(id))
+}
+
+fn account(alloc: Global, id: i64, amount: i64) -> Result<Row, Fail> {
+    let mut row = one(alloc, Value::Int(id))?;
+    row.push(Value::Int(amount))?;
+    Ok(row)
+}
+
+/// An account that may be there.
+fn maybe(alloc: Global, id: i64, amount: Option<i64>) -> Result<Option<Row>, Fail> {
+    match amount {
+        None => Ok(None),
+        Some(amount) => Ok(Some(account(alloc, id, amount)?)),
+    }
+}
+
+/// Leaves an account, or none.
+fn put(
+    alloc: Global,
+    overlay: &mut Overlay,
+    table: u32,
+    id: i64,
+    before: Option<i64>,
+    after: Option<i64>,
+) -> Result<(), Fail> {
+    let before = maybe(alloc, id, before)?;
+    let after = maybe(alloc, id, after)?;
+    overlay.put(table, key(alloc, id)?, before, after)?;
+    Ok(())
+}
+
+/// The table of accounts by id.
+fn accounts(alloc: Global) -> Result<TableDef, Fail> {
+    let mut columns = one(
+        alloc,
+        Column {
+            name: Name::new(alloc, "id")?,
+            kind: Kind::Int,
+        },
+    )?;
+    columns.push(Column {
+        name: Name::new(alloc, "amount")?,
+        kind: Kind::Int,
+    })?;
+    Ok(TableDef {
+        name: Name::new(alloc, "accounts")?,
+        columns,
+        key: one(alloc, 0)?,
+        index: one(alloc, 1)?,
+    })
+}
+
+/// An account as it was read.
+fn seen(alloc: Global, id: i64, amount: i64) -> Result<Seen, Fail> {
+    Ok(Seen {
+        row: account(alloc, id, amount)?,
+        place: Place { block: 1, pos: 1 },
+    })
+}
+
+/// The span of the amounts from a low one on.
+fn from(low: i64) -> Read {
+    Read::Span {
+        table: 0,
+        column: 1,
+        low: Some(Value::Int(low)),
+        high: None,
+    }
+}
+
+fn int_at(values: &List<Value>, at: usize) -> Option<i64> {
+    match values.get(at) {
+        Some(Value::Int(number)) => Some(*number),
+        _ => None,
+    }
+}
+
+fn amount_of(row: Option<&Row>) -> Option<i64> {
+    match row {
+        None => None,
+        Some(row) => int_at(row, 1),
+    }
+}
+
+fn amount_in(row: &Option<Row>) -> Option<i64> {
+    match row {
+        None => None,
+        Some(row) => int_at(row, 1),
+    }
+}
+
+fn is_write(write: &Write, table: u32, id: i64, before: Option<i64>, after: Option<i64>) -> bool {
+    write.table == table
+        && int_at(&write.key, 0) == Some(id)
+        && amount_in(&write.before) == before
+        && amount_in(&write.after) == after
+}
+
+fn is_account(row: &Row, id: i64, amount: i64) -> bool {
+    int_at(row, 0) == Some(id) && int_at(row, 1) == Some(amount)
+}
+
+#[test]
+fn looks(rt: HostRuntime) -> Result<(), Fail> {
+    let alloc = rt.alloc();
+    let base = account(alloc, 1, 50)?;
+    let mut overlay = Overlay::new(alloc);
+    assert_eq!(rt;
+        amount_of(overlay.look(0, &key(alloc, 1)?, Some(&base))),
+        Some(50)
+    );
+    assert_eq!(rt; amount_of(overlay.look(0, &key(alloc, 1)?, None)), None);
+    put(alloc, &mut overlay, 0, 1, Some(50), Some(60))?;
+    put(alloc, &mut overlay, 0, 2, Some(20), None)?;
+    assert_eq!(rt;
+        amount_of(overlay.look(0, &key(alloc, 1)?, Some(&base))),
+        Some(60)
+    );
+    assert_eq!(rt;
+        amount_of(overlay.look(0, &key(alloc, 2)?, Some(&base))),
+        None
+    );
+    assert_eq!(rt;
+        amount_of(overlay.look(0, &key(alloc, 3)?, Some(&base))),
+        Some(50)
+    );
+    assert_eq!(rt;
+        amount_of(overlay.look(1, &key(alloc, 1)?, Some(&base))),
+        Some(50)
+    );
+    Ok(())
+}
+
+#[test]
+fn net_writes_stand_in_order(rt: HostRuntime) -> Result<(), Fail> {
+    let alloc = rt.alloc();
+    let mut overlay = Overlay::new(alloc);
+    put(alloc, &mut overlay, 2, 1, None, Some(7))?;
+    put(alloc, &mut overlay, 0, 9, Some(5), None)?;
+    put(alloc, &mut overlay, 0, 3, Some(5), Some(5))?;
+    put(alloc, &mut overlay, 2, 0, Some(8), Some(9))?;
+    let writes = overlay.net();
+    let writes = writes.as_slice();
+    assert_eq!(rt; writes.len(), 4);
+    assert!(rt; is_write(&writes[0], 0, 3, Some(5), Some(5)));
+    assert!(rt; is_write(&writes[1], 0, 9, Some(5), None));
+    assert!(rt; is_write(&writes[2], 2, 0, Some(8), Some(9)));
+    assert!(rt; is_write(&writes[3], 2, 1, None, Some(7)));
+    Ok(())
+}
+
+#[test]
+fn the_first_row_before_counts(rt: HostRuntime) -> Result<(), Fail> {
+    let alloc = rt.alloc();
+    let mut overlay = Overlay::new(alloc);
+    put(alloc, &mut overlay, 0, 1, Some(50), None)?;
+    put(alloc, &mut overlay, 0, 1, None, Some(60))?;
+    put(alloc, &mut overlay, 0, 2, None, Some(1))?;
+    put(alloc, &mut overlay, 0, 2, Some(1), None)?;
+    let writes = overlay.net();
+    let writes = writes.as_slice();
+    assert_eq!(rt; writes.len(), 1);
+    assert!(rt; is_write(&writes[0], 0, 1, Some(50), Some(60)));
+    Ok(())
+}
+
+#[test]
+fn a_point_is_merged(rt: HostRuntime) -> Result<(), Fail> {
+    let alloc = rt.alloc();
+    let def = accounts(alloc)?;
+    let read = Read::Point {
+        table: 0,
+        key: key(alloc, 1)?,
+    };
+    let base = one(alloc, seen(alloc, 1, 50)?)?;
+    let mut overlay = Overlay::new(alloc);
+    let rows = overlay.merge(alloc, &def, &read, &base)?;
+    assert_eq!(rt; rows.len(), 1);
+    assert!(rt; is_account(&rows.as_slice()[0], 1, 50));
+    put(alloc, &mut overlay, 0, 1, Some(50), Some(60))?;
+    let rows = overlay.merge(alloc, &def, &read, &base)?;
+    assert_eq!(rt; rows.len(), 1);
+    assert!(rt; is_account(&rows.as_slice()[0], 1, 60));
+    put(alloc, &mut overlay, 0, 1, Some(50), None)?;
+    assert!(rt; overlay.merge(alloc, &def, &read, &base)?.is_empty());
+    Ok(())
+}
+
+#[test]
+fn a_span_is_merged(rt: HostRuntime) -> Result<(), Fail> {
+    let alloc = rt.alloc();
+    let def = accounts(alloc)?;
+    let base = one(alloc, seen(alloc, 5, 50)?)?;
+    let mut overlay = Overlay::new(alloc);
+    put(alloc, &mut overlay, 1, 4, None, Some(90))?;
+    let rows = overlay.merge(alloc, &def, &from(40), &base)?;
+    assert_eq!(rt; rows.len(), 1);
+    assert!(rt; is_account(&rows.as_slice()[0], 5, 50));
+    put(alloc, &mut overlay, 0, 9, None, Some(40))?;
+    put(alloc, &mut overlay, 0, 1, None, Some(70))?;
+    put(alloc, &mut overlay, 0, 2, None, Some(39))?;
+    let rows = overlay.merge(alloc, &def, &from(40), &base)?;
+    let rows = rows.as_slice();
+    assert_eq!(rt; rows.len(), 3);
+    assert!(rt; is_account(&rows[0], 1, 70));
+    assert!(rt; is_account(&rows[1], 5, 50));
+    assert!(rt; is_account(&rows[2], 9, 40));
+    Ok(())
+}
+
+#[test]
+fn a_span_leaves_out_what_was_changed(rt: HostRuntime) -> Result<(), Fail> {
+    let alloc = rt.alloc();
+    let def = accounts(alloc)?;
+    let base = one(alloc, seen(alloc, 5, 50)?)?;
+    let mut overlay = Overlay::new(alloc);
+    put(alloc, &mut overlay, 0, 5, Some(50), Some(30))?;
+    assert!(rt; overlay.merge(alloc, &def, &from(40), &base)?.is_empty());
+    put(alloc, &mut overlay, 0, 5, Some(50), Some(45))?;
+    assert_eq!(rt; overlay.merge(alloc, &def, &from(40), &base)?.len(), 1);
+    put(alloc, &mut overlay, 0, 5, Some(50), None)?;
+    assert!(rt; overlay.merge(alloc, &def, &from(40), &base)?.is_empty());
+    Ok(())
+}
