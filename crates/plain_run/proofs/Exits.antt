@@ -1,6 +1,6 @@
 -- What a run stops with.
 use Rattle.std.proofs.Common.{◌≡◌, Result, Ok, Err, Option, Some, None, ap, subst, refl}
-use Rattle.proc_syntax.specs.Meaning.{State, Outcome, Going, Stopped, with_value, with_some}
+use Rattle.proc_syntax.specs.Meaning.{State, Outcome, with_value, with_some}
 use Rattle.proc_syntax.specs.declared.run.Stop.{Stop}
 use Rattle.proc_syntax.specs.Values.{found}
 use Rattle.proc_eval.specs.Gives.{Gives}

@@ -1,6 +1,2 @@
-pub mod Cells
-pub mod Entries
 pub mod Exits
-pub mod Filling
-pub mod Nets
 pub mod Standing

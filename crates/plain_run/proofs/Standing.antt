@@ -1,5 +1,5 @@
 -- Rows in memory that fit and stand under their keys.
-use Rattle.std.proofs.Common.{◌≡◌, ℕ, ◌<◌, ◌^◌, List, true, Bool, length, Option, Some, None, Result, Ok, Err, IfOk, All, ◌&&◌, refl, sym, ap, subst}
+use Rattle.std.proofs.Common.{◌≡◌, ℕ, ◌<◌, ◌^◌, List, true, Bool, length, Some, Result, Ok, Err, IfOk, All, ◌&&◌, refl, sym, subst}
 use Rattle.std.specs.Prelude.{slice_get, IsSomeAnd}
 use Rattle.std.specs.Map.{keys_of}
 use Rattle.std.specs.List.Sorted.{IsStrictlySortedBy}
@@ -14,7 +14,7 @@ use Rattle.rel_base.specs.Among.{StandsIn}
 use Rattle.proc_syntax.specs.Meaning.{row_fits}
 use Rattle.proc_syntax.proofs.Fits.{kinds_hold, keys_equal, first_true, second_true}
 use Rattle.plain_run.specs.State.{IsReady}
-use Rattle.plain_run.proofs.Entries.{entries-from_rising}
+use Rattle.row_sets.proofs.Entries.{entries-from_rising}
 
 -- what the test of a row says
 pub stands_from : (declared : List TableDef) (ref : ℕ × List Value) (def : TableDef) (row : List Value) (under : Bool) → slice_get declared ref.0 ≡ Some def

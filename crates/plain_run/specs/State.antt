@@ -1,18 +1,20 @@
 -- How the code's runs stand for those of the definition.
-use Rattle.std.specs.Prelude.{◌≡◌, ◌<◌, ◌^◌, ℕ, List, [], ◌∷◌, length, Bool, true, false, Result, Ok, Err}
+use Rattle.std.specs.Prelude.{◌≡◌, ◌<◌, ◌^◌, ℕ, List, [], ◌∷◌, length, Option, Bool, true, false, Result, Ok, Err}
 use Rattle.rel_base.specs.declared.schema.TableDef.{TableDef}
 use Rattle.rel_base.specs.declared.access.Seen.{Seen}
 use Rattle.rel_base.specs.declared.access.Write.{Write}
 use Rattle.rel_base.specs.declared.value.Value.{Value}
 use Rattle.rel_base.specs.Tables.{Tables, put_write}
 use Rattle.rel_base.specs.Among.{TablesFit}
+use Rattle.rel_base.specs.NetWrites.{row_in}
+use Rattle.row_sets.specs.Overlay.{Written, AreFound, own_of}
 use Rattle.proc_syntax.specs.Meaning.{State, Outcome, Going, Stopped}
 use Rattle.proc_eval.specs.declared.halt.Halt.{Halt}
 use Rattle.proc_eval.specs.declared.halt.Halt.TheVariants as halt
 use Rattle.plain_run.specs.declared.run.Run.{Run}
 
 abbrev pub state : Run → State
-state run = record { variables = run.variables; own = run.own; made = run.made; steps = run.steps }
+state run = record { variables = run.variables; own = own_of run.own; made = run.made; steps = run.steps }
 
 -- a step that was made is the one that is meant, but for want of memory
 abbrev pub Ends : Result (Unit {0}) Halt → State → Outcome → Type 0
@@ -36,3 +38,11 @@ Chooses (Err why) reached meant = (found absent : State → Outcome) → Ends (E
 abbrev pub put_writes : ℕ → ℕ → List ((ℕ × List Value) × Seen) → List Write → List ((ℕ × List Value) × Seen)
 put_writes block pos entries [] = entries
 put_writes block pos entries (write ∷ rest) = put_writes block pos (put_write block pos entries write) rest
+
+-- where the rows before of own writes are those of tables, they still are after a step
+abbrev pub Keeps : List TableDef → Tables → Written → Written → Type 0
+Keeps declared tables old new = AreFound declared tables old → AreFound declared tables new
+
+-- the same, of any tables in which a key has a row before
+abbrev pub KeepsAt : ℕ × List Value → Option (List Value) → Written → Written → Type 0
+KeepsAt ref before old new = (declared : List TableDef) (tables : Tables) → before ≡ row_in declared tables ref → Keeps declared tables old new

@@ -4,13 +4,13 @@ ghost use Rattle.std.specs.Prelude.{◌≡◌, IfOk, OnOk, Some, slice_get};
 ghost use Rattle.rel_base.specs.Access.{read_table, ReadFits};
 ghost use Rattle.rel_base.specs.Tables.{rows};
 ghost use Rattle.proc_syntax.specs.Meaning.{asked};
-ghost use Rattle.rel_base.specs.OwnWrites.{merged};
+ghost use Rattle.rel_base.specs.OwnWrites.{first_row, merged};
+ghost use Rattle.row_sets.specs.Overlay.{own_of};
 ghost use Rattle.plain_run.specs.State.{state, IsReady};
 
-use crate::merge::merge;
 use crate::run::Run;
 use crate::snapshot::Snapshot;
-use rel_base::{List, Made, NoMemory, Read, Row, Seen, TableDef};
+use rel_base::{List, Made, NoMemory, Read, Row, Seen, TableDef, Twin};
 use std::alloc::Global;
 
 /// The rows that a read gets of the snapshot.
@@ -29,6 +29,15 @@ pub fn fetch<S: Snapshot>(
     snapshot.rows(alloc, read)
 }
 
+/// Records a read that was made, with its rows.
+fn record_read(run: &mut Run, read: Read, seens: List<Seen>) -> Result<(), NoMemory>
+    ensures asked { OnOk result (state run.new ≡ asked (state run.old) read seens) }
+    ensures own { run.new.own ≡ run.old.own }
+{
+    run.made.push(Made { read, rows: seens })?;
+    Ok(())
+}
+
 /// Makes a read, and answers the rows that the transaction sees.
 pub fn ask<S: Snapshot>(
     alloc: Global,
@@ -41,11 +50,53 @@ pub fn ask<S: Snapshot>(
     requires ready { IsReady tables.now (S.declared snapshot.now) (S.tables snapshot.now) }
     requires here { slice_get tables.now (read_table read) ≡ Some def.now }
     requires fits { ReadFits def.now read }
-    ensures rows { IfOk result (λ seen. seen ≡ merged def.now read run.old.own (rows def.now read (S.tables snapshot.now))) }
+    ensures rows { IfOk result (λ seen. seen ≡ merged def.now read (own_of run.old.own) (rows def.now read (S.tables snapshot.now))) }
     ensures asked { OnOk result (state run.new ≡ asked (state run.old) read (rows def.now read (S.tables snapshot.now))) }
+    ensures own { run.new.own ≡ run.old.own }
 {
     let seens = fetch(alloc, tables, snapshot, def, &read)?;
-    let seen = merge(alloc, def, &read, &run.own, &seens)?;
-    run.made.push(Made { read, rows: seens })?;
+    let seen = run.own.merge(alloc, def, &read, &seens)?;
+    record_read(run, read, seens)?;
     Ok(seen)
+}
+
+/// The rows of a key: the one in the snapshot, and those that the transaction sees, none or one.
+#[derive(Drop)]
+pub struct KeyRows {
+    pub before: Option<Row>,
+    pub seen: List<Row>,
+}
+
+/// The first row that was read.
+fn first_row(alloc: Global, seens: &[Seen]) -> Result<Option<Row>, NoMemory>
+    ensures { IfOk result (λ row. row ≡ first_row seens.now) }
+{
+    match seens.first() {
+        None => Ok(None),
+        Some(seen) => Ok(Some(seen.row.copy(alloc)?)),
+    }
+}
+
+/// Makes the point read of a key that is to be written.
+pub fn ask_key<S: Snapshot>(
+    alloc: Global,
+    tables: &List<TableDef>,
+    snapshot: &S,
+    def: &TableDef,
+    read: Read,
+    run: &mut Run,
+) -> Result<KeyRows, NoMemory>
+    requires ready { IsReady tables.now (S.declared snapshot.now) (S.tables snapshot.now) }
+    requires here { slice_get tables.now (read_table read) ≡ Some def.now }
+    requires fits { ReadFits def.now read }
+    ensures before { IfOk result (λ key. key.before ≡ first_row (rows def.now read (S.tables snapshot.now))) }
+    ensures seen { IfOk result (λ key. key.seen ≡ merged def.now read (own_of run.old.own) (rows def.now read (S.tables snapshot.now))) }
+    ensures asked { OnOk result (state run.new ≡ asked (state run.old) read (rows def.now read (S.tables snapshot.now))) }
+    ensures own { run.new.own ≡ run.old.own }
+{
+    let seens = fetch(alloc, tables, snapshot, def, &read)?;
+    let seen = run.own.merge(alloc, def, &read, &seens)?;
+    let before = first_row(alloc, seens.as_slice())?;
+    record_read(run, read, seens)?;
+    Ok(KeyRows { before, seen })
 }

@@ -1,12 +1,14 @@
 //! Runs of calls.
 
-ghost use Rattle.std.specs.Prelude.{◌≡◌, IfOk};
+ghost use Rattle.std.specs.Prelude.{◌≡◌, IfOk, List};
 ghost use Rattle.proc_syntax.specs.Declaring.{tables_of};
 ghost use Rattle.proc_syntax.specs.Meaning.{block};
 ghost use Rattle.proc_syntax.specs.Run.{ending_of, ran, no_run, start, run};
+ghost use Rattle.rel_base.specs.Tables.{Tables};
+ghost use Rattle.rel_base.specs.declared.schema.TableDef.{TableDef as Def};
+ghost use Rattle.row_sets.specs.Overlay.{AreFound};
 ghost use Rattle.plain_run.specs.State.{state, IsReady};
 
-use crate::own::OwnRows;
 use crate::plain::run_block;
 use crate::run::Run;
 use crate::snapshot::Snapshot;
@@ -14,6 +16,7 @@ use proc_eval::Halt;
 use proc_eval::call::{bind_arguments, procedure_named, takes};
 use proc_syntax::{App, Ending, ProcDef, Ran, Stop, Tx};
 use rel_base::{List, NoMemory, TableDef, Value};
+use row_sets::Overlay;
 use std::alloc::Global;
 
 /// How a run ends that stopped.
@@ -28,13 +31,14 @@ fn ending_of(stop: Stop) -> Ending
 
 /// What a run has at its begin.
 fn begin(alloc: Global, procedure: &ProcDef, values: &[Value]) -> Result<Run, NoMemory>
-    ensures { IfOk result (λ run. state run ≡ start procedure.now values.now) }
+    ensures state { IfOk result (λ run. state run ≡ start procedure.now values.now) }
+    ensures found { IfOk result (λ run. (declared : List Def) (known : Tables) → AreFound declared known run.own) }
 {
     let mut variables = List::new(alloc);
     bind_arguments(alloc, &mut variables, procedure.params.as_slice(), values)?;
     Ok(Run {
         variables,
-        own: OwnRows::new(alloc),
+        own: Overlay::new(alloc),
         made: List::new(alloc),
         steps: 0,
     })
@@ -54,7 +58,7 @@ fn run_procedure<S: Snapshot>(
     let mut run = begin(alloc, procedure, values)?;
     match run_block(alloc, tables, snapshot, procedure.body.as_slice(), &mut run) {
         Ok(()) => {
-            let writes = run.own.net(alloc, tables, snapshot)?;
+            let writes = run.own.net();
             Ok(Ran {
                 reads: run.made,
                 writes,

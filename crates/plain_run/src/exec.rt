@@ -10,9 +10,9 @@ ghost use Rattle.proc_syntax.specs.Meaning.{point_of, span_of, bound, key_for, r
 ghost use Rattle.proc_syntax.specs.Values.{found};
 ghost use Rattle.proc_eval.specs.Gives.{Gives};
 ghost use Rattle.proc_eval.specs.declared.halt.Halt.TheVariants as halt;
-ghost use Rattle.plain_run.specs.State.{state, Ends, Chooses, IsReady};
+ghost use Rattle.plain_run.specs.State.{state, Ends, Chooses, IsReady, Keeps, KeepsAt};
 
-use crate::ask::ask;
+use crate::ask::{ask, ask_key};
 use crate::run::Run;
 use crate::snapshot::Snapshot;
 use proc_eval::Halt;
@@ -77,7 +77,8 @@ pub fn bind_row(
     table: u32,
     row: &Row,
 ) -> Result<(), NoMemory>
-    ensures { OnOk result (state run.new ≡ bound (state run.old) name.now (Held table row.now)) }
+    ensures bound { OnOk result (state run.new ≡ bound (state run.old) name.now (Held table row.now)) }
+    ensures own { run.new.own ≡ run.old.own }
 {
     let row = row.copy(alloc)?;
     bind(
@@ -97,7 +98,8 @@ pub fn run_set(
     value: &Expr,
     run: &mut Run,
 ) -> Result<(), Halt>
-    ensures { Ends result (state run.new) (do_set tables.now name.now value.now (state run.old)) }
+    ensures ends { Ends result (state run.new) (do_set tables.now name.now value.now (state run.old)) }
+    ensures own { run.new.own ≡ run.old.own }
 {
     let value = eval(alloc, tables, run.variables.as_slice(), value)?;
     bind(alloc, &mut run.variables, name, Binding::Plain(value))?;
@@ -105,12 +107,20 @@ pub fn run_set(
 }
 
 /// Puts a new row where its key has none.
-fn put_new(table: u32, key: Key, row: Row, seen: &[Row], run: &mut Run) -> Result<(), Halt>
-    ensures { Ends result (state run.new) (insert_at table key row seen.now (state run.old)) }
+fn put_new(
+    table: u32,
+    key: Key,
+    before: Option<Row>,
+    row: Row,
+    seen: &[Row],
+    run: &mut Run,
+) -> Result<(), Halt>
+    ensures ends { Ends result (state run.new) (insert_at table key row seen.now (state run.old)) }
+    ensures found { KeepsAt (table, key) before run.old.own run.new.own }
 {
     match seen.split_first() {
         None => {
-            run.own.set(table, key, Some(row))?;
+            run.own.put(table, key, before, Some(row))?;
             Ok(())
         }
         Some(_) => Err(Halt::Stop(Stop::Fault(Fault::DuplicateKey))),
@@ -139,7 +149,8 @@ pub fn run_insert<S: Snapshot>(
     run: &mut Run,
 ) -> Result<(), Halt>
     requires { IsReady tables.now (S.declared snapshot.now) (S.tables snapshot.now) }
-    ensures { Ends result (state run.new) (do_insert tables.now (S.tables snapshot.now) table.now values.now (state run.old)) }
+    ensures ends { Ends result (state run.new) (do_insert tables.now (S.tables snapshot.now) table.now values.now (state run.old)) }
+    ensures found { Keeps tables.now (S.tables snapshot.now) run.old.own run.new.own }
 {
     let (number, def) = find_table(tables, table)?;
     let row = eval_all(alloc, tables, run.variables.as_slice(), values)?;
@@ -148,8 +159,8 @@ pub fn run_insert<S: Snapshot>(
         table: number,
         key: key.copy(alloc)?,
     };
-    let seen = ask(alloc, tables, snapshot, def, read, run)?;
-    put_new(number, key, row, seen.as_slice(), run)
+    let found = ask_key(alloc, tables, snapshot, def, read, run)?;
+    put_new(number, key, found.before, row, found.seen.as_slice(), run)
 }
 
 /// The row of a key with columns set, where it then fits and still has the key.
@@ -178,17 +189,19 @@ fn put_changed(
     def: &TableDef,
     table: u32,
     key: Key,
+    before: Option<Row>,
     changes: &[(usize, Value)],
     seen: &[Row],
     run: &mut Run,
 ) -> Result<(), Halt>
-    ensures { Ends result (state run.new) (update_at def.now table key changes.now seen.now (state run.old)) }
+    ensures ends { Ends result (state run.new) (update_at def.now table key changes.now seen.now (state run.old)) }
+    ensures found { KeepsAt (table, key) before run.old.own run.new.own }
 {
     match seen.split_first() {
         None => Err(Halt::Stop(Stop::Fault(Fault::NoRow))),
         Some((old, _)) => {
             let row = changed(alloc, def, &key, old, changes)?;
-            run.own.set(table, key, Some(row))?;
+            run.own.put(table, key, before, Some(row))?;
             Ok(())
         }
     }
@@ -206,32 +219,41 @@ pub fn run_update<S: Snapshot>(
     run: &mut Run,
 ) -> Result<(), Halt>
     requires { IsReady tables.now (S.declared snapshot.now) (S.tables snapshot.now) }
-    ensures { Ends result (state run.new) (do_update tables.now (S.tables snapshot.now) table.now key.now changes.now (state run.old)) }
+    ensures ends { Ends result (state run.new) (do_update tables.now (S.tables snapshot.now) table.now key.now changes.now (state run.old)) }
+    ensures found { Keeps tables.now (S.tables snapshot.now) run.old.own run.new.own }
 {
     let (number, def) = find_table(tables, table)?;
     let values = eval_all(alloc, tables, run.variables.as_slice(), key)?;
     let settings = eval_changes(alloc, tables, run.variables.as_slice(), def, changes)?;
     let read = point_read(def, number, values.copy(alloc)?)?;
-    let seen = ask(alloc, tables, snapshot, def, read, run)?;
+    let found = ask_key(alloc, tables, snapshot, def, read, run)?;
     put_changed(
         alloc,
         def,
         number,
         values,
+        found.before,
         settings.as_slice(),
-        seen.as_slice(),
+        found.seen.as_slice(),
         run,
     )
 }
 
 /// Deletes the row of a key.
-fn put_none(table: u32, key: Key, seen: &[Row], run: &mut Run) -> Result<(), Halt>
-    ensures { Ends result (state run.new) (delete_at table key seen.now (state run.old)) }
+fn put_none(
+    table: u32,
+    key: Key,
+    before: Option<Row>,
+    seen: &[Row],
+    run: &mut Run,
+) -> Result<(), Halt>
+    ensures ends { Ends result (state run.new) (delete_at table key seen.now (state run.old)) }
+    ensures found { KeepsAt (table, key) before run.old.own run.new.own }
 {
     match seen.split_first() {
         None => Err(Halt::Stop(Stop::Fault(Fault::NoRow))),
         Some(_) => {
-            run.own.set(table, key, None)?;
+            run.own.put(table, key, before, None)?;
             Ok(())
         }
     }
@@ -248,13 +270,14 @@ pub fn run_delete<S: Snapshot>(
     run: &mut Run,
 ) -> Result<(), Halt>
     requires { IsReady tables.now (S.declared snapshot.now) (S.tables snapshot.now) }
-    ensures { Ends result (state run.new) (do_delete tables.now (S.tables snapshot.now) table.now key.now (state run.old)) }
+    ensures ends { Ends result (state run.new) (do_delete tables.now (S.tables snapshot.now) table.now key.now (state run.old)) }
+    ensures found { Keeps tables.now (S.tables snapshot.now) run.old.own run.new.own }
 {
     let (number, def) = find_table(tables, table)?;
     let values = eval_all(alloc, tables, run.variables.as_slice(), key)?;
     let read = point_read(def, number, values.copy(alloc)?)?;
-    let seen = ask(alloc, tables, snapshot, def, read, run)?;
-    put_none(number, values, seen.as_slice(), run)
+    let found = ask_key(alloc, tables, snapshot, def, read, run)?;
+    put_none(number, values, found.before, found.seen.as_slice(), run)
 }
 
 /// The row that a name then stands for, where there is one.
@@ -265,7 +288,8 @@ fn bind_first(
     seen: &[Row],
     run: &mut Run,
 ) -> Result<bool, Halt>
-    ensures { Chooses result (state run.new) (λ found absent. get_at table name.now found absent seen.now (state run.old)) }
+    ensures chooses { Chooses result (state run.new) (λ found absent. get_at table name.now found absent seen.now (state run.old)) }
+    ensures own { run.new.own ≡ run.old.own }
 {
     match seen.split_first() {
         None => Ok(false),
@@ -288,7 +312,8 @@ pub fn run_get<S: Snapshot>(
     run: &mut Run,
 ) -> Result<bool, Halt>
     requires { IsReady tables.now (S.declared snapshot.now) (S.tables snapshot.now) }
-    ensures { Chooses result (state run.new) (λ found absent. do_get tables.now (S.tables snapshot.now) name.now table.now key.now found absent (state run.old)) }
+    ensures chooses { Chooses result (state run.new) (λ found absent. do_get tables.now (S.tables snapshot.now) name.now table.now key.now found absent (state run.old)) }
+    ensures own { run.new.own ≡ run.old.own }
 {
     let (number, def) = find_table(tables, table)?;
     let values = eval_all(alloc, tables, run.variables.as_slice(), key)?;

@@ -4,11 +4,7 @@
 
 pub mod ask;
 pub mod call;
-pub mod cover;
 pub mod exec;
-pub mod merge;
-pub mod net;
-pub mod own;
 pub mod plain;
 pub mod row_tables;
 pub mod run;
@@ -17,6 +13,5 @@ pub mod snapshot;
 mod tests;
 
 pub use call::run_call;
-pub use own::OwnRows;
 pub use row_tables::RowTables;
 pub use snapshot::Snapshot;

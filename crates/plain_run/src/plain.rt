@@ -2,7 +2,7 @@
 
 ghost use Rattle.std.specs.Prelude.{◌≡◌};
 ghost use Rattle.proc_syntax.specs.Meaning.{act, block, visit, do_for};
-ghost use Rattle.plain_run.specs.State.{state, Ends, IsReady};
+ghost use Rattle.plain_run.specs.State.{state, Ends, IsReady, Keeps};
 
 use crate::ask::ask;
 use crate::exec::{
@@ -27,7 +27,8 @@ pub fn run_block<S: Snapshot>(
     run: &mut Run,
 ) -> Result<(), Halt>
     requires { IsReady tables.now (S.declared snapshot.now) (S.tables snapshot.now) }
-    ensures { Ends result (state run.new) (block tables.now (S.tables snapshot.now) stmts.now (state run.old)) }
+    ensures ends { Ends result (state run.new) (block tables.now (S.tables snapshot.now) stmts.now (state run.old)) }
+    ensures found { Keeps tables.now (S.tables snapshot.now) run.old.own run.new.own }
 {
     for stmt in stmts {
         if !run.tick() {
@@ -49,7 +50,8 @@ fn run_stmt<S: Snapshot>(
     run: &mut Run,
 ) -> Result<(), Halt>
     requires { IsReady tables.now (S.declared snapshot.now) (S.tables snapshot.now) }
-    ensures { Ends result (state run.new) (act tables.now (S.tables snapshot.now) stmt.now (state run.old)) }
+    ensures ends { Ends result (state run.new) (act tables.now (S.tables snapshot.now) stmt.now (state run.old)) }
+    ensures found { Keeps tables.now (S.tables snapshot.now) run.old.own run.new.own }
 {
     match stmt {
         Stmt::Let { name, value } => run_set(alloc, tables, &name.name, value, run),
@@ -150,7 +152,8 @@ fn run_rows<S: Snapshot>(
     run: &mut Run,
 ) -> Result<(), Halt>
     requires { IsReady tables.now (S.declared snapshot.now) (S.tables snapshot.now) }
-    ensures { Ends result (state run.new) (visit table name.now (block tables.now (S.tables snapshot.now) body.now) rows.now (state run.old)) }
+    ensures ends { Ends result (state run.new) (visit table name.now (block tables.now (S.tables snapshot.now) body.now) rows.now (state run.old)) }
+    ensures found { Keeps tables.now (S.tables snapshot.now) run.old.own run.new.own }
 {
     for row in rows {
         if !run.tick() {
@@ -178,7 +181,8 @@ fn run_for<S: Snapshot>(
     run: &mut Run,
 ) -> Result<(), Halt>
     requires { IsReady tables.now (S.declared snapshot.now) (S.tables snapshot.now) }
-    ensures { Ends result (state run.new) (do_for tables.now (S.tables snapshot.now) name.now table.now column.now low.now high.now (block tables.now (S.tables snapshot.now) body.now) (state run.old)) }
+    ensures ends { Ends result (state run.new) (do_for tables.now (S.tables snapshot.now) name.now table.now column.now low.now high.now (block tables.now (S.tables snapshot.now) body.now) (state run.old)) }
+    ensures found { Keeps tables.now (S.tables snapshot.now) run.old.own run.new.own }
 {
     let (number, def) = find_table(tables, table)?;
     let low = eval_end(alloc, tables, run.variables.as_slice(), low)?;

@@ -1,8 +1,8 @@
 //! What a run has on its way.
 
-use crate::own::OwnRows;
 use proc_syntax::Variable;
 use rel_base::{List, Made};
+use row_sets::Overlay;
 
 /// The number of steps that a run may take.
 pub const MOST_STEPS: u32 = 100_000;
@@ -11,7 +11,7 @@ pub const MOST_STEPS: u32 = 100_000;
 #[derive(Drop)]
 pub struct Run {
     pub variables: List<Variable>,
-    pub own: OwnRows,
+    pub own: Overlay,
     pub made: List<Made>,
     pub steps: u32,
 }
@@ -23,6 +23,7 @@ impl Run {
     /// Counts a step, where there is one left.
     pub fn tick(&mut self) -> bool
         ensures yes { result ≡ true → (nat_lt self.old.steps 100000 ≡ true) × (state self.new ≡ record (state self.old) { steps = self.old.steps + 1 }) }
+        ensures own { self.new.own ≡ self.old.own }
         ensures no { result ≡ false → (nat_lt self.old.steps 100000 ≡ false) × (self.new ≡ self.old) }
     {
         if self.steps >= MOST_STEPS {

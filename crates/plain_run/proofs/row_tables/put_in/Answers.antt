@@ -1,5 +1,5 @@
 use Rattle.std.proofs.Common.{◌∙◌}
-use Rattle.plain_run.proofs.Entries.{ref_put}
+use Rattle.row_sets.proofs.Entries.{ref_put}
 use Rattle.plain_run.proofs.row_tables.put_in.Goals as goal
 
 pub returns : goal.returns

@@ -1,5 +1,5 @@
 use Rattle.std.proofs.Common.{◌∙◌}
-use Rattle.plain_run.proofs.Entries.{ref_removed}
+use Rattle.row_sets.proofs.Entries.{ref_removed}
 use Rattle.plain_run.proofs.row_tables.take_out.Goals as goal
 
 pub returns-then-len-gt0 : goal.returns-then-len-gt0

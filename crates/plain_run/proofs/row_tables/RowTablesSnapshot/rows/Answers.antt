@@ -4,7 +4,7 @@ use Rattle.std.specs.FinMap.{from_entries}
 use Rattle.rel_base.specs.Access.{read_table}
 use Rattle.rel_base.specs.Tables.{ref_cmp, rows_among}
 use Rattle.rel_base.specs.Among.{rows_in, rows_by}
-use Rattle.plain_run.proofs.Entries.{entries-from_rising}
+use Rattle.row_sets.proofs.Entries.{entries-from_rising}
 use Rattle.plain_run.proofs.row_tables.RowTablesSnapshot.rows.Goals as goal
 
 pub returns-in-Some : goal.returns-in-Some

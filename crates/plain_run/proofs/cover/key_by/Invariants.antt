@@ -1,6 +1,0 @@
-use Rattle.std.proofs.Common.{◌≡◌, map, take}
-use Rattle.rel_base.specs.Row.{value_at}
-use Rattle.plain_run.proofs.cover.key_by.Given as goal
-
-abbrev pub invariant-loop-column : goal.invariant-loop-column
-invariant-loop-column l = l.key ≡ map (value_at l.row) (take l.column-index l.column-items)

@@ -1,6 +1,0 @@
-use Rattle.std.proofs.Common.{◌∙◌}
-use Rattle.plain_run.proofs.Entries.{key_put}
-use Rattle.plain_run.proofs.merge.put_in.Goals as goal
-
-pub returns : goal.returns
-returns c = rw (c.in_ok-key.ensures, c.in_ok-row.ensures) at c.in_ok-insert.ensures.entries ∙ key_put c.args.key.now c.args.row.now c.args.rows.now.entries

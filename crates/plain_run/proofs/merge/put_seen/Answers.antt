@@ -1,8 +1,0 @@
-use Rattle.std.proofs.Common.{◌∙◌}
-use Rattle.rel_base.specs.Schema.{key_of_row}
-use Rattle.plain_run.proofs.Entries.{key_put}
-use Rattle.plain_run.proofs.merge.put_seen.Goals as goal
-
-pub returns : goal.returns
-returns c =
-    rw (c.in_ok-key.ensures, c.in_ok-row.ensures) at c.in_ok-insert.ensures.entries ∙ key_put (key_of_row c.args.def.now c.args.seen.now.row) c.args.seen.now.row c.args.rows.now.entries

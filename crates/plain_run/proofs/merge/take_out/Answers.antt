@@ -1,6 +1,0 @@
-use Rattle.std.proofs.Common.{◌∙◌}
-use Rattle.plain_run.proofs.Entries.{key_removed}
-use Rattle.plain_run.proofs.merge.take_out.Goals as goal
-
-pub returns-then-len-gt0 : goal.returns-then-len-gt0
-returns-then-len-gt0 c = c.remove.ensures.entries ∙ key_removed c.args.key.now c.args.rows.now.entries c.len.ensures.ordered
