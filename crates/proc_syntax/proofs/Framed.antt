@@ -74,7 +74,7 @@ module _ (declared : List TableDef) where
 
     -- a read, and what is done with its rows
     framed_rows : (def : TableDef) (read : Read) (st : State) (f f' : List (List Value) → State → Outcome) → slice_get declared (read_table read) ≡ Some def
-        → ((rows : List (List Value)) (st : State) → Framed st.made (f rows st) (f' rows st)) → Framed st.made (with_rows declared S def read st f) (with_rows declared S' def read st f')
+        → ((rows : List (List Value)) (st : State) → Framed st.made (f rows st) (f' rows st)) → Framed st.made (with_rows S def read st f) (with_rows S' def read st f')
     framed_rows def read st f f' here h =
         let got : Made = record { read = read; rows = rows def read S } in
         let g = h (merged def read st.own (rows def read S)) (asked st read (rows def read S)) in

@@ -128,13 +128,13 @@ module _ (declared : List TableDef) (S : Tables) (P Q : State → Type 0) (keeps
       kept_value (values_of declared key st.variables) st _ p (λ key.
       kept_value (changes_of declared named.1 changes st.variables) st _ p (λ changes.
       kept_some _ (point_of named.1 named.0 key) st _ p (point_fits named.1 named.0 key) (λ read fits.
-      subst (λ r. Kept (with_rows declared S named.1 r st (update_at named.1 named.0 key changes))) (sym fits.0) (kept_update st q named.1 named.0 here key fits.1 changes _)))))
+      subst (λ r. Kept (with_rows S named.1 r st (update_at named.1 named.0 key changes))) (sym fits.0) (kept_update st q named.1 named.0 here key fits.1 changes _)))))
   kept_act (stmt.Delete table key) st q =
       let p = keeps.rests st q in
       kept_some _ (table_named declared table.name) st _ p (declared_named declared table.name) (λ named here.
       kept_value (values_of declared key st.variables) st _ p (λ key.
       kept_some _ (point_of named.1 named.0 key) st _ p (point_fits named.1 named.0 key) (λ read fits.
-      subst (λ r. Kept (with_rows declared S named.1 r st (delete_at named.0 key))) (sym fits.0) (kept_delete st q named.1 named.0 here key fits.1 _))))
+      subst (λ r. Kept (with_rows S named.1 r st (delete_at named.0 key))) (sym fits.0) (kept_delete st q named.1 named.0 here key fits.1 _))))
   kept_act (stmt.Fail text) st q = record { is = keeps.rests st q }
 
   kept_stmt : (s : Stmt) → KeptAt s

@@ -1,5 +1,5 @@
 -- The laws of runs.
-use Rattle.std.proofs.Common.{◌≡◌, ℕ, ℤ, ◌≤◌, refl, ap, subst, sym, ◌∙◌, List, [], ◌∷◌, length, true, false, Bool, cond, map, Option, Some, None, arith, Contains, All, T, ◌&&◌, ◌==◌, inl, inr, ◌⊎◌}
+use Rattle.std.proofs.Common.{◌≡◌, ℕ, ℤ, ◌+◌, ◌≤◌, refl, ap, subst, sym, ◌∙◌, List, [], ◌∷◌, length, true, false, Bool, cond, map, Option, Some, None, arith, Contains, All, T, ◌&&◌, ◌==◌, inl, inr, ◌⊎◌}
 use Rattle.std.specs.Prelude.{slice_get, IsSomeAnd, IsSome}
 use Rattle.std.specs.List.{AllByRecursion, AllPairs, filter}
 use Rattle.std.specs.Option.{option_and_then, option_map}
@@ -33,7 +33,7 @@ use Rattle.proc_syntax.specs.declared.tree.App.{App}
 use Rattle.proc_syntax.specs.declared.tree.ProcDef.{ProcDef}
 use Rattle.proc_syntax.specs.Declaring.{tables_of}
 use Rattle.rel_base.specs.Among.{rows_in, rows_by, StandsIn, TablesFit, WriteFitsIn, ReadFitsIn}
-use Rattle.proc_syntax.specs.Laws.{ReadsAreRows, EqualRowsGiveEqualRuns, ReadsFit, FewReads, WritesFit, WritesInOrder, WritesFind, WritesAreRead}
+use Rattle.proc_syntax.specs.Laws.{ReadsAreRows, EqualRowsGiveEqualRuns, ReadsFit, FewReads, FewWrites, WritesFit, WritesInOrder, WritesFind, WritesAreRead}
 use Rattle.proc_syntax.specs.Values.{have_kinds}
 use Rattle.proc_syntax.specs.Meaning.{Outcome, Going, Stopped, block}
 use Rattle.rel_base.specs.OwnWrites.{first_row}
@@ -80,6 +80,26 @@ pub few_reads : FewReads
 few_reads app tx time S = of_run (λ r. length r.reads ≤ 100000) app tx time S (omega arith) (λ procedure.
     let s = sound_run (tables_of app) S procedure tx.args in
     rw (reads_of (tables_of app) S (outcome (tables_of app) S procedure tx.args)) (omega (arith, s.few, s.low)))
+
+one_longer : (ref : ℕ × List Value) (before after : Option (List Value)) (rest : List Write) (n : ℕ) → length rest ≤ n → length (write_before ref before after rest) ≤ n + 1
+one_longer ref None None rest n le = omega (arith, le)
+one_longer ref None (Some row) rest n le = omega (arith, le)
+one_longer ref (Some row) after rest n le = omega (arith, le)
+
+net_longer : (declared : List TableDef) (S : Tables) (own : List ((ℕ × List Value) × Option (List Value))) → length (net_from declared S own) ≤ length own
+net_longer declared S [] = omega arith
+net_longer declared S (e ∷ es) =
+    let le = one_longer e.0 (row_in declared S e.0) e.1 (net_from declared S es) (length es) (net_longer declared S es) in
+    omega (arith, le)
+
+few_of : (declared : List TableDef) (S : Tables) (o : Outcome) → length (finite.entries (state_of o).own) ≤ 100000 → length (ran declared S o).writes ≤ 100000
+few_of declared S (Going st) few = omega (arith, few, net_longer declared S (finite.entries st.own))
+few_of declared S (Stopped st why) few = omega arith
+
+pub few_writes : FewWrites
+few_writes app tx time S = of_run (λ r. length r.writes ≤ 100000) app tx time S (omega arith) (λ procedure.
+    let s = sound_run (tables_of app) S procedure tx.args in
+    few_of (tables_of app) S (outcome (tables_of app) S procedure tx.args) (omega (arith, s.left, s.few, s.low)))
 
 -- ---- the frame law
 

@@ -4,6 +4,7 @@ use Rattle.std.specs.Prelude.{nat_lt, slice_get, IsSomeAnd, IfSome, None}
 use Rattle.std.specs.List.{AllByRecursion}
 use Rattle.std.specs.FinMap as finite
 use Rattle.std.specs.FinMap.Entries.{put, by_order}
+use Rattle.std.specs.declared.cmp.Ordering.{Ordering}
 use Rattle.std.specs.declared.cmp.Ordering.TheVariants.{Less, Equal, Greater}
 use Rattle.std.proofs.lemmas.List.{map-append}
 use Rattle.std.proofs.lemmas.List.Elements.{All-from_recursion, Contains-append_left, Contains-push}
@@ -44,6 +45,16 @@ pub all_push : {X : Type 0} (P : X → Type 0) (xs : List X) (x : X) → AllByRe
 all_push P [] x all new = (new, tt)
 all_push P (y ∷ ys) x all new = (all.0, all_push P ys x all.1 new)
 
+-- and there is at most one entry more
+put_longer : {X : Type 0} (k : ℕ × List Value) (v : X) (es : List ((ℕ × List Value) × X)) → length (put ref_cmp k v es) ≤ length es + 1
+put_longer k v [] = omega arith
+put_longer k v (e ∷ es) = longer_by (ref_cmp k e.0) ((k, v) ∷ e ∷ es) ((e.0, v) ∷ es) (e ∷ put ref_cmp k v es) (length (e ∷ es) + 1) (omega arith) (omega arith) (omega (arith, put_longer k v es))
+  where
+    longer_by : {Y : Type 0} (o : Ordering) (a b c : List Y) (n : ℕ) → length a ≤ n → length b ≤ n → length c ≤ n → length (by_order o a b c) ≤ n
+    longer_by Less a b c n ha hb hc = ha
+    longer_by Equal a b c n ha hb hc = hb
+    longer_by Greater a b c n ha hb hc = hc
+
 no_items : {X : Type 0} (xs : List X) → length xs ≡ 0 → xs ≡ []
 no_items [] e = refl
 no_items (x ∷ xs) e = absurd (omega (arith, e))
@@ -75,6 +86,7 @@ module _ (declared : List TableDef) (S : Tables) where
     pub low : st.steps ≤ 100000
     pub fit : AllByRecursion OwnFits (finite.entries st.own)
     pub read : AllByRecursion (WasRead st.made) (finite.entries st.own)
+    pub left : length (finite.entries st.own) ≤ length st.made
 
   -- after a step is counted there is room for one more read
   record Counted (st : State) : Type 0 where
@@ -84,7 +96,7 @@ module _ (declared : List TableDef) (S : Tables) where
   sound_counts : (st : State) → Sound st → nat_lt st.steps 100000 ≡ true → Counted (record st { steps = st.steps + 1 })
   sound_counts st s low =
       let below = ltb-true st.steps 100000 low in
-      record { sound = record { answered = s.answered; few = omega (arith, s.few); low = omega (arith, below); fit = s.fit; read = s.read }; room = omega (arith, s.few) }
+      record { sound = record { answered = s.answered; few = omega (arith, s.few); low = omega (arith, below); fit = s.fit; read = s.read; left = s.left }; room = omega (arith, s.few) }
 
   read_more : (made : List Made) (m : Made) (own : (ℕ × List Value) × Option (List Value)) → WasRead made own → WasRead (made ++ m ∷ []) own
   read_more made m own h = subst (λ reads. Contains reads (Point own.0.0 own.0.1)) (sym (map-append (λ m. m.read) made (m ∷ []))) (Contains-append_left _ (m.read ∷ []) _ h)
@@ -101,6 +113,7 @@ module _ (declared : List TableDef) (S : Tables) where
         low = c.sound.low;
         fit = c.sound.fit;
         read = all_more _ _ _ (read_more st.made m) c.sound.read;
+        left = omega (arith, c.sound.left, length-append st.made (m ∷ []));
       }
 
   sound_writes : (st : State) (def : TableDef) (table : ℕ) (key : List Value) (row : Option (List Value)) → Counted st → slice_get declared table ≡ Some def → KeyFits def key → PartFits def key row
@@ -115,19 +128,20 @@ module _ (declared : List TableDef) (S : Tables) where
         low = s.low;
         fit = rw e (all_put OwnFits (table, key) row _ s.fit (at_some _ def (λ d. KeyFits d key × PartFits d key row) here (fits, part)));
         read = rw e (all_put (WasRead (st.made ++ m ∷ [])) (table, key) row _ s.read (read_last st.made m ((table, key), row) refl));
+        left = rw e (omega (arith, c.sound.left, length-append st.made (m ∷ []), put_longer (table, key) row (finite.entries st.own)));
       }
 
   sound_keeps : Keeps declared S Sound Counted
   sound_keeps = record {
     counts = sound_counts;
     rests = λ st c. c.sound;
-    binds = λ st name binding s. record { answered = s.answered; few = s.few; low = s.low; fit = s.fit; read = s.read };
+    binds = λ st name binding s. record { answered = s.answered; few = s.few; low = s.low; fit = s.fit; read = s.read; left = s.left };
     reads = sound_reads;
     writes = sound_writes;
   }
 
   sound_start : (procedure : ProcDef) (values : List Value) → Sound (start procedure values)
-  sound_start procedure values = record { answered = tt; few = omega arith; low = omega arith; fit = rw entries-empty tt; read = rw entries-empty tt }
+  sound_start procedure values = record { answered = tt; few = omega arith; low = omega arith; fit = rw entries-empty tt; read = rw entries-empty tt; left = rw entries-empty (omega arith) }
 
   pub sound_run : (procedure : ProcDef) (values : List Value) → Sound (state_of (block declared S procedure.body (start procedure values)))
   sound_run procedure values = (kept_block declared S Sound Counted sound_keeps procedure.body (start procedure values) (sound_start procedure values)).is

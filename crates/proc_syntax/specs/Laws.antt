@@ -34,6 +34,11 @@ ReadsFit = (app : App) (tx : Tx) (time : ℤ) (tables : Tables) → All (λ made
 abbrev pub FewReads : Type 0
 FewReads = (app : App) (tx : Tx) (time : ℤ) (tables : Tables) → length (run app tx time tables).reads ≤ 100000
 
+-- and at most 100,000 writes
+abbrev pub FewWrites : Type 0
+FewWrites = (app : App) (tx : Tx) (time : ℤ) (tables : Tables) → length (run app tx time tables).writes ≤ 100000
+
+-- on tables whose rows fit and stand under their keys, each write of a run fits the declaration of its table
 abbrev pub WritesFit : Type 0
 WritesFit = (app : App) (tx : Tx) (time : ℤ) (tables : Tables) → TablesFit (tables_of app) tables → All (WriteFitsIn (tables_of app)) (run app tx time tables).writes
 

@@ -19,8 +19,9 @@ use Rattle.proc_syntax.specs.declared.tree.App.{App}
 use Rattle.proc_syntax.specs.declared.tree.ColumnText.{ColumnText}
 use Rattle.proc_syntax.specs.declared.tree.ProcDef.{ProcDef}
 use Rattle.proc_syntax.specs.Declaring.{tables_of}
-use Rattle.proc_syntax.specs.Meaning.{State, Outcome, Going, Stopped, block}
+use Rattle.proc_syntax.specs.Meaning.{State, Going, Stopped, block}
 use Rattle.proc_syntax.specs.Scope.{bind}
+use Rattle.proc_syntax.specs.Steps as steps
 use Rattle.proc_syntax.specs.Values.{have_kinds}
 
 -- ---- the run
@@ -30,7 +31,7 @@ ending_of (stop.Fault fault) = ending.Faulted fault
 ending_of stop.IllTyped = ending.IllTyped
 
 -- a run that stopped has no writes
-abbrev pub ran : List TableDef → Tables → Outcome → Ran
+abbrev pub ran : {V : Type 0} → List TableDef → Tables → steps.Outcome V → Ran
 ran declared tables (Going state) = record { reads = state.made; writes = net declared tables state.own; ending = ending.Good }
 ran declared tables (Stopped state why) = record { reads = state.made; writes = []; ending = ending_of why }
 

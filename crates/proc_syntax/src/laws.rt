@@ -1,6 +1,6 @@
 //! The laws of runs, of every application and every call, each the contract of a function that does nothing.
 
-ghost use Rattle.proc_syntax.specs.Laws.{ReadsAreRows, EqualRowsGiveEqualRuns, ReadsFit, FewReads, WritesFit, WritesInOrder, WritesFind, WritesAreRead, SeesItsWrites};
+ghost use Rattle.proc_syntax.specs.Laws.{ReadsAreRows, EqualRowsGiveEqualRuns, ReadsFit, FewReads, FewWrites, WritesFit, WritesInOrder, WritesFind, WritesAreRead, SeesItsWrites};
 
 /// Each read of a run is listed with the rows that it gets of the tables, whatever the transaction wrote.
 pub fn reads_are_rows()
@@ -20,6 +20,11 @@ pub fn reads_fit()
 /// A run has at most 100,000 reads.
 pub fn few_reads()
     ensures { FewReads }
+{}
+
+/// A run has at most 100,000 writes.
+pub fn few_writes()
+    ensures { FewWrites }
 {}
 
 /// On tables whose rows fit and stand under their keys, each write of a run fits the declaration of its table.

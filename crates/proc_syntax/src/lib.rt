@@ -2,6 +2,7 @@
 #![tactic(auto)]
 
 pub mod call;
+pub mod chain_fault;
 pub mod declaring;
 pub mod fault;
 pub mod laws;
@@ -9,6 +10,7 @@ pub mod run;
 pub mod tree;
 
 pub use call::{Block, CallFault, Tx};
+pub use chain_fault::{ChainFault, ChainKind};
 pub use declaring::{declare, has_few_columns, tables_of};
 pub use fault::Fault;
 pub use run::{Binding, Ending, Ran, Stop, Variable};
