@@ -1,0 +1,5 @@
+pub mod Numbers
+pub mod Resolved
+pub mod Coded
+pub mod Laws
+pub mod Weighed

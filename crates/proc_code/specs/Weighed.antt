@@ -1,0 +1,19 @@
+-- Values that are computed or lent.
+use Rattle.std.specs.Prelude.{◌≡◌, Result, Ok, Err}
+use Rattle.rel_base.specs.declared.value.Value.{Value}
+use Rattle.proc_syntax.specs.declared.run.Stop.{Stop}
+use Rattle.proc_eval.specs.declared.halt.Halt.{Halt}
+use Rattle.proc_eval.specs.declared.halt.Halt.TheVariants as halt
+use Rattle.proc_code.specs.declared.values.Worth.{Worth}
+use Rattle.proc_code.specs.declared.values.Worth.TheVariants as worth
+
+-- the value
+abbrev pub weight : Worth → Value
+weight (worth.Made v) = v
+weight (worth.Lent v) = v.now
+
+-- what was computed is what is meant, but for want of memory
+abbrev pub Weighs : Result Worth Halt → Result Value Stop → Type 0
+Weighs (Ok w) meant = meant ≡ Ok (weight w)
+Weighs (Err halt.NoMemory) meant = Unit {0}
+Weighs (Err (halt.Stop why)) meant = meant ≡ Err why

@@ -1,0 +1,16 @@
+//! Procedures with their names resolved once, so that a run meets the numbers of variables, tables and columns, and looks nothing up
+//! by a name.
+#![tactic(auto)]
+
+pub mod gather;
+pub mod laws;
+pub mod numbering;
+pub mod places;
+pub mod resolving;
+#[cfg(test)]
+mod tests;
+pub mod tree;
+pub mod values;
+
+pub use resolving::resolve;
+pub use tree::{Action, AppCode, Param, ProcCode, Setting, Term};

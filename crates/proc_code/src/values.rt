@@ -1,0 +1,259 @@
+//! The values of expressions in code.
+
+ghost use Rattle.std.specs.Prelude.{◌≡◌, Ok};
+ghost use Rattle.std.specs.Option.{option_and_then, option_copied};
+ghost use Rattle.proc_syntax.specs.Scope.{plain_of};
+ghost use Rattle.proc_syntax.specs.Values.{apply, found};
+ghost use Rattle.proc_eval.specs.Gives.{Gives};
+ghost use Rattle.proc_code.specs.Coded.{in_slot, column_at, cell_of, worth_of, worths_of, end_worth, set_worth, sets_worth};
+ghost use Rattle.proc_code.specs.Weighed.{Weighs, weight};
+
+use crate::tree::{Setting, Term};
+use proc_eval::Halt;
+use proc_eval::arith::negation;
+use proc_eval::compare::{flag, negated, two};
+use proc_syntax::{Binding, Op, Stop};
+use rel_base::{List, Twin, Value};
+use std::alloc::Global;
+
+/// A value that was computed, or one that stands in the code, in a variable or in a row that a variable holds, and is not copied.
+#[derive(Drop)]
+pub enum Worth<'a> {
+    Made(Value),
+    Lent(&'a Value),
+}
+
+impl<'a> Worth<'a> {
+    /// The value.
+    pub fn get(&self) -> &Value
+        ensures { result.now ≡ weight self.now }
+    {
+        match self {
+            Worth::Made(value) => value,
+            Worth::Lent(value) => *value,
+        }
+    }
+
+    /// The value, copied where it is lent.
+    pub fn into_value(self, alloc: Global) -> Result<Value, Halt>
+        ensures { Gives result (Ok (weight self.entry)) }
+    {
+        match self {
+            Worth::Made(value) => Ok(value),
+            Worth::Lent(value) => Ok(value.copy(alloc)?),
+        }
+    }
+}
+
+/// What a variable stands for.
+pub fn in_slot<'a>(slots: &'a [Option<Binding>], slot: usize) -> Option<&'a Binding>
+    ensures { option_copied result ≡ in_slot slots.now slot }
+{
+    match slots.get(slot) {
+        Some(Some(binding)) => Some(binding),
+        _ => None,
+    }
+}
+
+/// The number that a column of a name, by the name's number, has in a table.
+pub fn column_at(columns: &List<List<Option<usize>>>, name: usize, table: u32) -> Option<usize>
+    ensures { result ≡ column_at columns.now name table }
+{
+    let places = columns.get(name)?;
+    let column = places.get(table as usize)?;
+    *column
+}
+
+/// The value of what a variable stands for, in such a column.
+fn cell_of<'a>(
+    columns: &List<List<Option<usize>>>,
+    name: usize,
+    binding: &'a Binding,
+) -> Option<&'a Value>
+    ensures { option_copied result ≡ cell_of columns.now name binding.now }
+{
+    match binding {
+        Binding::Plain(_) => None,
+        Binding::Held { table, row } => {
+            let column = column_at(columns, name, *table)?;
+            row.get(column)
+        }
+    }
+}
+
+/// The value of what a variable stands for.
+fn plain_value<'a>(slots: &'a [Option<Binding>], slot: usize) -> Result<Worth<'a>, Halt>
+    ensures { Weighs result (found (option_and_then plain_of (in_slot slots.now slot))) }
+{
+    match in_slot(slots, slot) {
+        Some(Binding::Plain(value)) => Ok(Worth::Lent(value)),
+        _ => Err(Halt::Stop(Stop::IllTyped)),
+    }
+}
+
+/// The value of the row that a variable holds, in the column of a name.
+fn field_value<'a>(
+    columns: &List<List<Option<usize>>>,
+    slots: &'a [Option<Binding>],
+    slot: usize,
+    name: usize,
+) -> Result<Worth<'a>, Halt>
+    ensures { Weighs result (found (option_and_then (cell_of columns.now name) (in_slot slots.now slot))) }
+{
+    match in_slot(slots, slot) {
+        None => Err(Halt::Stop(Stop::IllTyped)),
+        Some(binding) => match cell_of(columns, name, binding) {
+            None => Err(Halt::Stop(Stop::IllTyped)),
+            Some(value) => Ok(Worth::Lent(value)),
+        },
+    }
+}
+
+/// What an operator gives of a value and of an expression, which has its turn only where the value does not decide.
+#[cycle(weigh)]
+fn weigh_right(
+    alloc: Global,
+    columns: &List<List<Option<usize>>>,
+    slots: &[Option<Binding>],
+    op: Op,
+    left: &Value,
+    right: &Term,
+) -> Result<Value, Halt>
+    ensures { Gives result (apply op left.now (worth_of columns.now right.now slots.now)) }
+{
+    match op {
+        Op::Or => {
+            if flag(left)? {
+                return Ok(Value::Bool(true));
+            }
+            let right = weigh(alloc, columns, slots, right)?;
+            let holds = flag(right.get())?;
+            Ok(Value::Bool(holds))
+        }
+        Op::And => {
+            if !flag(left)? {
+                return Ok(Value::Bool(false));
+            }
+            let right = weigh(alloc, columns, slots, right)?;
+            let holds = flag(right.get())?;
+            Ok(Value::Bool(holds))
+        }
+        _ => {
+            let right = weigh(alloc, columns, slots, right)?;
+            two(alloc, op, left, right.get())
+        }
+    }
+}
+
+/// The value of an expression, where the slots say what the variables stand for. A value that stands in the expression, in a variable
+/// or in a row is not copied.
+#[cycle(weigh)]
+pub fn weigh<'a>(
+    alloc: Global,
+    columns: &List<List<Option<usize>>>,
+    slots: &'a [Option<Binding>],
+    term: &'a Term,
+) -> Result<Worth<'a>, Halt>
+    ensures { Weighs result (worth_of columns.now term.now slots.now) }
+{
+    match term {
+        Term::Value(value) => Ok(Worth::Lent(value)),
+        Term::Var(slot) => plain_value(slots, *slot),
+        Term::Field { slot, column } => field_value(columns, slots, *slot, *column),
+        Term::Not(inner) => {
+            let value = weigh(alloc, columns, slots, inner.get())?;
+            Ok(Worth::Made(negated(value.get())?))
+        }
+        Term::Neg(inner) => {
+            let value = weigh(alloc, columns, slots, inner.get())?;
+            Ok(Worth::Made(negation(value.get())?))
+        }
+        Term::Two { op, left, right } => {
+            let left = weigh(alloc, columns, slots, left.get())?;
+            let value = weigh_right(alloc, columns, slots, *op, left.get(), right.get())?;
+            Ok(Worth::Made(value))
+        }
+    }
+}
+
+/// The value of an expression, in memory of its own.
+pub fn eval(
+    alloc: Global,
+    columns: &List<List<Option<usize>>>,
+    slots: &[Option<Binding>],
+    term: &Term,
+) -> Result<Value, Halt>
+    ensures { Gives result (worth_of columns.now term.now slots.now) }
+{
+    let worth = weigh(alloc, columns, slots, term)?;
+    worth.into_value(alloc)
+}
+
+/// The values of expressions, from the left.
+pub fn eval_all(
+    alloc: Global,
+    columns: &List<List<Option<usize>>>,
+    slots: &[Option<Binding>],
+    terms: &[Term],
+) -> Result<List<Value>, Halt>
+    ensures { Gives result (worths_of columns.now terms.now slots.now) }
+{
+    let mut values = List::new(alloc);
+    for term in terms {
+        let value = eval(alloc, columns, slots, term)?;
+        values.push(value)?;
+    }
+    Ok(values)
+}
+
+/// The value of an end of a span, where it is given.
+pub fn eval_end(
+    alloc: Global,
+    columns: &List<List<Option<usize>>>,
+    slots: &[Option<Binding>],
+    end: &Option<Term>,
+) -> Result<Option<Value>, Halt>
+    ensures { Gives result (end_worth columns.now end.now slots.now) }
+{
+    match end {
+        None => Ok(None),
+        Some(term) => {
+            let value = eval(alloc, columns, slots, term)?;
+            Ok(Some(value))
+        }
+    }
+}
+
+fn eval_setting(
+    alloc: Global,
+    columns: &List<List<Option<usize>>>,
+    slots: &[Option<Binding>],
+    setting: &Setting,
+) -> Result<(usize, Value), Halt>
+    ensures { Gives result (set_worth columns.now setting.now slots.now) }
+{
+    match setting.column {
+        None => Err(Halt::Stop(Stop::IllTyped)),
+        Some(column) => {
+            let value = eval(alloc, columns, slots, &setting.value)?;
+            Ok((column, value))
+        }
+    }
+}
+
+/// The columns that an update sets, with their values, from the left.
+pub fn eval_settings(
+    alloc: Global,
+    columns: &List<List<Option<usize>>>,
+    slots: &[Option<Binding>],
+    settings: &[Setting],
+) -> Result<List<(usize, Value)>, Halt>
+    ensures { Gives result (sets_worth columns.now settings.now slots.now) }
+{
+    let mut values = List::new(alloc);
+    for setting in settings {
+        let value = eval_setting(alloc, columns, slots, setting)?;
+        values.push(value)?;
+    }
+    Ok(values)
+}
