@@ -1,5 +1,5 @@
 -- An application in which the walk meets no fault has few tables.
-use Rattle.std.proofs.Common.{Bool, List, [], arith, false, length, refl, true, ◌++◌, ◌+◌, ◌<◌, ◌≡◌, ◌≤◌, ◌∷◌, ℕ}
+use Rattle.std.proofs.Common.{Bool, List, [], arith, false, length, refl, true, ◌++◌, ◌+◌, ◌<◌, ◌≡◌, ◌≤◌, ◌∷◌, ℕ, ◌^◌}
 use Rattle.std.proofs.lemmas.List.{length-append, length-map}
 use Rattle.std.specs.Prelude.{Err, Ok, Result, nat_le}
 use Rattle.proc_check.specs.Apps.{walk_app}
@@ -44,3 +44,6 @@ few_tables app is =
     let first = first_ok (in_order walk_table [] app.tables) _ tt is in
     let few = few_from [] app.tables first.0 (omega arith) first.1 in
     omega (arith, few, length-map app.tables declare)
+
+pub few_enough : (app : App) → walk_app app ≡ Ok tt → length (tables_of app) < 2 ^ 32
+few_enough app is = omega (arith, few_tables app is)

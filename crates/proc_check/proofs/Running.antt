@@ -361,7 +361,7 @@ module _ (tables : List TableText) (S : Tables) (fit : AllByRecursion (Stands (m
       block (map (walk_stmt tables) (map bare absent)) scope >>= λ _. Ok None) ≡ Ok brought
       → (st : State) → Good scope st → Safe (scope ++ option_to_list brought)
       (with_some (table_named declared table.name) st (λ named. with_value (values_of declared key st.variables) st (λ key. with_some (point_of named.1 named.0 key) st (λ read.
-      with_rows declared S named.1 read st (get_at named.0 name.name (in_turn (map (act declared S) (map bare found))) (in_turn (map (act declared S) (map bare absent))))))))
+      with_rows S named.1 read st (get_at named.0 name.name (in_turn (map (act declared S) (map bare found))) (in_turn (map (act declared S) (map bare absent))))))))
   get_holds name table key found absent scope brought ok st good =
       let walked = ok_then (walk_get tables scope name table key) (λ number. block (map (walk_stmt tables) (map bare found)) (scope ++ variable_of name (sort.Row number) ∷ []) >>= λ _.
       block (map (walk_stmt tables) (map bare absent)) scope >>= λ _. Ok None) brought ok in
@@ -413,7 +413,7 @@ module _ (tables : List TableText) (S : Tables) (fit : AllByRecursion (Stands (m
       → (walk_for tables scope name table column low high >>= λ number. block (map (walk_stmt tables) (map bare body)) (scope ++ variable_of name (sort.Row number) ∷ []) >>= λ _. Ok None) ≡ Ok brought
       → (st : State) → Good scope st → Safe (scope ++ option_to_list brought)
       (with_some (table_named declared table.name) st (λ named. with_value (end_of declared low st.variables) st (λ low. with_value (end_of declared high st.variables) st (λ high.
-      with_some (span_of named.1 named.0 (column_in named.1 column.name) low high) st (λ read. with_rows declared S named.1 read st (visit named.0 name.name (in_turn (map (act declared S) (map bare body)))))))))
+      with_some (span_of named.1 named.0 (column_in named.1 column.name) low high) st (λ read. with_rows S named.1 read st (visit named.0 name.name (in_turn (map (act declared S) (map bare body)))))))))
   for_holds name table column low high body scope brought ok st good =
       let walked = ok_then (walk_for tables scope name table column low high) (λ number. block (map (walk_stmt tables) (map bare body)) (scope ++ variable_of name (sort.Row number) ∷ []) >>= λ _. Ok None) brought ok in
       let new = ok_then (new_name scope name) (λ _. known_table tables table >>= λ number. walk_span tables scope number column low high >>= λ _. Ok number) walked.0 walked.1 in
@@ -433,7 +433,7 @@ module _ (tables : List TableText) (S : Tables) (fit : AllByRecursion (Stands (m
 
   insert_holds : (table : Named) (values : List Expr) → Holds (λ scope. walk_insert tables scope table values >>= λ _. Ok None)
       (λ st. with_some (table_named declared table.name) st (λ named. with_value (values_of declared values st.variables) st (λ row. with_some (key_for named.1 row) st (λ key.
-      with_rows declared S named.1 (Point named.0 key) st (insert_at named.0 key row)))))
+      with_rows S named.1 (Point named.0 key) st (insert_at named.0 key row)))))
   insert_holds table values scope brought ok st good =
       let walked = ok_then (walk_insert tables scope table values) (λ _. Ok None) brought ok in
       let named = ok_then (known_table tables table) (λ number. all_fit (λ column. Some column.kind) tables scope table (columns_of tables number) values) tt walked.1 in
@@ -449,7 +449,7 @@ module _ (tables : List TableText) (S : Tables) (fit : AllByRecursion (Stands (m
 
   update_holds : (table : Named) (key : List Expr) (changes : List Change) → Holds (λ scope. walk_update tables scope table key changes >>= λ _. Ok None)
       (λ st. with_some (table_named declared table.name) st (λ named. with_value (values_of declared key st.variables) st (λ key. with_value (changes_of declared named.1 changes st.variables) st (λ changes.
-      with_some (point_of named.1 named.0 key) st (λ read. with_rows declared S named.1 read st (update_at named.1 named.0 key changes))))))
+      with_some (point_of named.1 named.0 key) st (λ read. with_rows S named.1 read st (update_at named.1 named.0 key changes))))))
   update_holds table key changes scope brought ok st good =
       let walked = ok_then (walk_update tables scope table key changes) (λ _. Ok None) brought ok in
       let named = ok_then (keyed tables scope table key) (λ number. in_order (walk_change tables scope number) [] changes) tt walked.1 in
@@ -464,7 +464,7 @@ module _ (tables : List TableText) (S : Tables) (fit : AllByRecursion (Stands (m
 
   delete_holds : (table : Named) (key : List Expr) → Holds (λ scope. keyed tables scope table key >>= λ _. Ok None)
       (λ st. with_some (table_named declared table.name) st (λ named. with_value (values_of declared key st.variables) st (λ key.
-      with_some (point_of named.1 named.0 key) st (λ read. with_rows declared S named.1 read st (delete_at named.0 key)))))
+      with_some (point_of named.1 named.0 key) st (λ read. with_rows S named.1 read st (delete_at named.0 key)))))
   delete_holds table key scope brought ok st good =
       let walked = ok_then (keyed tables scope table key) (λ _. Ok None) brought ok in
       let k = keyed_is tables scope st.variables good.agrees table key walked.0 walked.1 in

@@ -1,29 +1,34 @@
 //! Checked applications.
 
 ghost use Rattle.std.specs.Prelude.{◌≡◌, ◌≤◌, None, IfOk, IfErr, Ok, length};
+ghost use Rattle.proc_code.specs.Resolved.{code_of};
 ghost use Rattle.proc_syntax.specs.Declaring.{tables_of};
 ghost use Rattle.proc_syntax.specs.Call.{call_fault};
 ghost use Rattle.proc_check.specs.Apps.{walk_app, first_fault};
 ghost use Rattle.proc_check.specs.Gives.{IsFirst};
 
-use crate::calls::call_fault;
 use crate::fault::CheckFault;
 use crate::procedures::check_procedures;
 use crate::tables::check_tables;
+use proc_code::{AppCode, resolve};
+use proc_eval::call::call_fault;
 use proc_syntax::{App, CallFault, Tx, tables_of};
 use rel_base::{List, TableDef};
 use std::alloc::Global;
 
-/// An application that is well typed, and the declarations of its tables.
+/// An application that is well typed, the declarations of its tables, and its code, in which the names are resolved.
 #[derive(Drop)]
 pub struct Checked {
     app: App,
     tables: List<TableDef>,
+    code: AppCode,
     ghost well_typed: { walk_app app ≡ Ok tt },
     ghost declared: { tables ≡ tables_of app },
+    ghost resolved: { code ≡ code_of app },
 }
 
-/// Checks an application, up to its first fault.
+/// Checks an application, up to its first fault, and resolves its names.
+#[tactic(auto, using(crate::proofs::Few::few_enough))]
 pub fn check(alloc: Global, app: App) -> Result<Checked, CheckFault>
     ensures ok { IfOk result (λ checked. checked.app ≡ app) }
     ensures fine { IfOk result (λ checked. first_fault app ≡ None) }
@@ -32,7 +37,8 @@ pub fn check(alloc: Global, app: App) -> Result<Checked, CheckFault>
     check_tables(app.tables.as_slice())?;
     check_procedures(alloc, app.tables.as_slice(), app.procs.as_slice())?;
     let tables = tables_of(alloc, &app)?;
-    Ok(Checked { app, tables })
+    let code = resolve(alloc, &app, &tables)?;
+    Ok(Checked { app, tables, code })
 }
 
 impl Checked {
@@ -51,6 +57,13 @@ impl Checked {
         ensures few { length (tables_of self.now.app) ≤ 64 }
     {
         &self.tables
+    }
+
+    /// Its procedures with the numbers of variables, tables and columns for their names. A run of it is a run of the application.
+    pub fn code(&self) -> &AppCode
+        ensures { result.now ≡ code_of self.now.app }
+    {
+        &self.code
     }
 
     /// Why a call cannot begin, where it cannot.

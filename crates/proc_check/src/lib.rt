@@ -2,7 +2,6 @@
 #![tactic(auto)]
 
 pub mod blocks;
-pub mod calls;
 pub mod checked;
 pub mod expressions;
 pub mod fault;
