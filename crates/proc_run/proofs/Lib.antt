@@ -1,0 +1,5 @@
+pub mod Driven
+pub mod Growing
+pub mod Paths
+pub mod Planning
+pub mod Sounds

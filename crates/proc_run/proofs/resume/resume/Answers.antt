@@ -1,0 +1,7 @@
+use Rattle.std.proofs.Common.{refl}
+use Rattle.proc_run.proofs.Paths.{path_push}
+use Rattle.proc_run.proofs.resume.resume.Goals as goal
+
+pub returns-in-For-clause-comes : goal.returns-in-For-clause-comes
+returns-in-For-clause-comes c = λ columns S root.
+    rw (c.push.ensures.items, path_push, c.in-For.is, c.table-in-For.ensures, c.in_ok-seen.ensures) refl

@@ -1,0 +1,4 @@
+pub mod Place
+pub mod Planned
+pub mod Remains
+pub mod Told

@@ -1,0 +1,73 @@
+-- What a statement comes to before its read: the values of its expressions, and the read.
+use Rattle.std.specs.Prelude.{ℕ, List, Option, Result, Ok, Err, slice_get}
+use Rattle.rel_base.specs.declared.access.Read.TheVariants.{Point}
+use Rattle.rel_base.specs.declared.schema.TableDef.{TableDef}
+use Rattle.rel_base.specs.Among.{ReadFitsIn}
+use Rattle.proc_syntax.specs.declared.fault.Fault.TheVariants as fault
+use Rattle.proc_syntax.specs.declared.run.Stop.{Stop}
+use Rattle.proc_syntax.specs.declared.run.Stop.TheVariants as stop
+use Rattle.proc_syntax.specs.Steps.{point_of, span_of, key_for}
+use Rattle.proc_syntax.specs.Values.{◌>>=◌, found, flag_of}
+use Rattle.proc_code.specs.declared.tree.Action.{Action, Action-F, fold-Action}
+use Rattle.proc_code.specs.declared.tree.Action.TheOpen as action
+use Rattle.proc_code.specs.declared.tree.Setting.{Setting}
+use Rattle.proc_code.specs.declared.tree.Term.{Term}
+use Rattle.proc_code.specs.Coded.{Slots, worth_of, worths_of, end_worth, sets_worth}
+use Rattle.proc_run.specs.declared.plan.Pending.TheVariants.{Insert, Update, Delete, Get, For}
+use Rattle.proc_run.specs.declared.plan.Plan.{Plan}
+use Rattle.proc_run.specs.declared.plan.Plan.TheVariants.{Set, Enter, Ask}
+
+module _ (columns : List (List (Option ℕ))) where
+  -- a variable gets the value of an expression
+  abbrev pub plan_set : ℕ → Term → Slots → Result Plan Stop
+  plan_set slot e slots = worth_of columns e slots >>= λ v. Ok (Set slot v)
+
+  -- one block where a test holds, and another where it does not
+  abbrev pub plan_if : Term → Slots → Result Plan Stop
+  plan_if test slots = worth_of columns test slots >>= λ v. flag_of v >>= λ holds. Ok (Enter holds)
+
+module _ (declared : List TableDef) (columns : List (List (Option ℕ))) where
+  -- the point read of a key, and then one block or the other
+  abbrev pub plan_get : ℕ → ℕ → List Term → Slots → Result Plan Stop
+  plan_get slot table key slots =
+      found (slice_get declared table) >>= λ def. worths_of columns key slots >>= λ key. found (point_of def table key) >>= λ read. Ok (Ask read (Get slot))
+
+  -- the span read on a column, and then a block for each row
+  abbrev pub plan_for : ℕ → ℕ → Option ℕ → Option Term → Option Term → Slots → Result Plan Stop
+  plan_for slot table column low high slots =
+      found (slice_get declared table) >>= λ def. end_worth columns low slots >>= λ low. end_worth columns high slots >>= λ high. found (span_of def table column low high) >>= λ read. Ok (Ask read (For slot))
+
+  -- the point read of the new row's key, and then the row is put
+  abbrev pub plan_insert : ℕ → List Term → Slots → Result Plan Stop
+  plan_insert table values slots =
+      found (slice_get declared table) >>= λ def. worths_of columns values slots >>= λ row. found (key_for def row) >>= λ key. Ok (Ask (Point table key) (Insert row))
+
+  -- the point read of a key, and then its row is changed
+  abbrev pub plan_update : ℕ → List Term → List Setting → Slots → Result Plan Stop
+  plan_update table key settings slots =
+      found (slice_get declared table) >>= λ def. worths_of columns key slots >>= λ key. sets_worth columns settings slots >>= λ changes. found (point_of def table key) >>= λ read. Ok (Ask read (Update changes))
+
+  -- the point read of a key, and then its row is deleted
+  abbrev pub plan_delete : ℕ → List Term → Slots → Result Plan Stop
+  plan_delete table key slots =
+      found (slice_get declared table) >>= λ def. worths_of columns key slots >>= λ key. found (point_of def table key) >>= λ read. Ok (Ask read Delete)
+
+  abbrev pub plan_step : Action-F (Slots → Result Plan Stop) → Slots → Result Plan Stop
+  plan_step (action.Set slot e) slots = plan_set columns slot e slots
+  plan_step (action.If test body other) slots = plan_if columns test slots
+  plan_step (action.Get slot table key found absent) slots = plan_get slot table key slots
+  plan_step (action.For slot table column low high body) slots = plan_for slot table column low high slots
+  plan_step (action.Insert table values) slots = plan_insert table values slots
+  plan_step (action.Update table key settings) slots = plan_update table key settings slots
+  plan_step (action.Delete table key) slots = plan_delete table key slots
+  plan_step (action.Fail text) slots = Err (stop.Fault (fault.Failed text))
+
+  -- what a statement comes to, or why a run stops there
+  abbrev pub plan_of : Action → Slots → Result Plan Stop
+  plan_of = fold-Action (Slots → Result Plan Stop) plan_step
+
+-- a read that is made up fits its table
+abbrev pub PlanFits : List TableDef → Plan → Type 0
+PlanFits declared (Set slot v) = Unit {0}
+PlanFits declared (Enter first) = Unit {0}
+PlanFits declared (Ask read pending) = ReadFitsIn declared read

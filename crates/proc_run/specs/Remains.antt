@@ -1,0 +1,132 @@
+-- What remains of a run, from where it stands, on any tables.
+use Rattle.std.specs.Prelude.{◌≡◌, ℕ, cond, Bool, true, false, T, List, [], ◌∷◌, Option, Some, None, IfSome, Result, Ok, Err, slice_get}
+use Rattle.std.specs.FinMap.Entries.{is_sorted}
+use Rattle.rel_base.specs.declared.access.Read.{Read}
+use Rattle.rel_base.specs.declared.access.Read.TheVariants.{Point, Span}
+use Rattle.rel_base.specs.declared.access.Seen.{Seen}
+use Rattle.rel_base.specs.declared.schema.TableDef.{TableDef}
+use Rattle.rel_base.specs.declared.value.Value.{Value}
+use Rattle.rel_base.specs.Access.{read_table}
+use Rattle.rel_base.specs.Among.{rows_in, ReadFitsIn}
+use Rattle.rel_base.specs.OwnWrites.{Own, keyed, merged}
+use Rattle.rel_base.specs.Tables.{Tables}
+use Rattle.rel_base.specs.Value.{key_cmp}
+use Rattle.row_sets.specs.Overlay.{Written, AreFound, own_of}
+use Rattle.proc_syntax.specs.declared.run.Binding.TheVariants.{Plain}
+use Rattle.proc_syntax.specs.declared.run.Stop.TheVariants as stop
+use Rattle.proc_syntax.specs.Steps.{Going, Stopped, then_do, with_some, asked, insert_at, update_at, delete_at, held_or, each_held}
+use Rattle.proc_eval.specs.declared.halt.Halt.{Halt}
+use Rattle.proc_eval.specs.declared.halt.Halt.TheVariants as halt
+use Rattle.proc_code.specs.declared.tree.Action.{Action}
+use Rattle.proc_code.specs.Coded.{State, Outcome, put, hold, do_all}
+use Rattle.proc_run.specs.declared.place.Branch.TheVariants.{First, Second}
+use Rattle.proc_run.specs.declared.place.Spot.{Spot}
+use Rattle.proc_run.specs.declared.plan.Pending.{Pending}
+use Rattle.proc_run.specs.declared.plan.Pending.TheVariants.{Insert, Update, Delete, Get, For}
+use Rattle.proc_run.specs.declared.plan.Plan.{Plan}
+use Rattle.proc_run.specs.declared.plan.Plan.TheVariants as plan
+use Rattle.proc_run.specs.declared.state.Phase.{Phase}
+use Rattle.proc_run.specs.declared.state.Phase.TheVariants as phase
+use Rattle.proc_run.specs.declared.state.Run.{Run}
+use Rattle.proc_run.specs.Place.{Frame, Rest, Rows, part_of, block_of, frames_of}
+
+abbrev pub state : Run → State
+state run = record { variables = run.slots; own = own_of run.own; made = run.made.items; steps = run.steps }
+
+-- the rows that a transaction sees at a read of a table that may be declared
+abbrev pub seen_by : Option TableDef → Read → Own → List Seen → List (List Value)
+seen_by None read own rows = []
+seen_by (Some def) read own rows = merged def read own rows
+
+abbrev pub seen_in : List TableDef → Read → Own → List Seen → List (List Value)
+seen_in declared read own rows = seen_by (slice_get declared (read_table read)) read own rows
+
+-- what is done at the key of a point read
+abbrev pub at_key : Read → (ℕ → List Value → State → Outcome) → State → Outcome
+at_key (Point table key) act state = act table key state
+at_key (Span table column low high) act state = Stopped state stop.IllTyped
+
+module _ (declared : List TableDef) (columns : List (List (Option ℕ))) (tables : Tables) where
+  -- what is done with the rows that a transaction sees at a read of a statement that has these blocks
+  abbrev pub resume : List Action → List Action → Read → Pending → List (List Value) → State → Outcome
+  resume first second read (Insert row) rows state = at_key read (λ table key. insert_at table key row rows) state
+  resume first second read (Update changes) rows state =
+      at_key read (λ table key state. with_some (slice_get declared table) state (λ def. update_at def table key changes rows state)) state
+  resume first second read Delete rows state = at_key read (λ table key. delete_at table key rows) state
+  resume first second read (Get slot) rows state = held_or (hold slot (read_table read)) (do_all declared columns tables first) (do_all declared columns tables second) rows state
+  resume first second read (For slot) rows state = each_held (hold slot (read_table read)) (do_all declared columns tables first) rows state
+
+  -- a read gets rows, and what is done with them then
+  abbrev pub answered : List Action → List Action → Read → Pending → List Seen → State → Outcome
+  answered first second read pending rows state = resume first second read pending (seen_in declared read state.own rows) (asked state read rows)
+
+  -- what the plan of a statement that has these blocks comes to
+  abbrev pub do_plan : List Action → List Action → Plan → State → Outcome
+  do_plan first second (plan.Set slot v) state = Going (put slot (Plain v) state)
+  do_plan first second (plan.Enter holds) state = cond holds (do_all declared columns tables first state) (do_all declared columns tables second state)
+  do_plan first second (plan.Ask read pending) state = answered first second read pending (rows_in declared read tables) state
+
+  abbrev pub run_frame : Frame → State → Outcome
+  run_frame (Rest actions) state = do_all declared columns tables actions state
+  run_frame (Rows slot table rows body) state = each_held (hold slot table) (do_all declared columns tables body) rows state
+
+  -- the last frame goes on first
+  abbrev pub run_frames : List Frame → State → Outcome
+  run_frames [] state = Going state
+  run_frames (frame ∷ frames) state = then_do (run_frames frames state) (run_frame frame)
+
+  -- what remains of a run
+  abbrev pub remains : List Action → Phase → List Spot → State → Outcome
+  remains root phase.Running spots state = run_frames (frames_of root spots) state
+  remains root (phase.Ask at read pending) spots state =
+      then_do (answered (part_of (block_of root spots) at First) (part_of (block_of root spots) at Second) read pending (rows_in declared read tables) state) (run_frames (frames_of root spots))
+  remains root (phase.Answered at made pending) spots state =
+      then_do (answered (part_of (block_of root spots) at First) (part_of (block_of root spots) at Second) made.read pending made.rows state) (run_frames (frames_of root spots))
+  remains root phase.Good spots state = Going state
+  remains root (phase.Stopped why) spots state = Stopped state why
+
+-- the read that is asked fits its table
+abbrev pub PhaseFits : List TableDef → Phase → Type 0
+PhaseFits declared phase.Running = Unit {0}
+PhaseFits declared (phase.Ask at read pending) = ReadFitsIn declared read
+PhaseFits declared (phase.Answered at made pending) = Unit {0}
+PhaseFits declared phase.Good = Unit {0}
+PhaseFits declared (phase.Stopped why) = Unit {0}
+
+-- whether it is at a read or at its end
+abbrev pub waits : Phase → Bool
+waits phase.Running = false
+waits (phase.Ask at read pending) = true
+waits (phase.Answered at made pending) = false
+waits phase.Good = true
+waits (phase.Stopped why) = true
+
+-- whether it has the rows of its read
+abbrev pub has_rows : Phase → Bool
+has_rows phase.Running = false
+has_rows (phase.Ask at read pending) = false
+has_rows (phase.Answered at made pending) = true
+has_rows phase.Good = false
+has_rows (phase.Stopped why) = false
+
+-- ---- the rows of a read
+
+-- the rows of a read stand in the order of their keys, and no two have the same
+abbrev pub StandInOrder : List TableDef → Read → List Seen → Type 0
+StandInOrder declared read rows = IfSome (slice_get declared (read_table read)) (λ def. T (is_sorted key_cmp (keyed def rows)))
+
+-- where own writes have the rows before of tables in which a read has these rows, they still have them
+abbrev pub KeepsFound : Read → List Seen → Written → Written → Type 0
+KeepsFound read rows old new = (declared : List TableDef) (tables : Tables) → rows ≡ rows_in declared read tables → AreFound declared tables old → AreFound declared tables new
+
+-- a step that was made is the one that is meant, but for want of memory
+abbrev pub Ends : Result (Unit {0}) Halt → State → Outcome → Type 0
+Ends (Ok done) reached meant = meant ≡ Going reached
+Ends (Err halt.NoMemory) reached meant = Unit {0}
+Ends (Err (halt.Stop why)) reached meant = meant ≡ Stopped reached why
+
+-- what goes on after a step is what is meant, but for want of memory
+abbrev pub Comes : Result (Unit {0}) Halt → Outcome → State → Outcome → Type 0
+Comes (Ok done) going reached meant = going ≡ meant
+Comes (Err halt.NoMemory) going reached meant = Unit {0}
+Comes (Err (halt.Stop why)) going reached meant = Stopped reached why ≡ meant

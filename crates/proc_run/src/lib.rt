@@ -1,0 +1,20 @@
+//! A machine that runs a call of a procedure. It gives itself back at each read, and goes on with the rows that the read gets.
+#![tactic(auto)]
+
+pub mod drive;
+pub mod going;
+pub mod machine;
+pub mod place;
+pub mod plan;
+pub mod resume;
+pub mod source;
+pub mod start;
+pub mod state;
+#[cfg(test)]
+mod tests;
+pub mod turn;
+
+pub use drive::run_on;
+pub use machine::Machine;
+pub use source::Source;
+pub use state::Want;

@@ -1,0 +1,268 @@
+//! What is done with the rows of a read.
+
+ghost use Rattle.std.specs.Prelude.{◌≡◌, ◌<◌, List, Option, ℕ, Err, IfOk, OnOk, OnErr, slice_get, vec_len, vec_capacity};
+ghost use Rattle.rel_base.specs.OwnWrites.{first_row};
+ghost use Rattle.rel_base.specs.Tables.{Tables};
+ghost use Rattle.rel_base.specs.declared.access.Read.{Read as Asked};
+ghost use Rattle.rel_base.specs.declared.access.Read.TheVariants.{Point};
+ghost use Rattle.rel_base.specs.declared.access.Seen.{Seen as SeenRow};
+ghost use Rattle.rel_base.specs.declared.schema.TableDef.{TableDef as Def};
+ghost use Rattle.row_sets.specs.Overlay.{own_of};
+ghost use Rattle.proc_syntax.specs.Steps.{asked, wrote, set_columns, row_under, insert_at, update_at, delete_at, held_or, with_some, then_do};
+ghost use Rattle.proc_syntax.specs.Values.{found};
+ghost use Rattle.proc_eval.specs.Gives.{Gives};
+ghost use Rattle.proc_eval.specs.declared.halt.Halt.TheVariants as halt;
+ghost use Rattle.proc_code.specs.Coded.{do_all, hold};
+ghost use Rattle.proc_code.specs.declared.tree.Action.{Action as Act};
+ghost use Rattle.proc_run.specs.declared.place.Branch.TheVariants.{First, Second};
+ghost use Rattle.proc_run.specs.Place.{part_of, block_of, frames_of};
+ghost use Rattle.proc_run.specs.Remains.{state, seen_in, StandInOrder, at_key, answered, run_frames, Ends, Comes, KeepsFound};
+
+use crate::place::{Branch, Spot};
+use crate::plan::{Pending, find_table};
+use crate::state::Run;
+use crate::turn::{push, put};
+use proc_eval::Halt;
+use proc_eval::fit::{is_under, set_columns};
+use proc_syntax::{Binding, Fault, Stop};
+use rel_base::{Key, List, Made, NoMemory, Read, Row, Seen, TableDef, Twin, Value};
+use row_sets::Overlay;
+use std::alloc::Global;
+
+/// The rows that the transaction sees at a read that got rows of the tables, which stand in the order of their keys.
+fn seen_rows(
+    alloc: Global,
+    tables: &List<TableDef>,
+    own: &Overlay,
+    made: &Made,
+) -> Result<List<Row>, NoMemory>
+    requires { StandInOrder tables.now made.now.read made.now.rows }
+    ensures { IfOk result (λ rows. rows ≡ seen_in tables.now made.now.read (own_of own.now) made.now.rows) }
+{
+    match tables.get(made.read.table() as usize) {
+        None => Ok(List::new(alloc)),
+        Some(def) => own.merge(alloc, def, &made.read, &made.rows),
+    }
+}
+
+/// The first row that was read.
+fn first_row(alloc: Global, seens: &[Seen]) -> Result<Option<Row>, NoMemory>
+    ensures { IfOk result (λ row. row ≡ first_row seens.now) }
+{
+    match seens.first() {
+        None => Ok(None),
+        Some(seen) => Ok(Some(seen.row.copy(alloc)?)),
+    }
+}
+
+/// The row of a key with columns set, where it then fits and still has the key.
+fn changed(
+    alloc: Global,
+    def: &TableDef,
+    key: &Key,
+    old: &Row,
+    changes: &[(usize, Value)],
+) -> Result<Row, Halt>
+    ensures { Gives result (found (row_under def.now key.now (set_columns old.now changes.now))) }
+{
+    let mut row = old.copy(alloc)?;
+    set_columns(alloc, &mut row, changes)?;
+    if is_under(alloc, def, key, &row)? {
+        Ok(row)
+    } else {
+        Err(Halt::Stop(Stop::IllTyped))
+    }
+}
+
+/// Leaves a row at a key, or none. The rows are those that the point read of the key got of the tables.
+fn leave(
+    alloc: Global,
+    table: u32,
+    key: &Key,
+    rows: &[Seen],
+    after: Option<Row>,
+    run: &mut Run,
+) -> Result<(), NoMemory>
+    ensures wrote { OnOk result (state run.new ≡ wrote (state run.old) table key.now after) }
+    ensures found { KeepsFound (Point table key.now) rows.now run.old.own run.new.own }
+    ensures made { run.new.made ≡ run.old.made }
+    ensures steps { run.new.steps ≡ run.old.steps }
+    ensures err { OnErr result (run.new ≡ run.old) }
+{
+    let before = first_row(alloc, rows)?;
+    let key = key.copy(alloc)?;
+    run.own.put(table, key, before, after)
+}
+
+/// Puts a new row where its key has none.
+fn put_new(alloc: Global, made: &Made, row: &Row, seen: &[Row], run: &mut Run) -> Result<(), Halt>
+    ensures ends { Ends result (asked (state run.new) made.now.read made.now.rows)
+        (at_key made.now.read (λ table key. insert_at table key row.now seen.now) (asked (state run.old) made.now.read made.now.rows)) }
+    ensures found { KeepsFound made.now.read made.now.rows run.old.own run.new.own }
+    ensures made { run.new.made ≡ run.old.made }
+    ensures steps { run.new.steps ≡ run.old.steps }
+    ensures err { result ≡ Err halt.NoMemory → run.new ≡ run.old }
+{
+    match (&made.read, seen.first()) {
+        (Read::Span { .. }, _) => Err(Halt::Stop(Stop::IllTyped)),
+        (Read::Point { .. }, Some(_)) => Err(Halt::Stop(Stop::Fault(Fault::DuplicateKey))),
+        (Read::Point { table, key }, None) => {
+            let row = row.copy(alloc)?;
+            leave(alloc, *table, key, made.rows.as_slice(), Some(row), run)?;
+            Ok(())
+        }
+    }
+}
+
+/// Changes the row of a key.
+fn put_changed(
+    alloc: Global,
+    tables: &List<TableDef>,
+    made: &Made,
+    changes: &[(usize, Value)],
+    seen: &[Row],
+    run: &mut Run,
+) -> Result<(), Halt>
+    ensures ends { Ends result (asked (state run.new) made.now.read made.now.rows)
+        (at_key made.now.read (λ table key state. with_some (slice_get tables.now table) state (λ def. update_at def table key changes.now seen.now state)) (asked (state run.old) made.now.read made.now.rows)) }
+    ensures found { KeepsFound made.now.read made.now.rows run.old.own run.new.own }
+    ensures made { run.new.made ≡ run.old.made }
+    ensures steps { run.new.steps ≡ run.old.steps }
+    ensures err { result ≡ Err halt.NoMemory → run.new ≡ run.old }
+{
+    match &made.read {
+        Read::Span { .. } => Err(Halt::Stop(Stop::IllTyped)),
+        Read::Point { table, key } => {
+            let def = find_table(tables, *table)?;
+            match seen.first() {
+                None => Err(Halt::Stop(Stop::Fault(Fault::NoRow))),
+                Some(old) => {
+                    let row = changed(alloc, def, key, old, changes)?;
+                    leave(alloc, *table, key, made.rows.as_slice(), Some(row), run)?;
+                    Ok(())
+                }
+            }
+        }
+    }
+}
+
+/// Deletes the row of a key.
+fn put_none(alloc: Global, made: &Made, seen: &[Row], run: &mut Run) -> Result<(), Halt>
+    ensures ends { Ends result (asked (state run.new) made.now.read made.now.rows)
+        (at_key made.now.read (λ table key. delete_at table key seen.now) (asked (state run.old) made.now.read made.now.rows)) }
+    ensures found { KeepsFound made.now.read made.now.rows run.old.own run.new.own }
+    ensures made { run.new.made ≡ run.old.made }
+    ensures steps { run.new.steps ≡ run.old.steps }
+    ensures err { result ≡ Err halt.NoMemory → run.new ≡ run.old }
+{
+    match (&made.read, seen.first()) {
+        (Read::Span { .. }, _) => Err(Halt::Stop(Stop::IllTyped)),
+        (Read::Point { .. }, None) => Err(Halt::Stop(Stop::Fault(Fault::NoRow))),
+        (Read::Point { table, key }, Some(_)) => {
+            leave(alloc, *table, key, made.rows.as_slice(), None, run)?;
+            Ok(())
+        }
+    }
+}
+
+/// Enters one block of a `get` where its key has a row, which the variable then holds, and the other where it has none.
+fn enter(
+    alloc: Global,
+    spots: &mut Vec<Spot>,
+    run: &mut Run,
+    at: usize,
+    slot: usize,
+    table: u32,
+    seen: &[Row],
+) -> Result<(), NoMemory>
+    requires { vec_len spots.old < vec_capacity spots.old }
+    ensures goes { OnOk result ((tables : List Def) (columns : List (List (Option ℕ))) (S : Tables) (root : List Act) (read : Asked) (rows : List SeenRow) → run_frames tables columns S (frames_of root spots.new.items) (asked (state run.new) read rows)
+        ≡ then_do (held_or (hold slot table) (do_all tables columns S (part_of (block_of root spots.old.items) at First)) (do_all tables columns S (part_of (block_of root spots.old.items) at Second)) seen.now (asked (state run.old) read rows)) (run_frames tables columns S (frames_of root spots.old.items))) }
+    ensures own { run.new.own ≡ run.old.own }
+    ensures made { run.new.made ≡ run.old.made }
+    ensures steps { run.new.steps ≡ run.old.steps }
+    ensures err { OnErr result ((spots.new.items ≡ spots.old.items) × (run.new ≡ run.old)) }
+{
+    match seen.first() {
+        None => {
+            let spot = Spot::Block {
+                at,
+                branch: Branch::Second,
+                next: 0,
+            };
+            push(spots, spot);
+            Ok(())
+        }
+        Some(row) => {
+            let row = row.copy(alloc)?;
+            put(&mut run.slots, slot, Binding::Held { table, row });
+            let spot = Spot::Block {
+                at,
+                branch: Branch::First,
+                next: 0,
+            };
+            push(spots, spot);
+            Ok(())
+        }
+    }
+}
+
+/// Goes on with the rows that a read got of the tables. There is room for a spot. Where memory is wanting, all is as before.
+pub fn resume(
+    alloc: Global,
+    tables: &List<TableDef>,
+    spots: &mut Vec<Spot>,
+    run: &mut Run,
+    at: usize,
+    made: &Made,
+    pending: &Pending,
+) -> Result<(), Halt>
+    requires room { vec_len spots.old < vec_capacity spots.old }
+    requires order { StandInOrder tables.now made.now.read made.now.rows }
+    ensures comes { (columns : List (List (Option ℕ))) (S : Tables) (root : List Act) → Comes result (run_frames tables.now columns S (frames_of root spots.new.items) (asked (state run.new) made.now.read made.now.rows))
+        (asked (state run.new) made.now.read made.now.rows)
+        (then_do (answered tables.now columns S (part_of (block_of root spots.old.items) at First) (part_of (block_of root spots.old.items) at Second) made.now.read pending.now made.now.rows (state run.old)) (run_frames tables.now columns S (frames_of root spots.old.items))) }
+    ensures found { KeepsFound made.now.read made.now.rows run.old.own run.new.own }
+    ensures made { run.new.made ≡ run.old.made }
+    ensures steps { run.new.steps ≡ run.old.steps }
+    ensures err { result ≡ Err halt.NoMemory → (spots.new.items ≡ spots.old.items) × (run.new ≡ run.old) }
+{
+    let seen = seen_rows(alloc, tables, &run.own, made)?;
+    match pending {
+        Pending::Insert { row } => put_new(alloc, made, row, seen.as_slice(), run),
+        Pending::Update { changes } => put_changed(
+            alloc,
+            tables,
+            made,
+            changes.as_slice(),
+            seen.as_slice(),
+            run,
+        ),
+        Pending::Delete => put_none(alloc, made, seen.as_slice(), run),
+        Pending::Get { slot } => {
+            enter(
+                alloc,
+                spots,
+                run,
+                at,
+                *slot,
+                made.read.table(),
+                seen.as_slice(),
+            )?;
+            Ok(())
+        }
+        Pending::For { slot } => {
+            push(
+                spots,
+                Spot::Loop {
+                    at,
+                    slot: *slot,
+                    table: made.read.table(),
+                    rows: seen,
+                    next: 0,
+                },
+            );
+            Ok(())
+        }
+    }
+}

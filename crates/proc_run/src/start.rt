@@ -1,0 +1,143 @@
+//! Calls before their first step.
+
+ghost use Rattle.std.specs.Prelude.{◌≡◌, [], List, Option, None, IfOk, OnOk, map, replicate, slice_get};
+ghost use Rattle.std.specs.List.{find};
+ghost use Rattle.std.specs.Option.{option_and_then};
+ghost use Rattle.std.specs.Str.{bytes_eq};
+ghost use Rattle.rel_base.specs.Tables.{Tables};
+ghost use Rattle.rel_base.specs.declared.schema.TableDef.{TableDef as Def};
+ghost use Rattle.row_sets.specs.Overlay.{AreFound};
+ghost use Rattle.proc_syntax.specs.Values.{have_kinds};
+ghost use Rattle.proc_syntax.specs.declared.run.Stop.TheVariants as stop;
+ghost use Rattle.proc_code.specs.Coded.{begin, given};
+ghost use Rattle.proc_run.specs.declared.state.Phase.TheVariants as phase;
+ghost use Rattle.proc_run.specs.Remains.{state};
+ghost use Rattle.proc_run.specs.Told.{IsBegun};
+
+use crate::state::{Phase, Run};
+use crate::turn::put;
+use proc_code::{AppCode, Param, ProcCode};
+use proc_eval::fit::has_kind;
+use proc_syntax::{Binding, Stop, Tx};
+use rel_base::{List, Name, NoMemory, Twin, Value};
+use row_sets::Overlay;
+use std::alloc::Global;
+
+/// A call before its first step: the number of its procedure, how the run stands, and what it has.
+#[derive(Drop)]
+pub struct Begun {
+    pub number: usize,
+    pub phase: Phase,
+    pub run: Run,
+}
+
+/// The number of the first procedure of a name.
+fn number_of(procs: &[ProcCode], name: &Name) -> Option<usize>
+    ensures { option_and_then (slice_get procs.now) result ≡ find (λ procedure. bytes_eq procedure.name name.now) procs.now }
+{
+    for (i, procedure) in procs.iter().enumerate() {
+        if procedure.name.as_str() == name.as_str() {
+            return Some(i);
+        }
+    }
+    None
+}
+
+/// Whether there is one argument of its kind for each parameter.
+fn accepts(params: &[Param], values: &[Value]) -> bool
+    ensures { result ≡ have_kinds (map (λ param. param.kind) params.now) values.now }
+{
+    match (params.split_first(), values.split_first()) {
+        (None, None) => true,
+        (Some((param, params)), Some((value, values))) => has_kind(param.kind, value)
+            && accepts(params, values),
+        _ => false,
+    }
+}
+
+/// Variables that stand for nothing yet.
+fn no_bindings(alloc: Global, slots: usize) -> Result<List<Option<Binding>>, NoMemory>
+    ensures { IfOk result (λ list. list ≡ replicate slots None) }
+{
+    let mut list = List::new(alloc);
+    for _i in 0..slots {
+        list.push(None)?;
+    }
+    Ok(list)
+}
+
+/// The parameters stand for the arguments from now on.
+fn give(
+    alloc: Global,
+    slots: &mut List<Option<Binding>>,
+    params: &[Param],
+    values: &[Value],
+) -> Result<(), NoMemory>
+    ensures { OnOk result (slots.new ≡ given slots.old params.now values.now) }
+{
+    match (params.split_first(), values.split_first()) {
+        (Some((param, params)), Some((value, values))) => {
+            let value = value.copy(alloc)?;
+            put(slots, param.slot, Binding::Plain(value));
+            give(alloc, slots, params, values)
+        }
+        _ => Ok(()),
+    }
+}
+
+/// What a run has at its begin.
+fn begin(alloc: Global, procedure: &ProcCode, values: &[Value]) -> Result<Run, NoMemory>
+    ensures state { IfOk result (λ run. state run ≡ begin procedure.now values.now) }
+    ensures steps { IfOk result (λ run. run.steps ≡ 0) }
+    ensures made { IfOk result (λ run. run.made.items ≡ []) }
+    ensures found { IfOk result (λ run. (declared : List Def) (tables : Tables) → AreFound declared tables run.own) }
+{
+    let mut slots = no_bindings(alloc, procedure.slots)?;
+    give(alloc, &mut slots, procedure.params.as_slice(), values)?;
+    Ok(Run {
+        slots,
+        own: Overlay::new(alloc),
+        made: Vec::new(alloc),
+        steps: 0,
+    })
+}
+
+/// A call that can not begin. Its run has no read, and is ill typed.
+fn no_call(alloc: Global) -> Begun
+    ensures stopped { result.phase ≡ phase.Stopped stop.IllTyped }
+    ensures made { result.run.made.items ≡ [] }
+    ensures steps { result.run.steps ≡ 0 }
+    ensures found { (declared : List Def) (tables : Tables) → AreFound declared tables result.run.own }
+{
+    Begun {
+        number: 0,
+        phase: Phase::Stopped(Stop::IllTyped),
+        run: Run {
+            slots: List::new(alloc),
+            own: Overlay::new(alloc),
+            made: Vec::new(alloc),
+            steps: 0,
+        },
+    }
+}
+
+/// A call before its first step. A call of no procedure, or with arguments that do not fit, has stopped at once.
+pub fn begin_call(alloc: Global, code: &AppCode, tx: &Tx) -> Result<Begun, NoMemory>
+    ensures { IfOk result (λ begun. IsBegun code.now tx.now begun.number begun.phase begun.run) }
+{
+    let Some(number) = number_of(code.procs.as_slice(), &tx.procedure) else {
+        return Ok(no_call(alloc));
+    };
+    let Some(procedure) = code.procs.get(number) else {
+        return Ok(no_call(alloc));
+    };
+    if !accepts(procedure.params.as_slice(), tx.args.as_slice()) {
+        return Ok(no_call(alloc));
+    }
+    let run = begin(alloc, procedure, tx.args.as_slice())?;
+    Ok(Begun {
+        number,
+        phase: Phase::Running,
+        run,
+    })
+}
