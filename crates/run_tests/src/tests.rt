@@ -1,0 +1,358 @@
+//! Calls of two applications, on tables in memory.
+
+ghost use Rattle.std.specs.Prelude.{◌≡◌};
+ghost use Rattle.proc_syntax.specs.Declaring.{tables_of};
+
+use crate::ways::agree;
+use plain_run::RowTables;
+use proc_check::{Checked, check};
+use proc_parse::parse;
+use proc_syntax::{Ending, Fault, Tx};
+use rel_base::{Blob, Id, List, Name, Place, Row, Str, Value, Write};
+use std::alloc::Global;
+use std::sync::Arc;
+use std::test::Fail;
+
+/// Accounts.
+const ACCOUNTS: &str = r#"
+table acct (id int, owner text, bal int) key (id) index (owner);
+proc add(i int, o text, b int) { insert acct (i, o, b); }
+proc remove(i int) { delete acct key (i); }
+proc pay(f int, t int, n int) {
+  get a from acct key (f) {
+    get b from acct key (t) {
+      if a.bal < n { fail "funds"; }
+      update acct key (f) set bal = a.bal - n;
+      update acct key (t) set bal = b.bal + n;
+    } else { fail "no payee"; }
+  } else { fail "no payer"; }
+}
+proc sweep(o text, t int) {
+  let sum = 0;
+  for r in acct span on owner from o to o { sum = sum + r.bal; }
+  update acct key (t) set bal = sum;
+}
+proc both(a int, b int, n int) {
+  get v from acct key (a) {
+    get w from acct key (b) {
+      if v.bal + w.bal >= n { update acct key (a) set bal = v.bal - n; }
+      else { fail "low"; }
+    } else { fail "no second"; }
+  } else { fail "no first"; }
+}
+proc trio(a int, b int, c int) {
+  get u from acct key (a) { } else { }
+  get v from acct key (b) { } else { }
+  get w from acct key (c) { } else { }
+}
+proc spin(a int, b int, c int, d int) {
+  for p in acct span on id from 1 to a {
+    for q in acct span on id from 1 to b {
+      for r in acct span on id from 1 to c {
+        for s in acct span on id from 1 to d { }
+      }
+    }
+  }
+}
+proc spinmore(a int, b int, c int, d int) {
+  for p in acct span on id from 1 to a {
+    for q in acct span on id from 1 to b {
+      for r in acct span on id from 1 to c {
+        for s in acct span on id from 1 to d { }
+      }
+    }
+  }
+  let last = 0;
+}
+"#;
+
+/// Lots at sites.
+const LOTS: &str = r#"
+table lot (site text, nr int, tag bytes, held bool) key (site, nr) index (held);
+proc put(s text, n int, t bytes) { insert lot (s, n, t, false); }
+proc hold(s text) {
+  for r in lot span on site from s to s {
+    update lot key (r.site, r.nr) set held = true;
+  }
+}
+"#;
+
+/// A call, and how it is to end: the name of a fault, the text of a `fail`, or `good`.
+#[derive(Drop)]
+struct Case {
+    tx: Tx,
+    end: &'static str,
+}
+
+/// A value in a case.
+#[derive(Clone, Copy)]
+enum Arg<'a> {
+    Int(i64),
+    Text(&'a str),
+    Bytes(&'a [u8]),
+    Bool(bool),
+}
+
+fn value(alloc: Global, arg: Arg<'_>) -> Result<Value, Fail> {
+    match arg {
+        Arg::Int(number) => Ok(Value::Int(number)),
+        Arg::Text(text) => Ok(Value::Text(Str::new(alloc, text)?)),
+        Arg::Bytes(bytes) => Ok(Value::Bytes(Blob::new(alloc, bytes)?)),
+        Arg::Bool(answer) => Ok(Value::Bool(answer)),
+    }
+}
+
+fn values(alloc: Global, args: &[Arg<'_>]) -> Result<List<Value>, Fail> {
+    let mut values = List::new(alloc);
+    for arg in args {
+        values.push(value(alloc, *arg)?)?;
+    }
+    Ok(values)
+}
+
+/// Puts a call of a procedure on a list of cases.
+fn add(
+    alloc: Global,
+    cases: &mut List<Case>,
+    procedure: &str,
+    args: &[Arg<'_>],
+    end: &'static str,
+) -> Result<(), Fail> {
+    let tx = Tx {
+        id: Id::new(alloc, "x")?,
+        height: 1,
+        procedure: Name::new(alloc, procedure)?,
+        args: values(alloc, args)?,
+    };
+    cases.push(Case { tx, end })?;
+    Ok(())
+}
+
+/// Puts the write of a new row on a list of writes. Its key has a number of values.
+fn add_row(
+    alloc: Global,
+    writes: &mut List<Write>,
+    in_key: usize,
+    row: &[Arg<'_>],
+) -> Result<(), Fail> {
+    let mut key = List::new(alloc);
+    for arg in row.iter().take(in_key) {
+        key.push(value(alloc, *arg)?)?;
+    }
+    writes.push(Write {
+        table: 0,
+        key,
+        before: None,
+        after: Some(values(alloc, row)?),
+    })?;
+    Ok(())
+}
+
+/// The accounts 1 and on, of ann and bob in turn, with balances of ten times their number.
+fn accounts(alloc: Global, number: i64) -> Result<List<Write>, Fail> {
+    let mut writes = List::new(alloc);
+    for id in 1..=number {
+        let owner = if id % 2 == 1 { "ann" } else { "bob" };
+        let row = [
+            Arg::Int(id),
+            Arg::Text(owner),
+            Arg::Int(id.saturating_mul(10)),
+        ];
+        add_row(alloc, &mut writes, 1, &row)?;
+    }
+    Ok(writes)
+}
+
+/// The name of an end.
+fn name_of(ending: &Ending) -> &str {
+    match ending {
+        Ending::Good => "good",
+        Ending::IllTyped => "ill typed",
+        Ending::Faulted(Fault::Overflow) => "overflow",
+        Ending::Faulted(Fault::ZeroDivide) => "zero-divide",
+        Ending::Faulted(Fault::DuplicateKey) => "duplicate-key",
+        Ending::Faulted(Fault::NoRow) => "no-row",
+        Ending::Faulted(Fault::TextTooLong) => "text-too-long",
+        Ending::Faulted(Fault::Steps) => "steps",
+        Ending::Faulted(Fault::Failed(text)) => text.as_str(),
+    }
+}
+
+/// Whether a call gives the same in both ways, and ends as it is to end.
+fn holds(
+    alloc: Global,
+    app: &Arc<Checked>,
+    tables: &RowTables<'_>,
+    case: &Case,
+) -> Result<bool, Fail>
+    requires { tables.now.declared.now ≡ tables_of app.now.value.app }
+{
+    if !tables.is_ready(alloc)? {
+        return Ok(false);
+    }
+    let found = agree(alloc, app, tables, &case.tx)?;
+    Ok(matches!(&found, Some(ran) if name_of(&ran.ending) == case.end))
+}
+
+/// The number of the first case that does not hold on the tables that writes make, or of all cases where each holds.
+fn first_failed(
+    alloc: Global,
+    text: &str,
+    writes: &List<Write>,
+    cases: &List<Case>,
+) -> Result<usize, Fail> {
+    if text.len() > 10_000 {
+        return Ok(0);
+    }
+    let app = Arc::new(alloc, check(alloc, parse(alloc, text.as_bytes())?)?)?;
+    let mut tables = RowTables::new(alloc, app.tables());
+    tables.apply(alloc, Place { block: 1, pos: 1 }, writes.as_slice())?;
+    for (at, case) in cases.as_slice().iter().enumerate() {
+        if !holds(alloc, &app, &tables, case)? {
+            return Ok(at);
+        }
+    }
+    Ok(cases.len())
+}
+
+#[test]
+fn accounts_come_and_go(rt: HostRuntime) -> Result<(), Fail> {
+    let alloc = rt.alloc();
+    let mut cases = List::new(alloc);
+    for (id, end) in [(4, "good"), (-1, "good"), (3, "duplicate-key")] {
+        let args = [Arg::Int(id), Arg::Text("eve"), Arg::Int(7)];
+        add(alloc, &mut cases, "add", &args, end)?;
+    }
+    for (id, end) in [(1, "good"), (3, "good"), (4, "no-row")] {
+        add(alloc, &mut cases, "remove", &[Arg::Int(id)], end)?;
+    }
+    add(alloc, &mut cases, "remove", &[Arg::Text("1")], "ill typed")?;
+    add(alloc, &mut cases, "vanish", &[Arg::Int(1)], "ill typed")?;
+    let failed = first_failed(alloc, ACCOUNTS, &accounts(alloc, 3)?, &cases)?;
+    assert_eq!(rt; failed, cases.len());
+    Ok(())
+}
+
+#[test]
+fn payments(rt: HostRuntime) -> Result<(), Fail> {
+    let alloc = rt.alloc();
+    let mut cases = List::new(alloc);
+    for (from, to, amount, end) in [
+        (1, 2, 10, "good"),
+        (2, 1, -5, "good"),
+        (2, 2, 20, "good"),
+        (3, 3, 31, "funds"),
+        (1, 2, 11, "funds"),
+        (1, 9, 1, "no payee"),
+        (9, 1, 1, "no payer"),
+        (9, 9, 1, "no payer"),
+        (1, 2, i64::MIN, "overflow"),
+    ] {
+        let args = [Arg::Int(from), Arg::Int(to), Arg::Int(amount)];
+        add(alloc, &mut cases, "pay", &args, end)?;
+    }
+    for (first, second, amount, end) in [
+        (1, 2, 30, "good"),
+        (1, 2, 31, "low"),
+        (1, 1, 20, "good"),
+        (1, 9, 1, "no second"),
+        (9, 1, 1, "no first"),
+    ] {
+        let args = [Arg::Int(first), Arg::Int(second), Arg::Int(amount)];
+        add(alloc, &mut cases, "both", &args, end)?;
+    }
+    let failed = first_failed(alloc, ACCOUNTS, &accounts(alloc, 3)?, &cases)?;
+    assert_eq!(rt; failed, cases.len());
+    Ok(())
+}
+
+#[test]
+fn sweeps_and_looks(rt: HostRuntime) -> Result<(), Fail> {
+    let alloc = rt.alloc();
+    let mut cases = List::new(alloc);
+    for (owner, to, end) in [
+        ("ann", 2, "good"),
+        ("ann", 1, "good"),
+        ("bob", 5, "good"),
+        ("eve", 1, "good"),
+        ("ann", 9, "no-row"),
+    ] {
+        add(
+            alloc,
+            &mut cases,
+            "sweep",
+            &[Arg::Text(owner), Arg::Int(to)],
+            end,
+        )?;
+    }
+    for ids in [[1, 2, 3], [1, 1, 1], [9, 2, 8]] {
+        let args = [Arg::Int(ids[0]), Arg::Int(ids[1]), Arg::Int(ids[2])];
+        add(alloc, &mut cases, "trio", &args, "good")?;
+    }
+    let failed = first_failed(alloc, ACCOUNTS, &accounts(alloc, 5)?, &cases)?;
+    assert_eq!(rt; failed, cases.len());
+    Ok(())
+}
+
+/// Puts a call of a procedure with four numbers on a list of cases.
+fn add_spin(
+    alloc: Global,
+    cases: &mut List<Case>,
+    procedure: &str,
+    ends: [i64; 4],
+    end: &'static str,
+) -> Result<(), Fail> {
+    let args = [
+        Arg::Int(ends[0]),
+        Arg::Int(ends[1]),
+        Arg::Int(ends[2]),
+        Arg::Int(ends[3]),
+    ];
+    add(alloc, cases, procedure, &args, end)
+}
+
+#[test]
+fn spins(rt: HostRuntime) -> Result<(), Fail> {
+    let alloc = rt.alloc();
+    let mut cases = List::new(alloc);
+    add_spin(alloc, &mut cases, "spin", [2, 3, 4, 5], "good")?;
+    add_spin(alloc, &mut cases, "spin", [0, 9, 9, 9], "good")?;
+    add_spin(alloc, &mut cases, "spinmore", [3, 1, 0, 2], "good")?;
+    add_spin(alloc, &mut cases, "spin", [9, 23, 13, 35], "good")?;
+    add_spin(alloc, &mut cases, "spinmore", [9, 23, 13, 35], "steps")?;
+    let failed = first_failed(alloc, ACCOUNTS, &accounts(alloc, 35)?, &cases)?;
+    assert_eq!(rt; failed, cases.len());
+    Ok(())
+}
+
+#[test]
+fn lots(rt: HostRuntime) -> Result<(), Fail> {
+    let alloc = rt.alloc();
+    let mut writes = List::new(alloc);
+    for (site, number, held) in [("a", 1, false), ("a", 2, true), ("b", 1, false)] {
+        let row = [
+            Arg::Text(site),
+            Arg::Int(number),
+            Arg::Bytes(b"\x01\xff"),
+            Arg::Bool(held),
+        ];
+        add_row(alloc, &mut writes, 2, &row)?;
+    }
+    let mut cases = List::new(alloc);
+    for (site, number, end) in [
+        ("a", 3, "good"),
+        ("", 0, "good"),
+        ("a", 2, "duplicate-key"),
+        ("b", 1, "duplicate-key"),
+    ] {
+        let args = [Arg::Text(site), Arg::Int(number), Arg::Bytes(b"")];
+        add(alloc, &mut cases, "put", &args, end)?;
+    }
+    for site in ["a", "b", "c"] {
+        add(alloc, &mut cases, "hold", &[Arg::Text(site)], "good")?;
+    }
+    add(alloc, &mut cases, "hold", &[Arg::Int(1)], "ill typed")?;
+    let failed = first_failed(alloc, LOTS, &writes, &cases)?;
+    assert_eq!(rt; failed, cases.len());
+    Ok(())
+}
