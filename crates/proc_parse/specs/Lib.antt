@@ -10,3 +10,5 @@ pub mod Grammar
 pub mod Shorter
 pub mod Faults
 pub mod Printed
+pub mod Unlined
+pub mod Laws

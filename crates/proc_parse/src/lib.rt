@@ -3,6 +3,7 @@
 
 mod declarations;
 mod expressions;
+pub mod laws;
 mod lexer;
 mod names;
 mod parser;

@@ -1,6 +1,7 @@
 //! Applications as texts.
 
 ghost use Rattle.std.specs.Prelude.{◌≡◌, ◌++◌, [], OnOk, IfOk, codes, flat_map};
+ghost use Rattle.proc_parse.specs.Laws.{ComesBack};
 ghost use Rattle.proc_parse.specs.Printed.{column_text, index_text, kind_text, named_text, printed, procedure_text, table_text};
 
 use crate::printed_expressions::push_name;
@@ -100,7 +101,10 @@ fn push_procedures(alloc: Global, out: &mut Vec<u8>, procedures: &[ProcDef]) -> 
 
 /// The text of an application: one declaration or statement to a line, each block indented by two spaces.
 pub fn print(alloc: Global, app: &App) -> Result<List<u8>, NoMemory>
+    // The text of the tree.
     ensures text { IfOk result (λ bytes. bytes ≡ printed app.now) }
+    // An application that was read from a text is read back from what is written, in all but line numbers.
+    ensures back { IfOk result (λ bytes. ComesBack app.now bytes) }
 {
     let mut out = Vec::new(alloc);
     push_tables(&mut out, app.tables.as_slice())?;
