@@ -19,12 +19,12 @@ use Rattle.chain_file.proofs.Blocks.{made_block}
 use Rattle.chain_file.proofs.Steps.{read_step}
 use Rattle.chain_file.proofs.Plain.{plain, plain-append, decimal_plain, tx_plain}
 
-bytes_same : (xs : List ℕ) → bytes_eq xs xs ≡ true
+pub bytes_same : (xs : List ℕ) → bytes_eq xs xs ≡ true
 bytes_same [] = refl
 bytes_same (x ∷ xs) = and_from (x == x) (bytes_eq xs xs) (eq-eqb x x refl) (bytes_same xs)
 
 -- a line without a newline, before its newline
-parts_line : (line rest : List ℕ) → plain line ≡ true → parts_of (line ++ (10 ∷ rest)) ≡ line ∷ parts_of rest
+pub parts_line : (line rest : List ℕ) → plain line ≡ true → parts_of (line ++ (10 ∷ rest)) ≡ line ∷ parts_of rest
 parts_line [] rest e = refl
 parts_line (b ∷ bs) rest e =
     let parts = and_parts (not (is_newline b)) (plain bs) e in

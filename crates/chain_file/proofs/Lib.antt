@@ -6,3 +6,12 @@ pub mod Spelled
 pub mod Plain
 pub mod Again
 pub mod Bounded
+pub mod Near
+pub mod Pieces
+pub mod Walking
+pub mod Back
+pub mod Drafts
+pub mod Lasting
+pub mod Longest
+pub mod Counted
+pub mod Stopped

@@ -30,14 +30,14 @@ numbered_more n [] block h number time = (omega (arith, number), time, tt)
 numbered_more n (b ∷ bs) block h number time = (h.0, h.1, numbered_more (n + 1) bs block h.2 (omega (arith, number)) time)
 
 -- a block of a number and of time 0
-abbrev IsOf : ℕ → Block → Type 0
+abbrev pub IsOf : ℕ → Block → Type 0
 IsOf number block = (block.number ≡ number) × (block.time ≡ pos 0)
 
 of_if : (number : ℕ) (txs : List Tx) (few : Bool) (e : nat_le (length txs) 1024 ≡ few) → Holds (IsOf number) (block_if number txs few e)
 of_if number txs true e = (refl, refl)
 of_if number txs false e = tt
 
-block_is : (number : ℕ) (txs : List Tx) → Holds (IsOf number) (block_of number txs)
+pub block_is : (number : ℕ) (txs : List Tx) → Holds (IsOf number) (block_of number txs)
 unfolding block_of
 block_is number txs = of_if number txs (nat_le (length txs) 1024) refl
 

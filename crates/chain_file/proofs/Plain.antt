@@ -26,7 +26,7 @@ pub plain-append : (xs ys : List ℕ) → plain xs ≡ true → plain ys ≡ tru
 plain-append [] ys hx hy = hy
 plain-append (x ∷ xs) ys hx hy = let parts = and_parts (not (is_newline x)) (plain xs) hx in and_from (not (is_newline x)) (plain (xs ++ ys)) parts.0 (plain-append xs ys parts.1 hy)
 
-plain-from : (p : ℕ → Bool) → ((b : ℕ) → p b ≡ true → not (is_newline b) ≡ true) → (bytes : List ℕ) → list_all p bytes ≡ true → plain bytes ≡ true
+pub plain-from : (p : ℕ → Bool) → ((b : ℕ) → p b ≡ true → not (is_newline b) ≡ true) → (bytes : List ℕ) → list_all p bytes ≡ true → plain bytes ≡ true
 plain-from p then_plain [] all = refl
 plain-from p then_plain (b ∷ bs) all = let parts = and_parts (p b) (list_all p bs) all in and_from (not (is_newline b)) (plain bs) (then_plain b parts.0) (plain-from p then_plain bs parts.1)
 

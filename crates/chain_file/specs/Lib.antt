@@ -3,3 +3,10 @@ pub mod Draft
 pub mod Gives
 pub mod Numbered
 pub mod Text
+pub mod Steps
+pub mod Near
+pub mod Chain
+pub mod Following
+pub mod ChainText
+pub mod Agree
+pub mod Files

@@ -1,12 +1,23 @@
 //! Files of blocks.
 #![tactic(auto)]
 
+pub mod advance;
+#[cfg(test)]
+mod chain_tests;
 pub mod draft;
 pub mod fault;
+pub mod hash;
 pub mod laws;
 pub mod lines;
+pub mod place;
+pub mod reader;
+pub mod sealing;
+pub mod standing;
+pub mod step;
 #[cfg(test)]
 mod tests;
 
 pub use draft::{LONGEST_DRAFT, read_draft};
 pub use fault::DraftFault;
+pub use reader::{Fed, Reader, read_pieces};
+pub use sealing::seal;

@@ -92,10 +92,10 @@ word_len (b ∷ bs) rest all e =
     let more : position_or_len is_space (bs ++ rest) ≡ length bs = word_len bs rest parts.1 e in
     ap (λ test. cond test (1 + position_or_len is_space (bs ++ rest)) 0) parts.0 ∙ omega (arith, more)
 
-word_again : (w rest : List ℕ) → list_all (λ b. not (is_space b)) w ≡ true → begins_field rest ≡ true → word (w ++ rest) ≡ w
+pub word_again : (w rest : List ℕ) → list_all (λ b. not (is_space b)) w ≡ true → begins_field rest ≡ true → word (w ++ rest) ≡ w
 word_again w rest all e = ap (λ k. take k (w ++ rest)) (word_len w rest all e) ∙ take-append-le (length w) w rest (omega arith) ∙ take_all (length w) w (omega arith)
 
-past_again : (w rest : List ℕ) → list_all (λ b. not (is_space b)) w ≡ true → begins_field rest ≡ true → past_word (w ++ rest) ≡ rest
+pub past_again : (w rest : List ℕ) → list_all (λ b. not (is_space b)) w ≡ true → begins_field rest ≡ true → past_word (w ++ rest) ≡ rest
 past_again w rest all e = ap (λ k. drop k (w ++ rest)) (word_len w rest all e) ∙ drop-append-le (length w) w rest (omega arith) ∙ ap (λ xs. xs ++ rest) (drop_all (length w) w (omega arith))
 
 -- ids and names have no space

@@ -42,7 +42,7 @@ fn word_len(bytes: &[u8]) -> usize
 }
 
 /// The bytes before the first space, and those from it on.
-fn split_word(bytes: &[u8]) -> (&[u8], &[u8])
+pub fn split_word(bytes: &[u8]) -> (&[u8], &[u8])
     ensures word { result.0.now ≡ word bytes.now }
     ensures rest { result.1.now ≡ past_word bytes.now }
 {

@@ -1,0 +1,10 @@
+-- How far a line can stand from the front of its file.
+use Rattle.std.specs.Prelude.{ℕ, ◌+◌, ◌*◌, length, Bool, ◌&&◌, nat_le, nat_lt}
+use Rattle.chain_file.specs.declared.place.Place.{Place}
+use Rattle.chain_file.specs.declared.place.Place.TheVariants as place
+
+-- a line has at most this number, since a block has at most 1,026 lines, and a file at most 1,000,000 blocks
+abbrev pub is_near : ℕ → Place → Bool
+is_near line place.Start = nat_le line 1
+is_near line (place.Between f count) = nat_le count 1000000 && nat_le line (count * 1026 + 2)
+is_near line (place.Within f count txs) = nat_lt count 1000000 && nat_le (length txs) 1024 && nat_le line (count * 1026 + length txs + 3)

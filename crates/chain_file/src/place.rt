@@ -1,0 +1,56 @@
+//! Where the lines of a block file stand.
+
+use proc_syntax::{Block, Tx};
+use rel_base::{List, NoMemory, Twin};
+use std::alloc::Global;
+
+/// The two forms of a block file.
+#[derive(Clone, Copy, Debug, PartialEq, Eq)]
+pub enum FileForm {
+    /// The blocks have numbers alone.
+    Draft,
+    /// Each block names the hash of the one before.
+    Chain,
+}
+
+/// Where a line stands in a file.
+#[derive(Drop)]
+pub enum Place {
+    /// At the front, where the header stands.
+    Start,
+    /// Between blocks, so many of which ended.
+    Between {
+        form: FileForm,
+        count: u64,
+    },
+    /// In the block that follows so many, which has these transactions so far.
+    Within {
+        form: FileForm,
+        count: u64,
+        txs: List<Tx>,
+    },
+}
+
+/// What a line leaves: where the next one stands, and the block that it ended.
+#[derive(Drop)]
+pub struct Taken {
+    pub place: Place,
+    pub ended: Option<Block>,
+}
+
+impl Twin for Place {
+    fn copy(&self, alloc: Global) -> Result<Self, NoMemory> {
+        Ok(match self {
+            Place::Start => Place::Start,
+            Place::Between { form, count } => Place::Between {
+                form: *form,
+                count: *count,
+            },
+            Place::Within { form, count, txs } => Place::Within {
+                form: *form,
+                count: *count,
+                txs: txs.copy(alloc)?,
+            },
+        })
+    }
+}

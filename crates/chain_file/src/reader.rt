@@ -1,0 +1,249 @@
+//! Block files, read in pieces.
+
+ghost use Rattle.std.specs.Prelude.{◌≡◌, ◌++◌, ◌∷◌, ℕ, List, [], Some, None, Result, Ok, Err, IfOk, IfSome, OnOk, OnErr, IfErr, length};
+ghost use Rattle.std.specs.List.{flat_map};
+ghost use Rattle.std.specs.Prelude.{Option};
+ghost use Rattle.chain_file.specs.Lines.{parts_of};
+ghost use Rattle.chain_file.specs.Chain.{Position, chain, ended_blocks, fault_at_end, is_between, walk, walked};
+ghost use Rattle.chain_file.specs.Following.{Answers, EndsAs, Follows, Keeps, Reads, StandsAt, fault_met};
+
+use crate::advance::{LineStop, take_line};
+use crate::lines::split_line;
+use crate::place::Place;
+use crate::standing::Standing;
+use proc_syntax::{Block, ChainFault, ChainKind};
+use rel_base::{List, NoMemory};
+use std::alloc::Global;
+use tx_text::MOST_LINE_BYTES;
+
+/// What is known behind bytes: what stands before the line in which they end, and the bytes of that line; or the first fault.
+#[derive(Drop)]
+pub enum State {
+    Open { standing: Standing, held: List<u8> },
+    Stopped(ChainFault),
+}
+
+/// What bytes gave: the blocks that ended, and what is known behind them.
+#[derive(Drop)]
+pub struct Read {
+    pub blocks: List<Block>,
+    pub state: State,
+}
+
+/// What a piece of a file gave.
+#[derive(Drop)]
+pub struct Fed {
+    /// The blocks whose last line ended in the piece, before any fault.
+    pub blocks: List<Block>,
+    /// The fault of the file, where one was met.
+    pub fault: Option<ChainFault>,
+}
+
+/// Puts the block that ended at the end of others.
+fn push_ended(given: &mut List<Block>, ended: Option<Block>) -> Result<(), NoMemory>
+    ensures { OnOk result (given.new ≡ given.old ++ ended_blocks ended) }
+{
+    if let Some(block) = ended {
+        given.push(block)?;
+    }
+    Ok(())
+}
+
+/// A copy of bytes.
+fn copy_of(alloc: Global, bytes: &[u8]) -> Result<List<u8>, NoMemory>
+    ensures { IfOk result (λ copy. copy ≡ bytes.now) }
+{
+    Ok(List::from_vec(Vec::from_slice(alloc, bytes)?))
+}
+
+/// What the bytes after the last newline leave.
+fn last_part(alloc: Global, standing: Standing, rest: &[u8]) -> Result<State, NoMemory>
+    requires { parts_of rest.now ≡ rest.now ∷ [] }
+    ensures { (at : Position) → StandsAt standing at → IfOk result (λ state. Keeps state (walk at (rest.now ∷ [])).1) }
+{
+    if rest.len() > MOST_LINE_BYTES {
+        return Ok(State::Stopped(ChainFault {
+            line: standing.line,
+            kind: ChainKind::LineTooLong,
+        }));
+    }
+    let held = copy_of(alloc, rest)?;
+    Ok(State::Open { standing, held })
+}
+
+/// Reads lines, and what stands behind the last of them.
+fn read_lines(alloc: Global, standing: Standing, bytes: &[u8]) -> Result<Read, NoMemory>
+    ensures { (at : Position) → StandsAt standing at → IfOk result (λ read. Reads read (walk at (parts_of bytes.now))) }
+{
+    let mut given = List::new(alloc);
+    let mut before = standing;
+    let mut rest = bytes;
+    while let Some((line, after)) = split_line(rest) {
+        match take_line(alloc, before, line) {
+            Ok((next, ended)) => {
+                push_ended(&mut given, ended)?;
+                before = next;
+            }
+            Err(LineStop::NoMemory) => return Err(NoMemory),
+            Err(LineStop::Fault(fault)) => {
+                return Ok(Read {
+                    blocks: given,
+                    state: State::Stopped(fault),
+                });
+            }
+        }
+        rest = after;
+    }
+    let state = last_part(alloc, before, rest)?;
+    Ok(Read {
+        blocks: given,
+        state,
+    })
+}
+
+/// Bytes behind others.
+fn joined(alloc: Global, front: &[u8], back: &[u8]) -> Result<Vec<u8>, NoMemory>
+    ensures { IfOk result (λ both. both.items ≡ front.now ++ back.now) }
+{
+    let mut both = Vec::from_slice(alloc, front)?;
+    both.extend_from_slice(back)?;
+    Ok(both)
+}
+
+/// Reads a piece that follows bytes after the last newline.
+fn read_piece(
+    alloc: Global,
+    standing: &Standing,
+    held: &[u8],
+    piece: &[u8],
+) -> Result<Read, NoMemory>
+    ensures { (at : Position) → StandsAt standing.now at → IfOk result (λ read. Reads read (walk at (parts_of (held.now ++ piece.now)))) }
+{
+    let before = standing.copy(alloc)?;
+    if held.is_empty() {
+        return read_lines(alloc, before, piece);
+    }
+    let bytes = joined(alloc, held, piece)?;
+    read_lines(alloc, before, &bytes)
+}
+
+/// The fault that was met.
+fn fault_met(state: &State) -> Option<ChainFault>
+    ensures { result ≡ fault_met state.now }
+{
+    match state {
+        State::Open { .. } => None,
+        State::Stopped(fault) => Some(*fault),
+    }
+}
+
+/// The fault of a file that ends here.
+fn fault_at_end(state: &State) -> Option<ChainFault>
+    ensures met { IfSome (fault_met state.now) (λ fault. result ≡ Some fault) }
+    ensures end { (meant : Result (Position × List ℕ) ChainFault) → Keeps state.now meant → result ≡ fault_at_end meant }
+{
+    match state {
+        State::Stopped(fault) => Some(*fault),
+        State::Open { standing, held } => {
+            if held.is_empty() && matches!(standing.place, Place::Between { .. }) {
+                return None;
+            }
+            Some(ChainFault {
+                line: standing.line,
+                kind: ChainKind::Truncated,
+            })
+        }
+    }
+}
+
+/// A reader of a block file, which is fed with the file piece by piece.
+///
+/// It keeps the bytes after the last newline, the block that has begun and the hash of that block's bytes. Contracts say that it
+/// `Follows` the bytes that it was fed.
+#[derive(Drop)]
+pub struct Reader {
+    alloc: Global,
+    state: State,
+}
+
+impl Reader {
+    /// A reader that was fed with nothing yet.
+    pub fn new(alloc: Global) -> Reader
+        ensures { Follows result [] }
+    {
+        Reader {
+            alloc,
+            state: State::Open {
+                standing: Standing::front(),
+                held: List::new(alloc),
+            },
+        }
+    }
+
+    /// Takes the next piece of the file, and answers the blocks whose last line ended in it, and the fault that was met in it or
+    /// before. Where memory runs out, the reader is as before.
+    pub fn feed(&mut self, piece: &[u8]) -> Result<Fed, NoMemory>
+        ensures follows { (bytes : List ℕ) → Follows self.old bytes → OnOk result (Follows self.new (bytes ++ piece.now)) }
+        ensures fed { (bytes : List ℕ) → Follows self.old bytes → IfOk result (Answers bytes piece.now) }
+        ensures stopped { (found : ChainFault) → fault_met self.old.state ≡ Some found → (self.new ≡ self.old) × (result ≡ Ok (record { blocks = []; fault = Some found })) }
+        ensures err { OnErr result (self.new ≡ self.old) }
+    {
+        match &self.state {
+            State::Stopped(fault) => Ok(Fed {
+                blocks: List::new(self.alloc),
+                fault: Some(*fault),
+            }),
+            State::Open { standing, held } => {
+                let read = read_piece(self.alloc, standing, held.as_slice(), piece)?;
+                let Read { blocks, state } = read;
+                let fault = fault_met(&state);
+                self.state = state;
+                Ok(Fed { blocks, fault })
+            }
+        }
+    }
+
+    /// Ends the file: nothing where the bytes so far are a whole file, and else its first fault. Behind a fault a reader answers
+    /// that fault alone.
+    pub fn end(&mut self) -> Result<(), ChainFault>
+        ensures whole { (bytes : List ℕ) → Follows self.old bytes → EndsAs result (chain bytes).1 }
+        ensures stopped { (found : ChainFault) → fault_met self.old.state ≡ Some found → result ≡ Err found }
+        ensures same { OnOk result (self.new ≡ self.old) }
+        ensures stops { IfErr result (λ found. fault_met self.new.state ≡ Some found) }
+    {
+        match fault_at_end(&self.state) {
+            None => Ok(()),
+            Some(fault) => {
+                self.state = State::Stopped(fault);
+                Err(fault)
+            }
+        }
+    }
+}
+
+/// The fault of a file that ended so.
+fn fault_of(ended: Result<(), ChainFault>) -> Option<ChainFault>
+    ensures { (meant : Option ChainFault) → EndsAs ended meant → result ≡ meant }
+{
+    match ended {
+        Ok(()) => None,
+        Err(fault) => Some(fault),
+    }
+}
+
+/// Reads a whole file that is given in pieces: its blocks up to its first fault, and that fault. How the file is cut changes nothing.
+pub fn read_pieces(alloc: Global, pieces: &[List<u8>]) -> Result<Fed, NoMemory>
+    ensures { IfOk result (λ read. chain (flat_map (λ piece. piece) pieces.now) ≡ (read.blocks, read.fault)) }
+{
+    let mut reader = Reader::new(alloc);
+    let mut given = List::new(alloc);
+    for piece in pieces {
+        let fed = reader.feed(piece.as_slice())?;
+        given.append(fed.blocks)?;
+    }
+    let fault = fault_of(reader.end());
+    Ok(Fed {
+        blocks: given,
+        fault,
+    })
+}

@@ -1,0 +1,74 @@
+//! Chain files, written.
+
+ghost use Rattle.std.specs.Prelude.{◌≡◌, ◌++◌, ◌∷◌, codes, decimal, IfOk, OnOk, None};
+ghost use Rattle.std.specs.List.{flat_map};
+ghost use Rattle.chain_file.specs.Text.{CanStand, line_text, tx_line};
+ghost use Rattle.chain_file.specs.Chain.{chain};
+ghost use Rattle.chain_file.specs.ChainText.{chain_text, chained_text};
+
+use crate::hash::{NO_DIGITS, digits_of_bytes};
+use literals::push_number;
+use proc_syntax::{Block, Tx};
+use rel_base::{List, NoMemory};
+use std::alloc::Global;
+use tx_text::push_tx;
+
+/// Writes the lines of transactions at the end.
+fn push_txs(out: &mut Vec<u8>, txs: &[Tx]) -> Result<(), NoMemory>
+    ensures { OnOk result (out.new.items ≡ out.old.items ++ flat_map tx_line txs.now) }
+{
+    for tx in txs {
+        push_tx(out, tx)?;
+        out.push(b'\n')?;
+    }
+    Ok(())
+}
+
+/// Writes `block N HASH` at the end.
+fn push_first(out: &mut Vec<u8>, number: u64, digits: &[u8]) -> Result<(), NoMemory>
+    ensures { OnOk result (out.new.items ≡ out.old.items ++ line_text (codes "block " ++ decimal number ++ (32 ∷ digits.now))) }
+{
+    out.extend_from_slice(b"block ")?;
+    push_number(out, number)?;
+    out.push(b' ')?;
+    out.extend_from_slice(digits)?;
+    out.push(b'\n')?;
+    Ok(())
+}
+
+/// The lines of a block, whose hash has these digits.
+fn block_lines(alloc: Global, digits: &[u8], block: &Block) -> Result<Vec<u8>, NoMemory>
+    ensures { IfOk result (λ text. text.items ≡ chained_text digits.now block.now) }
+{
+    let mut out = Vec::new(alloc);
+    push_first(&mut out, block.number, digits)?;
+    push_txs(&mut out, block.txs.as_slice())?;
+    out.extend_from_slice(b"end\n")?;
+    Ok(out)
+}
+
+/// The lines of a chain file of blocks.
+fn chain_lines(alloc: Global, blocks: &[Block]) -> Result<Vec<u8>, NoMemory>
+    ensures { IfOk result (λ text. text.items ≡ chain_text blocks.now) }
+{
+    let mut out = Vec::from_slice(alloc, b"chain 1\n")?;
+    let mut digits = NO_DIGITS;
+    for block in blocks {
+        let text = block_lines(alloc, &digits, block)?;
+        out.extend_from_slice(&text)?;
+        digits = digits_of_bytes(&text);
+    }
+    Ok(out)
+}
+
+/// The chain file of blocks, each with the hash of the one before.
+///
+/// Blocks that are numbered from 1, of time 0, at most 1,000,000 and with lines of at most 4,096 bytes are read back from it.
+
+pub fn seal(alloc: Global, blocks: &List<Block>) -> Result<List<u8>, NoMemory>
+    ensures text { IfOk result (λ text. text ≡ chain_text blocks.now) }
+    ensures again { CanStand blocks.now → IfOk result (λ text. chain text ≡ (blocks.now, None)) }
+{
+    let text = chain_lines(alloc, blocks.as_slice())?;
+    Ok(List::from_vec(text))
+}
