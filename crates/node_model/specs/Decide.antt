@@ -1,6 +1,8 @@
 -- The outcome of a transaction: the first cause that applies, in the order of the definitions below, or committed.
 -- (The flow is that of Nathan and others, PVLDB 12(11), 2019; the causes and their order are this project's own.)
+use Rattle.node_model.specs.Danger.{danger}
 use Rattle.node_model.specs.History.{Sealed, history_of, ids_of, ids_told, snapshot, time_at}
+use Rattle.node_model.specs.declared.dangerous.Danger.{Danger}
 use Rattle.node_model.specs.declared.outcome.Outcome.{Outcome}
 use Rattle.node_model.specs.declared.outcome.Outcome.TheVariants as outcome
 use Rattle.node_model.specs.declared.result.Committed.{Committed}
@@ -93,6 +95,10 @@ conflict_outcome writes None = None
 conflict_outcome writes (Some found) =
     option_map (λ write. outcome.WriteConflict (record { with = found.0; table = write.table; key = write.key })) (slice_get writes found.1)
 
+-- the danger in which the transaction stands among those that committed earlier in the block
+abbrev pub danger_outcome : Option Danger → Option Outcome
+danger_outcome found = option_map outcome.Danger found
+
 -- the run of a transaction: on the tables of its height, at the time of that height's block
 abbrev pub run_at : App → List Sealed → Tx → Ran
 run_at app chain tx = run app tx (time_at tx.height chain) (snapshot tx.height chain)
@@ -104,7 +110,9 @@ writes_since chain number tx = writes_between tx.height (number - 1) (history_of
 -- the causes that its run shows
 abbrev pub by_run : List TableDef → List Stamped → List Committed → Ran → Option Outcome
 by_run tables since committed ran =
-    or_else (late_outcome tables (late tables (map (λ made. made.read) ran.reads) since)) (or_else (fault_outcome ran.ending) (conflict_outcome ran.writes (clash committed ran.writes)))
+    or_else (late_outcome tables (late tables (map (λ made. made.read) ran.reads) since))
+    (or_else (fault_outcome ran.ending)
+    (or_else (conflict_outcome ran.writes (clash committed ran.writes)) (danger_outcome (danger tables committed ran.reads ran.writes))))
 
 abbrev pub or_committed : Option Outcome → Outcome
 or_committed None = outcome.Committed

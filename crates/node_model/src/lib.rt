@@ -1,8 +1,10 @@
 //! What the chain of blocks means: the outcome of each transaction, and the fold of the blocks to their results.
 #![tactic(auto)]
 
+pub mod dangerous;
 pub mod outcome;
 pub mod result;
 
+pub use dangerous::Danger;
 pub use outcome::{Clash, Late, Outcome};
 pub use result::{BlockResult, Committed, NodeResult, TableRows, Told};

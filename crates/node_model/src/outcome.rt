@@ -1,5 +1,6 @@
 //! Outcomes of transactions, each abort with its cause.
 
+use crate::dangerous::Danger;
 use proc_syntax::Fault;
 use rel_base::{Key, NoMemory, Place, Twin};
 use std::alloc::Global;
@@ -23,6 +24,8 @@ pub enum Outcome {
     Fault(Fault),
     /// A transaction that committed earlier in the block wrote a key that it writes.
     WriteConflict(Clash),
+    /// With some of the transactions that committed earlier in the block it would make two edges in a row as a cycle has them.
+    Danger(Danger),
 }
 
 /// The first late read of a transaction, and the least write that hits it.
@@ -79,6 +82,7 @@ impl Twin for Outcome {
             Outcome::Late(late) => Ok(Outcome::Late(late.copy(alloc)?)),
             Outcome::Fault(fault) => Ok(Outcome::Fault(fault.copy(alloc)?)),
             Outcome::WriteConflict(clash) => Ok(Outcome::WriteConflict(clash.copy(alloc)?)),
+            Outcome::Danger(danger) => Ok(Outcome::Danger(*danger)),
         }
     }
 }
