@@ -1,0 +1,12 @@
+pub mod Cases
+pub mod Words
+pub mod Places
+pub mod Marks
+pub mod Members
+pub mod Joined
+pub mod Noted
+pub mod Found
+pub mod Forms
+pub mod Lists
+pub mod Alike
+pub mod Shown

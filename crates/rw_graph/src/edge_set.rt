@@ -1,0 +1,105 @@
+//! The positions of a block and the edges between them.
+
+ghost use Rattle.std.specs.Prelude.{ℕ, ◌≡◌, ◌<◌, ◌≤◌, ◌++◌, ◌∷◌, ◌&&◌, [], All, AllPairs, MatchOption, OnErr, OnOk, false, true, vec_len};
+ghost use Rattle.rw_graph.specs.Held.{holds};
+ghost use Rattle.rw_graph.specs.Sets.{AreAmong, IsLeastFrom, is_among};
+ghost use Rattle.rw_graph.specs.Sides.{comes_in, goes_out};
+
+use crate::bits::Bits;
+use crate::row::Edges;
+use crate::rows::{grow, join, least_out, row_at};
+use rel_base::{List, NoMemory};
+use std::alloc::Global;
+
+/// The positions of committed transactions of one block, and the edges between them. Each position has a row of bits for the
+/// positions to which it has an edge, and one for those that have an edge to it.
+#[derive(Drop)]
+pub struct EdgeSet {
+    positions: List<u32>,
+    /// The same positions, so that one is found at once.
+    members: Bits,
+    /// The row of position p is at place p - 1. Positions that are not of the set have rows without an edge.
+    rows: Vec<Edges>,
+    ghost few: { vec_len rows ≤ 1024 },
+    ghost rising: { AllPairs (λ p q. p < q) positions },
+    ghost same_members: { (pos : ℕ) → holds members pos ≡ is_among positions pos },
+    ghost turned: { (from to : ℕ) → comes_in rows.items to from ≡ goes_out rows.items from to },
+    ghost between: { (from to : ℕ) → goes_out rows.items from to ≡ true → (is_among positions from && is_among positions to) ≡ true },
+}
+
+impl EdgeSet {
+    ghost use Rattle.rw_graph.specs.Graph.{AreEdgesOf, has_edge, positions_of, with_position};
+
+    /// The set of no position.
+    pub fn new(alloc: Global) -> Self
+        ensures positions { positions_of result ≡ [] }
+        ensures edges { (from to : ℕ) → has_edge result from to ≡ false }
+    {
+        EdgeSet {
+            positions: List::new(alloc),
+            members: Bits::new(),
+            rows: Vec::new(alloc),
+        }
+    }
+
+    /// The positions. They rise, and each edge is between two of them.
+    pub fn positions(&self) -> &[u32]
+        ensures value { result.now ≡ positions_of self.now }
+        ensures rising { AllPairs (λ p q. p < q) (positions_of self.now) }
+        ensures between { (from to : ℕ) → has_edge self.now from to ≡ true → (is_among (positions_of self.now) from && is_among (positions_of self.now) to) ≡ true }
+    {
+        self.positions.as_slice()
+    }
+
+    /// Whether it has an edge from one position to another.
+    pub fn has(&self, from: u32, to: u32) -> bool
+        ensures { result ≡ has_edge self.now from to }
+    {
+        if from == 0 {
+            return false;
+        }
+        match self.rows.as_slice().get(from as usize - 1) {
+            None => false,
+            Some(row) => row.out.has(to),
+        }
+    }
+
+    /// The least position to which a position has an edge.
+    pub fn least_to(&self, from: u32) -> Option<u32>
+        ensures { IsLeastFrom (has_edge self.now from) 0 result }
+    {
+        least_out(self.rows.as_slice(), from)
+    }
+
+    /// The edges between a position and the others: `None` exactly where the position is not of the set.
+    pub fn row(&self, pos: u32) -> Option<Edges>
+        ensures { MatchOption result (is_among (positions_of self.now) pos ≡ false)
+            (λ edges. (is_among (positions_of self.now) pos ≡ true) × AreEdgesOf (has_edge self.now) pos edges) }
+    {
+        if self.members.has(pos) {
+            Some(row_at(self.rows.as_slice(), pos))
+        } else {
+            None
+        }
+    }
+
+    /// Adds a position above all others, from 1 to 1,024, with its edges to and from positions of the set. Where memory is
+    /// wanting, the set stays as it was.
+    pub fn add(&mut self, pos: u32, edges: &Edges) -> Result<(), NoMemory>
+        requires counts { 1 ≤ pos }
+        requires upto { pos ≤ 1024 }
+        requires above { All (λ other. other < pos) (positions_of self.old) }
+        requires out { AreAmong (positions_of self.old) (holds edges.now.out) }
+        requires into { AreAmong (positions_of self.old) (holds edges.now.into) }
+        ensures positions { OnOk result (positions_of self.new ≡ positions_of self.old ++ pos ∷ []) }
+        ensures edges { OnOk result ((from to : ℕ) → has_edge self.new from to ≡ with_position (has_edge self.old) pos (holds edges.now.out) (holds edges.now.into) from to) }
+        ensures same_positions { OnErr result (positions_of self.new ≡ positions_of self.old) }
+        ensures same_edges { OnErr result ((from to : ℕ) → has_edge self.new from to ≡ has_edge self.old from to) }
+    {
+        grow(&mut self.rows, pos as usize)?;
+        self.positions.push(pos)?;
+        self.members.add(pos);
+        join(&mut self.rows, edges, pos);
+        Ok(())
+    }
+}
