@@ -1,0 +1,99 @@
+//! The serial order, by counting the edges that come to each position from those that are left.
+
+ghost use Rattle.std.specs.Prelude.{ℕ, Bool, IfOk, IfSome, List, MatchOption, None, Some, map, vec_len, ◌<◌, ◌≡◌};
+ghost use Rattle.node_model.specs.Order.{order, take_first};
+ghost use Rattle.rw_graph.specs.Graph.{has_edge, positions_of};
+ghost use Rattle.serial_order.specs.Counts.{IsTakenAt, comers, entries, has_none, lowered};
+
+use crate::left::Left;
+use rel_base::{List, NoMemory};
+use rw_graph::EdgeSet;
+use std::alloc::Global;
+
+// How many edges come to a position.
+fn count_to(set: &EdgeSet, to: u32) -> usize
+    ensures { result ≡ comers (has_edge set.now) (positions_of set.now) to }
+{
+    let mut count = 0;
+    for from in set.positions() {
+        if set.has(*from, to) {
+            count += 1;
+        }
+    }
+    count
+}
+
+// Each position, with how many edges come to it.
+fn counted(alloc: Global, set: &EdgeSet) -> Result<Vec<Left>, NoMemory>
+    ensures { IfOk result (λ left. left.items ≡ entries (has_edge set.now) (positions_of set.now)) }
+{
+    let mut left = Vec::new(alloc);
+    for to in set.positions() {
+        left.push(Left {
+            pos: *to,
+            comers: count_to(set, *to),
+        })?;
+    }
+    Ok(left)
+}
+
+// What is left of an entry when a position is placed.
+fn lowered_entry(set: &EdgeSet, from: u32, entry: Left) -> Left
+    ensures { result ≡ lowered (has_edge set.now) from entry }
+{
+    if set.has(from, entry.pos) {
+        Left {
+            pos: entry.pos,
+            comers: entry.comers.saturating_sub(1),
+        }
+    } else {
+        entry
+    }
+}
+
+// One edge less for each position to which a position that is placed has an edge.
+fn lower(set: &EdgeSet, from: u32, left: &mut Vec<Left>)
+    ensures items { left.new.items ≡ map (lowered (has_edge set.now) from) left.old.items }
+    ensures len { vec_len left.new ≡ vec_len left.old }
+{
+    for entry in left.iter_mut() {
+        *entry = lowered_entry(set, from, *entry);
+    }
+}
+
+// The place of the first entry to which no edge comes.
+fn first_free(left: &[Left]) -> Option<usize>
+    ensures { MatchOption result (take_first has_none left.now ≡ None) (λ index. IsTakenAt has_none left.now index) }
+{
+    for index in 0..left.len() {
+        if left[index].comers == 0 {
+            return Some(index);
+        }
+    }
+    None
+}
+
+// Takes out the first position to which no edge comes.
+fn take_free(left: &mut Vec<Left>) -> Option<u32>
+    ensures taken { MatchOption (take_first has_none left.old.items) ((result ≡ None) × (left.new ≡ left.old)) (λ taken. (result ≡ Some taken.0.pos) × (left.new.items ≡ taken.1)) }
+    ensures len { IfSome result (λ _. vec_len left.new < vec_len left.old) }
+{
+    match first_free(left.as_slice()) {
+        None => None,
+        Some(index) => Some(left.remove(index).pos),
+    }
+}
+
+/// The positions of a set in serial order: again and again the earliest to which no edge comes from one that is left. Where the
+/// edges have no cycle, each position is placed.
+pub fn order(alloc: Global, set: &EdgeSet) -> Result<List<u32>, NoMemory>
+    ensures { IfOk result (λ list. list ≡ order (has_edge set.now) (positions_of set.now)) }
+{
+    let mut left = counted(alloc, set)?;
+    let mut list = List::new(alloc);
+    while let Some(from) = take_free(&mut left) {
+        lower(set, from, &mut left);
+        list.push(from)?;
+    }
+    Ok(list)
+}
