@@ -1,0 +1,13 @@
+pub mod Searches
+pub mod Acyclic
+pub mod Placed
+pub mod Picked
+pub mod Admitted
+pub mod Stories
+pub mod Fitting
+pub mod Replaying
+pub mod Causes
+pub mod Past
+pub mod Folding
+pub mod Growing
+pub mod Positions

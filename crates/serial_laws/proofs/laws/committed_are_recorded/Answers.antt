@@ -1,0 +1,5 @@
+use Rattle.serial_laws.proofs.Growing.{committed_are_recorded}
+use Rattle.serial_laws.proofs.laws.committed_are_recorded.Goals as goal
+
+pub returns : goal.returns
+returns c = committed_are_recorded
