@@ -1,14 +1,15 @@
--- Words that are read are those of a run.
+-- Words that are read are those of a run or of a seal.
 use Rattle.std.proofs.Common.{◌≡◌, ◌⊎◌, ℕ, List, [], ◌∷◌, Bool, true, false, cond, Option, Some, None, refl, ◌∙◌, ap, subst, inl, inr}
 use Rattle.std.specs.Prelude.{◌==◌, codes, bytes_eq}
 use Rattle.std.specs.Option.{option_and_then}
 use Rattle.std.proofs.lemmas.Bool.{and_parts, eqb-true, false≢true}
 use Rattle.cli_words.specs.declared.settings.Settings.{Settings}
-use Rattle.cli_words.specs.declared.settings.Settings.TheVariants.{Run}
+use Rattle.cli_words.specs.declared.settings.Settings.TheVariants.{Run, Seal}
 use Rattle.cli_words.specs.declared.options.Choice.{Choice}
 use Rattle.cli_words.specs.declared.options.Choice.TheVariants as choice
-use Rattle.cli_words.specs.Language.{is_value, choice_of, Said, say_option, say_value, say_all, run_of, settings_of, nothing_said}
-use Rattle.cli_words.specs.Laws.{app_first, blocks_first, IsRun}
+use Rattle.cli_words.specs.declared.read.Command.TheVariants as command
+use Rattle.cli_words.specs.Language.{is_value, choice_of, Said, say_option, say_value, say_all, run_of, seal_of, settings_of, settled, nothing_said}
+use Rattle.cli_words.specs.Laws.{app_first, blocks_first, IsRun, IsSeal}
 
 same_bytes : (xs ys : List ℕ) → bytes_eq xs ys ≡ true → xs ≡ ys
 same_bytes [] [] e = refl
@@ -32,10 +33,11 @@ names_if word false false e f = tt
 names : (word : List ℕ) → Names word (choice_of word)
 names word = names_if word (bytes_eq word (codes "--app")) (bytes_eq word (codes "--blocks")) refl refl
 
--- what was read is a run of these words
+-- what was read is what these words say
 abbrev Fine : List (List ℕ) → Option Settings → Type 0
 Fine words None = Unit {0}
 Fine words (Some (Run app blocks)) = IsRun words app blocks
+Fine words (Some (Seal blocks)) = IsSeal words blocks
 
 -- what the options say, and what they come to
 abbrev said : Option (List ℕ) → Option (List ℕ) → Option Choice → Said
@@ -111,13 +113,77 @@ options : (words more : List (List ℕ)) → words ≡ codes "run" ∷ more → 
 options words [] same = tt
 options words (word ∷ more) same = first words more word (choice_of word) (names word) same
 
-command : (word : List ℕ) (more : List (List ℕ)) (test : Bool) → bytes_eq word (codes "run") ≡ test → Fine (word ∷ more) (cond test (comes_to (say_all nothing_said more)) None)
-command word more true e = options (word ∷ more) more (ap (λ w. w ∷ more) (same_bytes word (codes "run") e))
-command word more false e = tt
+-- a seal takes no application
+abbrev seals : Option Said → Option Settings
+seals read = option_and_then (λ said. seal_of said.app said.blocks said.waiting) read
+
+if_value : (words more : List (List ℕ)) (next : Said) (test : Bool) → Fine words (seals (say_all next more)) → Fine words (seals (option_and_then (λ said. say_all said more) (cond test (Some next) None)))
+if_value words more next true fine = fine
+if_value words more next false fine = tt
+
+then_option : (words more : List (List ℕ)) (app : List ℕ) (blocks : Option (List ℕ)) (option : Option Choice)
+    → ((blocks : Option (List ℕ)) (waiting : Option Choice) → Fine words (seals (say_all (said (Some app) blocks waiting) more)))
+    → Fine words (seals (option_and_then (λ said. say_all said more) (say_option (said (Some app) blocks None) option)))
+then_option words more app blocks None fine = tt
+then_option words more app blocks (Some choice.App) fine = tt
+then_option words more app None (Some choice.Blocks) fine = fine None (Some choice.Blocks)
+then_option words more app (Some value) (Some choice.Blocks) fine = tt
+
+with_app : (words more : List (List ℕ)) (app : List ℕ) (blocks : Option (List ℕ)) (waiting : Option Choice) → Fine words (seals (say_all (said (Some app) blocks waiting) more))
+with_app words [] app blocks waiting = tt
+with_app words (word ∷ more) app blocks None = then_option words more app blocks (choice_of word) (with_app words more app)
+with_app words (word ∷ more) app blocks (Some choice.App) = if_value words more (said (Some word) blocks None) (is_value word) (with_app words more word blocks None)
+with_app words (word ∷ more) app blocks (Some choice.Blocks) = if_value words more (said (Some app) (Some word) None) (is_value word) (with_app words more app (Some word) None)
+
+await_app : (words more : List (List ℕ)) (blocks : Option (List ℕ)) → Fine words (seals (say_all (said None blocks (Some choice.App)) more))
+await_app words [] None = tt
+await_app words [] (Some value) = tt
+await_app words (app ∷ more) blocks = if_value words more (said (Some app) blocks None) (is_value app) (with_app words more app blocks None)
+
+-- after the block file nothing may come
+behind : (words more : List (List ℕ)) (blocks : List ℕ) (option : Option Choice) → Fine words (seals (option_and_then (λ said. say_all said more) (say_option (said None (Some blocks) None) option)))
+behind words more blocks None = tt
+behind words more blocks (Some choice.App) = await_app words more (Some blocks)
+behind words more blocks (Some choice.Blocks) = tt
+
+sealed : (words more : List (List ℕ)) (blocks : List ℕ) → is_value blocks ≡ true → words ≡ codes "seal" ∷ codes "--blocks" ∷ blocks ∷ more → Fine words (seals (say_all (said None (Some blocks) None) more))
+sealed words [] blocks b same = (b, same)
+sealed words (word ∷ more) blocks b same = behind words more blocks (choice_of word)
+
+one_blocks_sealed : (words more : List (List ℕ)) (blocks : List ℕ) (test : Bool) → is_value blocks ≡ test → words ≡ codes "seal" ∷ codes "--blocks" ∷ blocks ∷ more
+    → Fine words (seals (option_and_then (λ said. say_all said more) (cond test (Some (say_value (said None None (Some choice.Blocks)) choice.Blocks blocks)) None)))
+one_blocks_sealed words more blocks true b same = sealed words more blocks b same
+one_blocks_sealed words more blocks false b same = tt
+
+first_sealed : (words more : List (List ℕ)) (word : List ℕ) (option : Option Choice) → Names word option → words ≡ codes "seal" ∷ word ∷ more
+    → Fine words (seals (option_and_then (λ said. say_all said more) (say_option nothing_said option)))
+first_sealed words more word None named same = tt
+first_sealed words more word (Some choice.App) named same = await_app words more None
+first_sealed words [] word (Some choice.Blocks) named same = tt
+first_sealed words (blocks ∷ more) word (Some choice.Blocks) named same =
+    one_blocks_sealed words more blocks (is_value blocks) refl (same ∙ ap (λ w. codes "seal" ∷ w ∷ blocks ∷ more) named)
+
+options_sealed : (words more : List (List ℕ)) → words ≡ codes "seal" ∷ more → Fine words (seals (say_all nothing_said more))
+options_sealed words [] same = tt
+options_sealed words (word ∷ more) same = first_sealed words more word (choice_of word) (names word) same
+
+-- no command
+none_fine : (words : List (List ℕ)) (read : Option Said) → Fine words (option_and_then (settled None) read)
+none_fine words None = tt
+none_fine words (Some said) = tt
+
+by_command : (word : List ℕ) (more : List (List ℕ)) (run seal : Bool) → bytes_eq word (codes "run") ≡ run → bytes_eq word (codes "seal") ≡ seal
+    → Fine (word ∷ more) (option_and_then (settled (cond run (Some command.Run) (cond seal (Some command.Seal) None))) (say_all nothing_said more))
+by_command word more true seal e f = options (word ∷ more) more (ap (λ w. w ∷ more) (same_bytes word (codes "run") e))
+by_command word more false true e f = options_sealed (word ∷ more) more (ap (λ w. w ∷ more) (same_bytes word (codes "seal") f))
+by_command word more false false e f = none_fine (word ∷ more) (say_all nothing_said more)
 
 fine : (words : List (List ℕ)) → Fine words (settings_of words)
 fine [] = tt
-fine (word ∷ more) = command word more (bytes_eq word (codes "run")) refl
+fine (word ∷ more) = by_command word more (bytes_eq word (codes "run")) (bytes_eq word (codes "seal")) refl refl
 
 pub only_runs : (words : List (List ℕ)) (app blocks : List ℕ) → settings_of words ≡ Some (Run app blocks) → IsRun words app blocks
 only_runs words app blocks e = subst (Fine words) e (fine words)
+
+pub only_seals : (words : List (List ℕ)) (blocks : List ℕ) → settings_of words ≡ Some (Seal blocks) → IsSeal words blocks
+only_seals words blocks e = subst (Fine words) e (fine words)

@@ -3,7 +3,9 @@ use Rattle.std.specs.Prelude.{ℕ, List, [], ◌∷◌, Bool, false, not, ◌==�
 use Rattle.std.specs.Borrow.{Bor}
 use Rattle.std.specs.Option.{option_and_then}
 use Rattle.cli_words.specs.declared.settings.Settings.{Settings}
-use Rattle.cli_words.specs.declared.settings.Settings.TheVariants.{Run}
+use Rattle.cli_words.specs.declared.settings.Settings.TheVariants.{Run, Seal}
+use Rattle.cli_words.specs.declared.read.Command.{Command}
+use Rattle.cli_words.specs.declared.read.Command.TheVariants as command
 use Rattle.cli_words.specs.declared.options.Choice.{Choice}
 use Rattle.cli_words.specs.declared.options.Choice.TheVariants as choice
 
@@ -62,8 +64,22 @@ abbrev pub run_of : Option (List ℕ) → Option (List ℕ) → Option Choice �
 run_of (Some app) (Some blocks) None = Some (Run app blocks)
 run_of _ _ _ = None
 
+-- a seal needs the block file alone
+abbrev pub seal_of : Option (List ℕ) → Option (List ℕ) → Option Choice → Option Settings
+seal_of None (Some blocks) None = Some (Seal blocks)
+seal_of _ _ _ = None
+
+-- the command that a word names
+abbrev pub command_of : List ℕ → Option Command
+command_of word = cond (bytes_eq word (codes "run")) (Some command.Run) (cond (bytes_eq word (codes "seal")) (Some command.Seal) None)
+
+-- what a command and its options come to
+abbrev pub settled : Option Command → Said → Option Settings
+settled None said = None
+settled (Some command.Run) said = run_of said.app said.blocks said.waiting
+settled (Some command.Seal) said = seal_of said.app said.blocks said.waiting
+
 -- the settings of a command line: the command's word, and its options in any order; none where it is not in the language
 abbrev pub settings_of : List (List ℕ) → Option Settings
 settings_of [] = None
-settings_of (command ∷ words) = cond (bytes_eq command (codes "run"))
-    (option_and_then (λ said. run_of said.app said.blocks said.waiting) (say_all nothing_said words)) None
+settings_of (word ∷ words) = option_and_then (settled (command_of word)) (say_all nothing_said words)

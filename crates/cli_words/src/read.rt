@@ -2,13 +2,33 @@
 
 ghost use Rattle.std.specs.Prelude.{◌≡◌, ◌↔◌, IfOk, IsErrOf, Option, Some, None};
 ghost use Rattle.std.specs.Option.{option_copied, option_map};
-ghost use Rattle.cli_words.specs.Language.{texts, say_all, nothing_said, run_of, settings_of};
+ghost use Rattle.cli_words.specs.Language.{texts, say_all, nothing_said, command_of, run_of, seal_of, settings_of, settled};
 ghost use Rattle.cli_words.specs.Given.{said};
 
 use crate::options::Given;
 use crate::settings::{Settings, WordsFault};
 use crate::word::Word;
 use std::alloc::Global;
+
+/// A command, by its word.
+#[derive(Clone, Copy, Debug, PartialEq, Eq)]
+pub enum Command {
+    /// `run`
+    Run,
+    /// `seal`
+    Seal,
+}
+
+// The command that a word names.
+fn command_of(word: &str) -> Option<Command>
+    ensures { result ≡ command_of word.now }
+{
+    match word {
+        "run" => Some(Command::Run),
+        "seal" => Some(Command::Seal),
+        _ => None,
+    }
+}
 
 // Each option comes at most once, so that only few words are read before one is refused.
 fn read_options<'a>(given: Given<'a>, words: &[&'a str]) -> Option<Given<'a>>
@@ -37,17 +57,45 @@ fn to_run(alloc: Global, given: Given<'_>) -> Result<Settings, WordsFault>
     }
 }
 
+fn to_seal(alloc: Global, given: Given<'_>) -> Result<Settings, WordsFault>
+    ensures ok { IfOk result (λ settings. seal_of (said given.entry).app (said given.entry).blocks given.entry.waiting ≡ Some settings) }
+    ensures usage { IsErrOf result WordsFault.Usage ↔ (seal_of (said given.entry).app (said given.entry).blocks given.entry.waiting ≡ None) }
+{
+    match given {
+        Given {
+            app: None,
+            blocks: Some(blocks),
+            waiting: None,
+        } => Ok(Settings::Seal {
+            blocks: Word::new(alloc, blocks)?,
+        }),
+        _ => Err(WordsFault::Usage),
+    }
+}
+
+// What a command and its options come to.
+fn settle(alloc: Global, command: Option<Command>, given: Given<'_>) -> Result<Settings, WordsFault>
+    ensures ok { IfOk result (λ settings. settled command (said given.entry) ≡ Some settings) }
+    ensures usage { IsErrOf result WordsFault.Usage ↔ (settled command (said given.entry) ≡ None) }
+{
+    match command {
+        Some(Command::Run) => to_run(alloc, given),
+        Some(Command::Seal) => to_seal(alloc, given),
+        None => Err(WordsFault::Usage),
+    }
+}
+
 /// Reads the words after the program's name. The fault `Usage` comes exactly where the words are not in the language of
 /// the command line.
 pub fn read_words(alloc: Global, words: &[&str]) -> Result<Settings, WordsFault>
     ensures ok { IfOk result (λ settings. settings_of (texts words.now) ≡ Some settings) }
     ensures usage { IsErrOf result WordsFault.Usage ↔ (settings_of (texts words.now) ≡ None) }
 {
-    match words.split_first() {
-        Some((command, options)) if *command == "run" => match read_options(Given::new(), options) {
-            Some(given) => to_run(alloc, given),
-            None => Err(WordsFault::Usage),
-        },
-        _ => Err(WordsFault::Usage),
+    let Some((word, options)) = words.split_first() else {
+        return Err(WordsFault::Usage);
+    };
+    match read_options(Given::new(), options) {
+        Some(given) => settle(alloc, command_of(word), given),
+        None => Err(WordsFault::Usage),
     }
 }

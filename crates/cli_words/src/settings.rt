@@ -13,6 +13,11 @@ pub enum Settings {
         /// The name of the file of blocks.
         blocks: Word,
     },
+    /// Writes the blocks of a file as a chain.
+    Seal {
+        /// The name of the file of blocks.
+        blocks: Word,
+    },
 }
 
 /// Why there are no settings.

@@ -11,7 +11,14 @@ fn is_run(alloc: Global, words: &[&str], app: &str, blocks: &str) -> bool {
                 blocks: read_blocks,
             },
         ) => read_app.as_str() == app && read_blocks.as_str() == blocks,
-        Err(_) => false,
+        _ => false,
+    }
+}
+
+fn is_seal(alloc: Global, words: &[&str], blocks: &str) -> bool {
+    match read_words(alloc, words) {
+        Ok(Settings::Seal { blocks: read }) => read.as_str() == blocks,
+        _ => false,
     }
 }
 
@@ -49,5 +56,20 @@ fn refused(rt: HostRuntime) -> Result<(), Fail> {
     assert!(rt; is_refused(alloc, &["run", "--app", "a", "--blocks", "b", "c"]));
     assert!(rt; is_refused(alloc, &["run", "--app=a", "--blocks", "b"]));
     assert!(rt; is_refused(alloc, &["run", "--app", "a", "--blocks", "b", "--help"]));
+    Ok(())
+}
+
+#[test]
+fn seals(rt: HostRuntime) -> Result<(), Fail> {
+    let alloc = rt.alloc();
+    assert!(rt; is_seal(alloc, &["seal", "--blocks", "b"], "b"));
+    assert!(rt; is_refused(alloc, &["seal"]));
+    assert!(rt; is_refused(alloc, &["seal", "--blocks"]));
+    assert!(rt; is_refused(alloc, &["seal", "--blocks", "-b"]));
+    assert!(rt; is_refused(alloc, &["seal", "--app", "a"]));
+    assert!(rt; is_refused(alloc, &["seal", "--app", "a", "--blocks", "b"]));
+    assert!(rt; is_refused(alloc, &["seal", "--blocks", "b", "--app", "a"]));
+    assert!(rt; is_refused(alloc, &["seal", "--blocks", "b", "--blocks", "b"]));
+    assert!(rt; is_refused(alloc, &["--blocks", "b", "seal"]));
     Ok(())
 }

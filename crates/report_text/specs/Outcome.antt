@@ -1,6 +1,8 @@
 -- The text of an outcome: `committed`, or `aborted` and the cause.
 use Rattle.std.specs.Prelude.{ℕ, Bool, true, false, List, [], ◌++◌, Some, None, Option, flat_map, slice_get, codes, decimal}
 use Rattle.literals.specs.Text.{text_literal}
+use Rattle.node_model.specs.declared.dangerous.Danger.{Danger}
+use Rattle.node_model.specs.declared.dangerous.Danger.TheVariants as danger
 use Rattle.node_model.specs.declared.outcome.Clash.{Clash}
 use Rattle.node_model.specs.declared.outcome.Late.{Late}
 use Rattle.node_model.specs.declared.outcome.Outcome.{Outcome}
@@ -47,6 +49,15 @@ late_text tables late =
 abbrev pub clash_text : List TableDef → Clash → List ℕ
 clash_text tables clash = codes "write-conflict with " ++ write_text tables clash.with clash.table clash.key
 
+-- two positions, each after a space
+abbrev pub positions_text : ℕ → ℕ → List ℕ
+positions_text first second = codes " " ++ decimal first ++ codes " " ++ decimal second
+
+-- a danger: its form, and its positions in the order in which they are found
+abbrev pub danger_text : Danger → List ℕ
+danger_text (danger.One z x) = codes "danger one" ++ positions_text z x
+danger_text (danger.Two y z) = codes "danger two" ++ positions_text y z
+
 -- why a run ended without its writes
 abbrev pub fault_text : Fault → List ℕ
 fault_text fault.Overflow = codes "overflow"
@@ -67,3 +78,4 @@ outcome_text tables outcome.BadArguments = codes "aborted bad-arguments"
 outcome_text tables (outcome.Late late) = codes "aborted " ++ late_text tables late
 outcome_text tables (outcome.Fault fault) = codes "aborted fault " ++ fault_text fault
 outcome_text tables (outcome.WriteConflict clash) = codes "aborted " ++ clash_text tables clash
+outcome_text tables (outcome.Danger found) = codes "aborted " ++ danger_text found

@@ -1,11 +1,13 @@
 -- The lines of a report, and the report of nodes.
-use Rattle.std.specs.Prelude.{ℕ, ◌+◌, List, [], ◌∷◌, ◌++◌, flat_map, length, codes, decimal}
+use Rattle.std.specs.Prelude.{ℕ, ◌+◌, List, [], ◌∷◌, ◌++◌, Option, flat_map, length, codes, decimal}
 use Rattle.node_model.specs.declared.result.BlockResult.{BlockResult}
 use Rattle.node_model.specs.declared.result.NodeResult.{NodeResult}
 use Rattle.node_model.specs.declared.result.TableRows.{TableRows}
 use Rattle.node_model.specs.declared.result.Told.{Told}
+use Rattle.proc_syntax.specs.declared.chain_fault.ChainFault.{ChainFault}
 use Rattle.rel_base.specs.declared.schema.TableDef.{TableDef}
 use Rattle.rel_base.specs.declared.value.Value.{Value}
+use Rattle.report_text.specs.Ending.{end_line}
 use Rattle.report_text.specs.Outcome.{outcome_text, values_text, table_name}
 
 -- a line: its text and a newline
@@ -56,6 +58,6 @@ node_lines tables number node =
     node_line number ++ flat_map (block_lines tables) node.blocks ++ flat_map (table_lines tables) node.tables
     ++ height_line node.blocks
 
--- a report: the nodes numbered from 1, and the line that ends it
-abbrev pub report_text : List TableDef → List NodeResult → List ℕ
-report_text tables nodes = numbered (node_lines tables) 1 nodes ++ line (codes "done")
+-- a report: the nodes numbered from 1, and the line that ends it, by where the block file stopped
+abbrev pub report_text : List TableDef → List NodeResult → Option ChainFault → List ℕ
+report_text tables nodes stop = numbered (node_lines tables) 1 nodes ++ end_line stop

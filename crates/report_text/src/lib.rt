@@ -3,6 +3,7 @@
 
 mod block;
 mod buffer;
+mod ending;
 mod node;
 mod outcome;
 mod table;
@@ -10,4 +11,5 @@ mod table;
 mod tests;
 mod value;
 
+pub use ending::stopped_line;
 pub use node::report;

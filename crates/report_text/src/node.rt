@@ -1,13 +1,16 @@
 //! Reports of nodes.
 
 ghost use Rattle.std.specs.Prelude.{◌≡◌, ◌++◌, ◌+◌, OnOk, IfOk};
+ghost use Rattle.std.specs.Option.{option_copied};
 ghost use Rattle.report_text.specs.Report.{numbered, height_line, node_line, node_lines, report_text};
 
 use crate::block::push_blocks;
 use crate::buffer::push;
+use crate::ending::push_end;
 use crate::table::push_tables;
 use literals::push_number;
 use node_model::{BlockResult, NodeResult};
+use proc_syntax::ChainFault;
 use rel_base::{List, NoMemory, TableDef};
 use std::alloc::Global;
 
@@ -55,7 +58,8 @@ fn push_nodes(out: &mut Vec<u8>, tables: &[TableDef], nodes: &[NodeResult]) -> R
 }
 
 /// The report of the nodes: for each in turn its blocks with the outcome of every transaction, its tables with their
-/// rows, and its height; after the last node the line `done`. Every line ends with a newline.
+/// rows, and its height; after the last node the line `done`, or `stopped LINE KIND` where the block file stopped at a fault.
+/// Every line ends with a newline.
 ///
 /// A table is shown by its name in the declarations; a number that none of them has is shown as an empty name. The only
 /// error is want of memory.
@@ -63,11 +67,12 @@ pub fn report(
     alloc: Global,
     tables: &List<TableDef>,
     nodes: &List<NodeResult>,
+    stop: Option<&ChainFault>,
 ) -> Result<List<u8>, NoMemory>
-    ensures { IfOk result (λ bytes. bytes ≡ report_text tables.now nodes.now) }
+    ensures { IfOk result (λ bytes. bytes ≡ report_text tables.now nodes.now (option_copied stop.entry)) }
 {
     let mut out = Vec::new(alloc);
     push_nodes(&mut out, tables.as_slice(), nodes.as_slice())?;
-    push(&mut out, b"done\n")?;
+    push_end(&mut out, stop)?;
     Ok(List::from_vec(out))
 }

@@ -1,12 +1,12 @@
 //! The texts of outcomes.
 
 ghost use Rattle.std.specs.Prelude.{◌≡◌, ◌++◌, OnOk};
-ghost use Rattle.report_text.specs.Outcome.{name_of, table_name, key_text, write_text, late_word, late_text, clash_text, fault_text, outcome_text};
+ghost use Rattle.report_text.specs.Outcome.{name_of, table_name, key_text, write_text, late_word, late_text, clash_text, fault_text, positions_text, danger_text, outcome_text};
 
 use crate::buffer::push;
 use crate::value::push_values;
 use literals::{push_number, push_text};
-use node_model::{Clash, Late, Outcome};
+use node_model::{Clash, Danger, Late, Outcome};
 use proc_syntax::Fault;
 use rel_base::{Key, NoMemory, TableDef};
 
@@ -89,6 +89,32 @@ fn push_fault(out: &mut Vec<u8>, fault: &Fault) -> Result<(), NoMemory>
     }
 }
 
+/// Two positions, each after a space.
+fn push_positions(out: &mut Vec<u8>, first: u32, second: u32) -> Result<(), NoMemory>
+    ensures { OnOk result (out.new.items ≡ out.old.items ++ positions_text first second) }
+{
+    push(out, b" ")?;
+    push_number(out, u64::from(first))?;
+    push(out, b" ")?;
+    push_number(out, u64::from(second))
+}
+
+/// A danger: its form, and its positions in the order in which they are found.
+fn push_danger(out: &mut Vec<u8>, danger: Danger) -> Result<(), NoMemory>
+    ensures { OnOk result (out.new.items ≡ out.old.items ++ danger_text danger) }
+{
+    match danger {
+        Danger::One { z, x } => {
+            push(out, b"danger one")?;
+            push_positions(out, z, x)
+        }
+        Danger::Two { y, z } => {
+            push(out, b"danger two")?;
+            push_positions(out, y, z)
+        }
+    }
+}
+
 /// An outcome.
 pub fn push_outcome(
     out: &mut Vec<u8>,
@@ -114,6 +140,10 @@ pub fn push_outcome(
         Outcome::WriteConflict(clash) => {
             push(out, b"aborted ")?;
             push_clash(out, tables, clash)
+        }
+        Outcome::Danger(danger) => {
+            push(out, b"aborted ")?;
+            push_danger(out, *danger)
         }
     }
 }

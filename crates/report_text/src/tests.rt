@@ -1,6 +1,6 @@
-use crate::report;
+use crate::{report, stopped_line};
 use node_model::{BlockResult, Clash, Late, NodeResult, Outcome, TableRows, Told};
-use proc_syntax::Fault;
+use proc_syntax::{ChainFault, ChainKind, Fault};
 use rel_base::{Blob, Id, Key, List, Name, Place, Row, Str, TableDef, Value};
 use std::alloc::Global;
 use std::test::Fail;
@@ -60,7 +60,7 @@ fn node(alloc: Global, blocks: Vec<BlockResult>, rows: Vec<Row>) -> Result<NodeR
 
 fn shows(alloc: Global, node: NodeResult, want: &str) -> Result<bool, Fail> {
     let nodes = List::from_vec(vec![in alloc; node]?);
-    let bytes = report(alloc, &tables(alloc)?, &nodes)?;
+    let bytes = report(alloc, &tables(alloc)?, &nodes, None)?;
     Ok(bytes.as_slice() == want.as_bytes())
 }
 
@@ -229,6 +229,59 @@ fn two_nodes_and_values_of_each_kind(rt: HostRuntime) -> Result<(), Fail> {
     let want = "node 1\ntable acct\nheight 0\nnode 2\ntable lot\n\
         row \"\\\"o\\\\slo\\\" \u{e9}\" -9223372036854775808 x\"\" true\n\
         row \"\" 9223372036854775807 x\"000aff\" false\nheight 0\ndone\n";
-    assert!(rt; report(alloc, &tables(alloc)?, &nodes)?.as_slice() == want.as_bytes());
+    assert!(rt; report(alloc, &tables(alloc)?, &nodes, None)?.as_slice() == want.as_bytes());
+    Ok(())
+}
+
+// A report over the blocks before a fault ends with its line and its kind.
+#[test]
+fn a_file_that_stopped(rt: HostRuntime) -> Result<(), Fail> {
+    let alloc = rt.alloc();
+    let blocks = vec![in alloc; committed(alloc, 1, "a1")?]?;
+    let nodes = List::from_vec(vec![in alloc; node(alloc, blocks, Vec::new(alloc))?]?);
+    let stop = ChainFault {
+        line: 7,
+        kind: ChainKind::Truncated,
+    };
+    let want = "node 1\nblock 1\ntx 1 a1 committed\ntable acct\nheight 1\nstopped 7 Truncated\n";
+    assert!(rt; report(alloc, &tables(alloc)?, &nodes, Some(&stop))?.as_slice() == want.as_bytes());
+    Ok(())
+}
+
+fn stops(alloc: Global, line: u64, kind: ChainKind, want: &[u8]) -> Result<bool, Fail> {
+    Ok(stopped_line(alloc, &ChainFault { line, kind })?.as_slice() == want)
+}
+
+#[test]
+fn every_stop(rt: HostRuntime) -> Result<(), Fail> {
+    let alloc = rt.alloc();
+    assert!(rt; stops(alloc, 1, ChainKind::BadHeader, b"stopped 1 BadHeader\n")?);
+    assert!(rt; stops(alloc, 2, ChainKind::BadLine, b"stopped 2 BadLine\n")?);
+    assert!(rt;
+        stops(
+            alloc,
+            10,
+            ChainKind::WrongNumber,
+            b"stopped 10 WrongNumber\n"
+        )?
+    );
+    assert!(rt; stops(alloc, 8, ChainKind::WrongPrev, b"stopped 8 WrongPrev\n")?);
+    assert!(rt;
+        stops(
+            alloc,
+            1027,
+            ChainKind::TooManyTx,
+            b"stopped 1027 TooManyTx\n"
+        )?
+    );
+    assert!(rt; stops(alloc, 3, ChainKind::LineTooLong, b"stopped 3 LineTooLong\n")?);
+    assert!(rt;
+        stops(
+            alloc,
+            u64::MAX,
+            ChainKind::Truncated,
+            b"stopped 18446744073709551615 Truncated\n"
+        )?
+    );
     Ok(())
 }
