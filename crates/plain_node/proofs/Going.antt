@@ -56,43 +56,14 @@ knows_more before after ids outcomes told has adds = λ id.
     ∙ sym (any-append (bytes_eq id) (ids ++ ids_told outcomes) told.id)
     ∙ ap (list_any (bytes_eq id)) (append_assoc ids (ids_told outcomes) (told.id ∷ []) ∙ ap (λ more. ids ++ more) (sym (map-append (λ told. told.id) outcomes (told ∷ []))))
 
--- ---- committed transactions
-
-module _ (tables : List TableDef) (committed : List Committed) (high : ℕ) (ran : Ran) where
-  -- whatever was found of a transaction that ran
-  any_outcome : (found : Outcome) → AreCommitted tables 0 committed high → All (WriteFitsIn tables) ran.writes → IsTrue (are_rising ran.writes)
-      → AreCommitted tables 0 (join_committed committed (high + 1) ran found) (high + 1)
-  any_outcome outcome.Committed are fit rise = committed_grown tables 0 high committed (record { pos = high + 1; reads = ran.reads; writes = ran.writes }) are (omega arith) fit rise
-  any_outcome outcome.DuplicateId are fit rise = committed_longer tables 0 high (high + 1) committed are (omega arith)
-  any_outcome outcome.FutureHeight are fit rise = committed_longer tables 0 high (high + 1) committed are (omega arith)
-  any_outcome outcome.UnknownProcedure are fit rise = committed_longer tables 0 high (high + 1) committed are (omega arith)
-  any_outcome outcome.BadArguments are fit rise = committed_longer tables 0 high (high + 1) committed are (omega arith)
-  any_outcome (outcome.Late late) are fit rise = committed_longer tables 0 high (high + 1) committed are (omega arith)
-  any_outcome (outcome.Fault fault) are fit rise = committed_longer tables 0 high (high + 1) committed are (omega arith)
-  any_outcome (outcome.WriteConflict clash) are fit rise = committed_longer tables 0 high (high + 1) committed are (omega arith)
-
-pub still_committed : (tables : List TableDef) (committed : List Committed) (high : ℕ) (found : Outcome) (ran : Option Ran) → AreCommitted tables 0 committed high
-    → IfSome ran (λ run. All (WriteFitsIn tables) run.writes × IsTrue (are_rising run.writes)) → AreCommitted tables 0 (joined committed (high + 1) ran found) (high + 1)
-still_committed tables committed high found None are fit = committed_longer tables 0 high (high + 1) committed are (omega arith)
-still_committed tables committed high found (Some ran) are fit = any_outcome tables committed high ran found are fit.0 fit.1
-
-pub still_sound : (tables : List TableDef) (old new : Working) (decided : Decided) (told : Told) → AreCommitted tables 0 old.committed (length old.outcomes)
-    → IfSome decided.ran (λ run. All (WriteFitsIn tables) run.writes × IsTrue (are_rising run.writes))
-    → new.outcomes ≡ old.outcomes ++ told ∷ [] → new.committed ≡ joined old.committed (length old.outcomes + 1) decided.ran decided.outcome
-    → AreCommitted tables 0 new.committed (length new.outcomes)
-still_sound tables old new decided told are fit outcomes committed =
-    let longer : length new.outcomes ≡ length old.outcomes + 1 = ap length outcomes ∙ length-append old.outcomes (told ∷ []) in
-    subst (λ high. AreCommitted tables 0 new.committed high) (sym longer)
-    (subst (λ done. AreCommitted tables 0 done (length old.outcomes + 1)) (sym committed) (still_committed tables old.committed (length old.outcomes) decided.outcome decided.ran are fit))
-
 -- ---- the block in work
 
 pub goes_on : (app : App) (chain : List Sealed) (history : List Stamped) (keys : List (List ℕ)) (number : ℕ) (tx : Tx) (time : ℤ) (old new : Working) (decided : Decided) (id : List ℕ)
     → history ≡ history_of chain → HasIds keys (ids_of chain ++ ids_told old.outcomes) → id ≡ tx.id
     → decided.outcome ≡ decided_by (has_key keys tx.id) app history number old.committed tx time
-    → ((pos : ℕ) → joined old.committed pos decided.ran decided.outcome ≡ join_committed old.committed pos (run app tx time (tables_at tx.height history)) decided.outcome)
+    → ((pos : ℕ) → joined old.committed pos decided.joins ≡ join_committed old.committed pos (run app tx time (tables_at tx.height history)) decided.outcome)
     → new.outcomes ≡ old.outcomes ++ record { id = id; outcome = decided.outcome } ∷ []
-    → new.committed ≡ joined old.committed (length old.outcomes + 1) decided.ran decided.outcome
+    → new.committed ≡ joined old.committed (length old.outcomes + 1) decided.joins
     → work_of new ≡ work_on app chain number (work_of old) tx
 goes_on app chain history keys number tx time old new decided id is has same found joins told done =
     let found_is : decided.outcome ≡ decide app chain number old.outcomes old.committed tx = found ∙ decided_is app chain history keys number old.outcomes old.committed tx time is has in

@@ -2,6 +2,7 @@ pub mod Inserted
 pub mod Told
 pub mod Aborts
 pub mod Grown
+pub mod WithEdges
 pub mod Deciding
 pub mod Going
 pub mod Applied

@@ -2,3 +2,4 @@ pub mod Ids
 pub mod Causes
 pub mod Working
 pub mod Following
+pub mod InWork

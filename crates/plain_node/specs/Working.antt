@@ -1,16 +1,16 @@
 -- A block in work, as the code has it.
-use Rattle.std.specs.Prelude.{Bool, List, None, Option, Some, cond, ◌-◌, ℕ, ℤ}
+use Rattle.std.specs.Prelude.{Bool, List, None, Option, Some, [], cond, ◌-◌, ◌++◌, ◌∷◌, ℕ, ℤ}
 use Rattle.node_model.specs.Decide.{bad_call, by_run, future, or_committed, or_else}
-use Rattle.node_model.specs.Fold.{Work, join_committed}
+use Rattle.node_model.specs.Fold.{Work}
 use Rattle.node_model.specs.declared.outcome.Outcome.TheVariants as outcome
 use Rattle.node_model.specs.declared.outcome.Outcome.{Outcome}
 use Rattle.node_model.specs.declared.result.Committed.{Committed}
+use Rattle.plain_node.specs.declared.work.Joining.{Joining}
 use Rattle.plain_node.specs.declared.work.Working.{Working}
 use Rattle.proc_syntax.specs.Call.{call_fault}
 use Rattle.proc_syntax.specs.Declaring.{tables_of}
 use Rattle.proc_syntax.specs.Run.{run}
 use Rattle.proc_syntax.specs.declared.call.Tx.{Tx}
-use Rattle.proc_syntax.specs.declared.run.Ran.{Ran}
 use Rattle.proc_syntax.specs.declared.tree.App.{App}
 use Rattle.rel_base.specs.Tables.{Stamped, tables_at, writes_between}
 
@@ -22,10 +22,10 @@ work_of working = record { outcomes = working.outcomes; committed = working.comm
 abbrev pub early_by : Bool → App → ℕ → Tx → Option Outcome
 early_by known app number tx = or_else (cond known (Some outcome.DuplicateId) None) (or_else (future number tx) (bad_call (call_fault app tx)))
 
--- a transaction that ran joins the committed ones exactly where it commits; one that did not run never does
-abbrev pub joined : List Committed → ℕ → Option Ran → Outcome → List Committed
-joined committed pos None found = committed
-joined committed pos (Some ran) found = join_committed committed pos ran found
+-- what joins a block stands behind its committed transactions
+abbrev pub joined : List Committed → ℕ → Option Joining → List Committed
+joined committed pos None = committed
+joined committed pos (Some joining) = committed ++ record { pos = pos; reads = joining.ran.reads; writes = joining.ran.writes } ∷ []
 
 -- what is decided by the set of ids and by a run on the store
 abbrev pub decided_by : Bool → App → List Stamped → ℕ → List Committed → Tx → ℤ → Outcome

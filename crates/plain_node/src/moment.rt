@@ -2,7 +2,7 @@
 
 ghost use Rattle.rel_base.specs.Tables.{tables_at};
 
-use plain_run::Snapshot;
+use proc_run::Source;
 use rel_base::{List, NoMemory, Read, Seen};
 use row_sets::Versions;
 use std::alloc::Global;
@@ -14,7 +14,7 @@ pub struct Moment<'a, V: Versions> {
     pub height: u64,
 }
 
-impl<V: Versions> Snapshot for Moment<'_, V> {
+impl<V: Versions> Source for Moment<'_, V> {
     ghost declared = { λ moment. V.tables moment.versions.now };
 
     ghost tables = { λ moment. tables_at moment.height (V.history moment.versions.now) };

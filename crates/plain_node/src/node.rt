@@ -5,6 +5,7 @@ ghost use Rattle.node_model.specs.Fold.{all_rows, block_result, join_committed, 
 ghost use Rattle.node_model.specs.History.{Sealed, history_of, ids_of, ids_told, snapshot};
 ghost use Rattle.plain_node.specs.Following.{AreCommitted, Follows, IsSound, stamps};
 ghost use Rattle.plain_node.specs.Ids.{HasIds, has_key};
+ghost use Rattle.plain_node.specs.InWork.{CanJoin, IsWorking};
 ghost use Rattle.plain_node.specs.Working.{decided_by, joined, work_of};
 ghost use Rattle.proc_syntax.specs.Declaring.{tables_of};
 ghost use Rattle.proc_syntax.specs.Run.{run};
@@ -25,10 +26,9 @@ use std::alloc::Global;
 use std::sync::Arc;
 
 // Decides the next transaction of the block of a number, and adds it to the block in work and its id to those of the chain.
-#[tactic(auto, using(crate::proofs::Going::goes_on, crate::proofs::Going::knows_more))]
 fn work_on<V: Versions>(
     alloc: Global,
-    app: &Checked,
+    app: &Arc<Checked>,
     versions: &V,
     ids: &mut IdSet,
     working: &mut Working,
@@ -38,25 +38,16 @@ fn work_on<V: Versions>(
 ) -> Result<(), NoMemory>
     requires number { 0 < number }
     requires few { length working.old.outcomes < 1024 }
-    requires tables { V.tables versions.now ≡ tables_of app.now.app }
+    requires tables { V.tables versions.now ≡ tables_of app.now.value.app }
     requires fits { HistoryFits (V.tables versions.now) (V.history versions.now) }
-    requires committed { AreCommitted (V.tables versions.now) 0 working.old.committed (length working.old.outcomes) }
+    requires working { IsWorking (V.tables versions.now) working.old }
     ensures count { OnOk result (length working.new.outcomes ≡ length working.old.outcomes + 1) }
-    ensures committed { OnOk result (AreCommitted (V.tables versions.now) 0 working.new.committed (length working.new.outcomes)) }
+    ensures working { OnOk result (IsWorking (V.tables versions.now) working.new) }
     ensures work { OnOk result ((chain : List Sealed) → V.history versions.now ≡ history_of chain → HasIds ids.old (ids_of chain ++ ids_told working.old.outcomes)
-        → work_of working.new ≡ work_on app.now.app chain number (work_of working.old) tx.now) }
+        → work_of working.new ≡ work_on app.now.value.app chain number (work_of working.old) tx.now) }
     ensures known { OnOk result ((chain : List Sealed) → HasIds ids.old (ids_of chain ++ ids_told working.old.outcomes) → HasIds ids.new (ids_of chain ++ ids_told working.new.outcomes)) }
 {
-    let decided = decide(
-        alloc,
-        app,
-        versions,
-        ids,
-        &working.committed,
-        number,
-        time,
-        tx,
-    )?;
+    let decided = decide(alloc, app, versions, ids, working, number, time, tx)?;
     let pos = working.outcomes.len() as u32 + 1;
     working.add(pos, tx.id.copy(alloc)?, decided)?;
     ids.insert(tx.id.copy(alloc)?)
@@ -74,10 +65,10 @@ fn time_of(blocks: &[BlockResult], height: u64) -> i64 {
 }
 
 // Decides the transactions of the block of a number.
-#[tactic(auto, using(crate::proofs::Started::known_at_start))]
+#[tactic(auto, using(crate::proofs::Started::known_at_start, crate::proofs::WithEdges::working_at_start))]
 fn work_through<V: Versions>(
     alloc: Global,
-    app: &Checked,
+    app: &Arc<Checked>,
     versions: &V,
     ids: &mut IdSet,
     blocks: &[BlockResult],
@@ -86,11 +77,11 @@ fn work_through<V: Versions>(
 ) -> Result<Working, NoMemory>
     requires number { 0 < number }
     requires few { length txs.now ≤ 1024 }
-    requires tables { V.tables versions.now ≡ tables_of app.now.app }
+    requires tables { V.tables versions.now ≡ tables_of app.now.value.app }
     requires fits { HistoryFits (V.tables versions.now) (V.history versions.now) }
     ensures committed { IfOk result (λ working. AreCommitted (V.tables versions.now) 0 working.committed (length txs.now)) }
     ensures work { IfOk result (λ working. (chain : List Sealed) → V.history versions.now ≡ history_of chain → HasIds ids.old (ids_of chain)
-        → work_of working ≡ work_through app.now.app chain number no_work txs.now) }
+        → work_of working ≡ work_through app.now.value.app chain number no_work txs.now) }
     ensures known { IfOk result (λ working. (chain : List Sealed) → HasIds ids.old (ids_of chain) → HasIds ids.new (ids_of chain ++ ids_told working.outcomes)) }
 {
     let mut working = Working::new(alloc);
@@ -184,6 +175,7 @@ impl<V: Versions> PlainNode<V> {
         let Working {
             outcomes,
             committed,
+            ..
         } = working;
         apply_all(&mut self.versions, block.number, committed)?;
         self.blocks.push(BlockResult {

@@ -1,44 +1,36 @@
 //! A block in work.
 
-ghost use Rattle.std.specs.Prelude.{◌≡◌, ◌++◌, ◌∷◌, ◌+◌, [], OnOk, length};
+ghost use Rattle.std.specs.Prelude.{◌≡◌, ◌≤◌, ◌++◌, ◌∷◌, [], IfSome, MatchOption, OnOk, false};
+ghost use Rattle.plain_node.specs.InWork.{CanJoin, HasJoined};
 ghost use Rattle.plain_node.specs.Working.{joined};
+ghost use Rattle.rw_graph.specs.Graph.{has_edge, positions_of};
 
 use node_model::{Committed, Outcome, Told};
 use proc_syntax::run::Ran;
 use rel_base::{Id, List, NoMemory};
+use rw_graph::{EdgeSet, Edges};
 use std::alloc::Global;
 
-/// The outcomes of a block so far, and its committed transactions.
+/// The outcomes of a block so far, its committed transactions, and the edges between these.
 #[derive(Drop)]
 pub struct Working {
     pub outcomes: List<Told>,
     pub committed: List<Committed>,
+    pub edges: EdgeSet,
 }
 
-/// What was decided of a transaction, with its run where it ran.
+/// What joins a block with a transaction that commits: its run, and its edges to and from those that committed before it.
+#[derive(Drop)]
+pub struct Joining {
+    pub ran: Ran,
+    pub edges: Edges,
+}
+
+/// What was decided of a transaction, with what joins the block where it commits.
 #[derive(Drop)]
 pub struct Decided {
     pub outcome: Outcome,
-    pub ran: Option<Ran>,
-}
-
-// The transaction of a position joins the committed ones where it ran and commits.
-fn join(
-    committed: &mut List<Committed>,
-    pos: u32,
-    outcome: &Outcome,
-    ran: Option<Ran>,
-) -> Result<(), NoMemory>
-    ensures { OnOk result (committed.new ≡ joined committed.old pos ran outcome.now) }
-{
-    match (outcome, ran) {
-        (Outcome::Committed, Some(ran)) => committed.push(Committed {
-            pos,
-            reads: ran.reads,
-            writes: ran.writes,
-        }),
-        _ => Ok(()),
-    }
+    pub joins: Option<Joining>,
 }
 
 impl Working {
@@ -46,20 +38,43 @@ impl Working {
     pub fn new(alloc: Global) -> Working
         ensures outcomes { result.outcomes ≡ [] }
         ensures committed { result.committed ≡ [] }
+        ensures positions { positions_of result.edges ≡ [] }
+        ensures edges { (from to : _) → has_edge result.edges from to ≡ false }
     {
         Working {
             outcomes: List::new(alloc),
             committed: List::new(alloc),
+            edges: EdgeSet::new(alloc),
         }
+    }
+
+    // The transaction of a position joins the committed ones, with its edges.
+    fn join(&mut self, pos: u32, joining: Joining) -> Result<(), NoMemory>
+        requires can { CanJoin self.old.edges pos joining.edges }
+        ensures outcomes { self.new.outcomes ≡ self.old.outcomes }
+        ensures committed { OnOk result (self.new.committed ≡ self.old.committed ++ record { pos = pos; reads = joining.ran.reads; writes = joining.ran.writes } ∷ []) }
+        ensures edges { OnOk result (HasJoined self.old.edges self.new.edges pos joining.edges) }
+    {
+        let Joining { ran, edges } = joining;
+        self.edges.add(pos, &edges)?;
+        self.committed.push(Committed {
+            pos,
+            reads: ran.reads,
+            writes: ran.writes,
+        })
     }
 
     /// Adds what was decided of the transaction of a position.
     pub fn add(&mut self, pos: u32, id: Id, decided: Decided) -> Result<(), NoMemory>
+        requires can { IfSome decided.joins (λ joining. CanJoin self.old.edges pos joining.edges) }
         ensures outcomes { OnOk result (self.new.outcomes ≡ self.old.outcomes ++ record { id = id; outcome = decided.outcome } ∷ []) }
-        ensures committed { OnOk result (self.new.committed ≡ joined self.old.committed pos decided.ran decided.outcome) }
+        ensures committed { OnOk result (self.new.committed ≡ joined self.old.committed pos decided.joins) }
+        ensures edges { OnOk result (MatchOption decided.joins (self.new.edges ≡ self.old.edges) (λ joining. HasJoined self.old.edges self.new.edges pos joining.edges)) }
     {
-        let Decided { outcome, ran } = decided;
-        join(&mut self.committed, pos, &outcome, ran)?;
+        let Decided { outcome, joins } = decided;
+        if let Some(joining) = joins {
+            self.join(pos, joining)?;
+        }
         self.outcomes.push(Told { id, outcome })
     }
 }

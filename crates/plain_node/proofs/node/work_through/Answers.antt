@@ -13,8 +13,8 @@ loop-tx-preserved g c =
     let first : drop c.loop-tx.tx-index c.args.txs.now ≡ c.tx-item.result ∷ drop (c.loop-tx.tx-index + 1) c.args.txs.now =
     drop_more c.args.txs.now c.loop-tx.tx-index c.tx-item.result within ∙ ap (λ tx. tx ∷ drop (c.loop-tx.tx-index + 1) c.args.txs.now) here in (
       done.count ∙ ap (λ n. n + 1) before.0,
-      done.committed,
-      (λ chain is has. step_on c.args.app.now.app chain c.args.number (drop c.loop-tx.tx-index c.args.txs.now) (drop (c.loop-tx.tx-index + 1) c.args.txs.now) c.tx-item.result
+      done.working,
+      (λ chain is has. step_on c.args.app.now.value.app chain c.args.number (drop c.loop-tx.tx-index c.args.txs.now) (drop (c.loop-tx.tx-index + 1) c.args.txs.now) c.tx-item.result
           (work_of c.loop-tx.working) (work_of c.work_on.new.working) _ first (done.work chain is (before.3 chain has)) (before.2 chain is has)),
       (λ chain has. done.known chain (before.3 chain has)),
     )

@@ -20,7 +20,6 @@ returns-clause-follows g c =
     on_ok_then c.push.result _ _ c.push.ensures.ok (λ made. λ chain follows.
     let work : work_of c.in_ok-working.working ≡ work_through c.args.self.now.app.value.app chain c.args.block.now.number no_work c.args.block.now.txs =
     c.in_ok-working.ensures.work chain follows.writes follows.known
-    ∙ ap (λ checked. work_through checked.app chain c.args.block.now.number no_work c.as_slice-txs.result.now) c.deref.ensures
     ∙ ap (work_through c.args.self.now.app.value.app chain c.args.block.now.number no_work) c.as_slice-txs.ensures in
     let fits : SFits w64 c.args.block.now.time = search rules in
     let timed : c.push.new.self ≡ c.args.self.now.blocks ++ record { number = c.args.block.now.number; time = c.args.block.now.time; outcomes = c.in_ok-working.working.outcomes } ∷ [] =
