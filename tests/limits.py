@@ -8,7 +8,7 @@ proc add(i int, o text, b int) { insert acct (i, o, b); }
 """
 NO_BLOCKS = b"draft 1\n"
 USAGE = b"refused usage\n"
-BAD_BLOCKS = b"refused blocks\n"
+NO_BLOCKS_REPORT = b"node 1\ntable acct\nheight 0\n"
 
 
 def is_done(out):
@@ -26,8 +26,13 @@ def app_case(name, app, refusal=None):
     return name, files, 4, equals(b"refused application " + refusal + b"\n")
 
 
-def draft_case(name, draft, accepted):
-    return name, {"a.app": APP, "b.draft": draft}, 0 if accepted else 5, is_done if accepted else equals(BAD_BLOCKS)
+def draft_case(name, draft):
+    return name, {"a.app": APP, "b.draft": draft}, 0, is_done
+
+
+def stopped_case(name, draft, stop):
+    """A draft whose fault stands in its first block."""
+    return name, {"a.app": APP, "b.draft": draft}, 5, equals(NO_BLOCKS_REPORT + b"stopped " + stop + b"\n")
 
 
 def table(name, columns, keys=1, indexes=0):
@@ -110,13 +115,18 @@ def cases():
     yield app_case("bytes of 256 pairs", inserted_bytes(256), b"2 Syntax")
     yield app_case("an application of 1,048,576 bytes", padded(1048576))
     yield app_case("an application of 1,048,577 bytes", padded(1048577), b"0 TooLong")
-    yield draft_case("1,024 transactions", transactions(1024), True)
-    yield draft_case("1,025 transactions", transactions(1025), False)
-    yield draft_case("a line of 4,096 bytes", line_of(4096), True)
-    yield draft_case("a line of 4,097 bytes", line_of(4097), False)
-    yield draft_case("an argument of 255 bytes", argument(b'"%s"' % (b"a" * 255)), True)
-    yield draft_case("an argument of 256 bytes", argument(b'"%s"' % (b"a" * 256)), False)
-    yield draft_case("an id of 32 bytes", NO_BLOCKS + block(1, [b"tx %s 0 nope\n" % (b"a" * 32)]), True)
-    yield draft_case("an id of 33 bytes", NO_BLOCKS + block(1, [b"tx %s 0 nope\n" % (b"a" * 33)]), False)
-    yield draft_case("1,000,000 blocks", empty_blocks(1000000), True)
-    yield draft_case("1,000,001 blocks", empty_blocks(1000001), False)
+    yield draft_case("1,024 transactions", transactions(1024))
+    yield stopped_case("1,025 transactions", transactions(1025), b"1027 TooManyTx")
+    yield draft_case("a line of 4,096 bytes", line_of(4096))
+    yield stopped_case("a line of 4,097 bytes", line_of(4097), b"3 LineTooLong")
+    yield draft_case("an argument of 255 bytes", argument(b'"%s"' % (b"a" * 255)))
+    yield stopped_case("an argument of 256 bytes", argument(b'"%s"' % (b"a" * 256)), b"3 BadLine")
+    yield draft_case("an id of 32 bytes", NO_BLOCKS + block(1, [b"tx %s 0 nope\n" % (b"a" * 32)]))
+    yield stopped_case("an id of 33 bytes", NO_BLOCKS + block(1, [b"tx %s 0 nope\n" % (b"a" * 33)]), b"3 BadLine")
+    yield draft_case("1,000,000 blocks", empty_blocks(1000000))
+    many = {"a.app": APP, "b.draft": empty_blocks(1000001)}
+    yield "1,000,001 blocks", many, 5, lambda out: out.endswith(b"\nheight 1000000\nstopped 2000002 WrongNumber\n")
+    yield stopped_case("a header of 4,096 bytes", b"a" * 4096 + b"\n", b"1 BadHeader")
+    yield stopped_case("a header of 4,097 bytes", b"a" * 4097, b"1 LineTooLong")
+    yield stopped_case("4,096 bytes without a newline", b"a" * 4096, b"1 Truncated")
+    yield stopped_case("a line of 4,097 bytes without a newline", NO_BLOCKS + b"block 1\n" + b"a" * 4097, b"3 LineTooLong")

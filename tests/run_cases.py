@@ -3,7 +3,8 @@
 
 A case is a folder: `words` (one word a line), the files that the words name, `stdout` (the bytes wanted) and `status`.
 The folder `prefixes-of-a-draft` has one draft, of which each prefix is a case of its own: a prefix that ends with the
-first line or with an `end` line is a whole draft, and every other one is refused. Cases at the limits are made by
+first line or with an `end` line is a whole draft; of every other one the report is that of the whole draft at its front,
+and ends with the line in which the next byte would stand. Cases at the limits are made by
 tests/limits.py, since their files are large and regular. Usage: run_cases.py PROGRAM
 """
 import os
@@ -50,6 +51,18 @@ def run_folder(program, name, tally):
     tally.note(name, wanted, run(program, folder, words))
 
 
+def front_of(prefix):
+    """The whole draft at the front of a prefix, up to its last `end` line; before the first line ends, the draft without blocks."""
+    ended = prefix.rfind(b"\nend\n")
+    return b"draft 1\n" if ended < 0 else prefix[: ended + len(b"\nend\n")]
+
+
+def run_draft(program, scratch, draft):
+    with open(os.path.join(scratch, "b.draft"), "wb") as file:
+        file.write(draft)
+    return run(program, scratch, ["run", "--app", "a.app", "--blocks", "b.draft"])
+
+
 def run_prefixes(program, name, tally):
     folder = os.path.join(CASES, name)
     whole = read(os.path.join(folder, "b.draft"))
@@ -57,13 +70,14 @@ def run_prefixes(program, name, tally):
         shutil.copy(os.path.join(folder, "a.app"), scratch)
         for length in range(len(whole) + 1):
             prefix = whole[:length]
-            with open(os.path.join(scratch, "b.draft"), "wb") as file:
-                file.write(prefix)
-            status, out = run(program, scratch, ["run", "--app", "a.app", "--blocks", "b.draft"])
-            if prefix == b"draft 1\n" or prefix.endswith(b"\nend\n"):
-                tally.note(f"{name} at {length}", (0, True), (status, out.endswith(b"done\n")))
-            else:
-                tally.note(f"{name} at {length}", (5, b"refused blocks\n"), (status, out))
+            front = front_of(prefix)
+            status, done = run_draft(program, scratch, front)
+            tally.note(f"{name}, the front at {length}", (0, True), (status, done.endswith(b"\ndone\n")))
+            if prefix == front:
+                continue
+            stopped = b"stopped %d Truncated\n" % (prefix.count(b"\n") + 1)
+            wanted = done[: -len(b"done\n")] + stopped
+            tally.note(f"{name} at {length}", (5, wanted), run_draft(program, scratch, prefix))
 
 
 def run_limits(program, tally):

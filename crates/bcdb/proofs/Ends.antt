@@ -5,7 +5,7 @@ use Rattle.edge_traits.specs.Sink.{WroteFront, appended}
 use Rattle.bcdb.specs.Answer.{Answer, Ends, says}
 use Rattle.bcdb.specs.Reply.{Means}
 use Rattle.bcdb.specs.declared.decide.Reply.{Reply}
-use Rattle.bcdb.specs.declared.status.Status.TheVariants.{AppRefused, BlocksRefused, Done, NoMemory, ReadFault, Usage, WriteFault}
+use Rattle.bcdb.specs.declared.status.Status.TheVariants.{AppRefused, ChainRefused, Done, NoMemory, ReadFault, Usage, WriteFault}
 use Rattle.bcdb.specs.declared.status.Status.{Status}
 
 pub ends_whole : (meant : Answer) (status : Status) (before now : Option (List ℕ)) → status ≡ meant.status → now ≡ appended before meant.bytes → Ends meant status before now
@@ -13,7 +13,7 @@ ends_whole meant Done before now same wrote = (same, wrote)
 ends_whole meant Usage before now same wrote = (same, wrote)
 ends_whole meant ReadFault before now same wrote = (same, wrote)
 ends_whole meant AppRefused before now same wrote = (same, wrote)
-ends_whole meant BlocksRefused before now same wrote = (same, wrote)
+ends_whole meant ChainRefused before now same wrote = (same, wrote)
 ends_whole meant WriteFault before now same wrote = whole_is_front before now meant.bytes wrote
 ends_whole meant NoMemory before now same wrote = whole_is_front before now meant.bytes wrote
 

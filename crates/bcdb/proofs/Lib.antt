@@ -2,3 +2,4 @@ pub mod Accepting
 pub mod Ends
 pub mod Turns
 pub mod Folded
+pub mod Taken

@@ -6,9 +6,7 @@ use Rattle.bcdb.specs.Accepted.{accepted, too_long, typed}
 use Rattle.bcdb.specs.Answer.{over_app, over_blocks, read_refused, says}
 use Rattle.bcdb.specs.Reply.{Means}
 use Rattle.bcdb.specs.declared.decide.Reply.{Reply}
-use Rattle.bcdb.specs.declared.status.Status.TheVariants.{AppRefused, BlocksRefused}
-use Rattle.chain_file.specs.Draft.{draft}
-use Rattle.chain_file.specs.Text.{DraftsAreBounded}
+use Rattle.bcdb.specs.declared.status.Status.TheVariants.{AppRefused}
 use Rattle.edge_traits.specs.Shelf.{Files}
 use Rattle.bcdb.specs.Refusals.{refusal_line}
 use Rattle.bcdb.specs.declared.refusal.Refusal.{Refusal}
@@ -60,17 +58,3 @@ refused_told None app_name name bytes refusal Rose reply same is means = tt
 refused_told (Some files) app_name name bytes refusal Rose reply same is means =
     inl (subst (λ found. Means (over_app found (files name)) reply) (sym (ap accepted (sym same) ∙ is)) means)
 
-not_longer : (most count : ℕ) → count ≤ most → most < count → ⊥
-not_longer most count few many = omega arith
-
-no_draft : (bytes : List ℕ) (most : ℕ) (found : Option (List Block)) → draft bytes ≡ found → ((blocks : List Block) → draft bytes ≡ Some blocks → length bytes ≤ most) → most < length bytes → draft bytes ≡ None
-no_draft bytes most None is bounded long = is
-no_draft bytes most (Some blocks) is bounded long = absurd (not_longer most (length bytes) (bounded blocks is) long)
-
--- a file that is longer than any draft is refused
-pub longer_told : (told : Option Files) (name : List ℕ) (app : App) (Rose : Type 0) (reply : Reply) → DraftsAreBounded → IfSome told (λ files. 4203522008194 < length (files name))
-    → Means (says BlocksRefused (codes "refused blocks\n")) reply
-    → IfSome told (λ files. Means (over_app (Ok app) (files name)) reply ⊎ (Means read_refused reply × Rose))
-longer_told None name app Rose reply bounded long means = tt
-longer_told (Some files) name app Rose reply bounded long means =
-    inl (subst (λ found. Means (over_blocks app found) reply) (sym (no_draft (files name) 4203522008194 _ refl (bounded (files name)) long)) means)

@@ -1,13 +1,14 @@
--- What the program means to answer, over whole files: the report of the fold of the blocks on the application.
+-- What the program means to answer, over whole files: the report of the fold of the blocks on the application, or the blocks as a chain.
 use Rattle.std.specs.Prelude.{Err, List, None, Ok, Option, Result, Some, [], codes, ◌≡◌, ◌∷◌, ℕ}
 use Rattle.bcdb.specs.Accepted.{accepted}
 use Rattle.bcdb.specs.Refusals.{refusal_line}
 use Rattle.bcdb.specs.declared.refusal.Refusal.{Refusal}
-use Rattle.bcdb.specs.declared.status.Status.TheVariants.{AppRefused, BlocksRefused, Done, NoMemory, ReadFault, Usage, WriteFault}
+use Rattle.bcdb.specs.declared.status.Status.TheVariants.{AppRefused, ChainRefused, Done, NoMemory, ReadFault, Usage, WriteFault}
 use Rattle.bcdb.specs.declared.status.Status.{Status}
-use Rattle.chain_file.specs.Draft.{draft}
+use Rattle.chain_file.specs.Chain.{chain}
+use Rattle.chain_file.specs.ChainText.{chain_text}
 use Rattle.cli_words.specs.Language.{settings_of}
-use Rattle.cli_words.specs.declared.settings.Settings.TheVariants.{Run}
+use Rattle.cli_words.specs.declared.settings.Settings.TheVariants.{Run, Seal}
 use Rattle.cli_words.specs.declared.settings.Settings.{Settings}
 use Rattle.edge_traits.specs.Shelf.{Files}
 use Rattle.edge_traits.specs.Sink.{WroteFront, appended}
@@ -15,6 +16,8 @@ use Rattle.node_model.specs.Fold.{node_result}
 use Rattle.proc_syntax.specs.Declaring.{tables_of}
 use Rattle.proc_syntax.specs.declared.call.Block.{Block}
 use Rattle.proc_syntax.specs.declared.tree.App.{App}
+use Rattle.proc_syntax.specs.declared.chain_fault.ChainFault.{ChainFault}
+use Rattle.report_text.specs.Ending.{stopped_line}
 use Rattle.report_text.specs.Report.{report_text}
 
 -- a status, and all that is written
@@ -25,20 +28,30 @@ pub record Answer : Type 0 where
 abbrev pub says : Status → List ℕ → Answer
 says status bytes = record { status = status; bytes = bytes }
 
--- the blocks decide last
-abbrev pub over_blocks : App → Option (List Block) → Answer
-over_blocks app None = says BlocksRefused (codes "refused blocks\n")
-over_blocks app (Some blocks) = says Done (report_text (tables_of app) (node_result app blocks ∷ []))
+-- whether the block file was read to its end
+abbrev pub status_of : Option ChainFault → Status
+status_of None = Done
+status_of (Some fault) = ChainRefused
+
+-- the blocks decide last: the report of those before the first fault, and where the file stopped
+abbrev pub over_blocks : App → List Block → Option ChainFault → Answer
+over_blocks app blocks stop = says (status_of stop) (report_text (tables_of app) (node_result app blocks ∷ []) stop)
 
 -- the application decides before the blocks
 abbrev pub over_app : Result App Refusal → List ℕ → Answer
-over_app (Err refusal) blocks = says AppRefused (refusal_line refusal)
-over_app (Ok app) blocks = over_blocks app (draft blocks)
+over_app (Err refusal) bytes = says AppRefused (refusal_line refusal)
+over_app (Ok app) bytes = over_blocks app (chain bytes).0 (chain bytes).1
+
+-- a seal is the chain file of the blocks of a file without a fault, and else where the file stopped
+abbrev pub sealed : List Block → Option ChainFault → Answer
+sealed blocks None = says Done (chain_text blocks)
+sealed blocks (Some fault) = says ChainRefused (stopped_line fault)
 
 -- the words decide first
 abbrev pub over_settings : Option Settings → Files → Answer
 over_settings None files = says Usage (codes "refused usage\n")
 over_settings (Some (Run app blocks)) files = over_app (accepted (files app)) (files blocks)
+over_settings (Some (Seal blocks)) files = sealed (chain (files blocks)).0 (chain (files blocks)).1
 
 -- what the words mean over files
 abbrev pub answer : List (List ℕ) → Files → Answer

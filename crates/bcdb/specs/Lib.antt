@@ -4,3 +4,4 @@ pub mod Told
 pub mod Answer
 pub mod Causes
 pub mod Reply
+pub mod Reading

@@ -3,19 +3,19 @@ ghost use Rattle.std.specs.Prelude.{◌≡◌, ◌⊎◌, List, ℕ, IfOk, IfSom
 ghost use Rattle.std.specs.Result.{IsOk};
 ghost use Rattle.bcdb.specs.Accepted.{accepted};
 ghost use Rattle.bcdb.specs.Refusals.{refusal_line};
-ghost use Rattle.bcdb.specs.Answer.{Answer, answer, over_app, over_settings, read_refused, says};
+ghost use Rattle.bcdb.specs.Answer.{Answer, answer, over_app, over_settings, read_refused, says, sealed};
 ghost use Rattle.bcdb.specs.Causes.{AllowsNamed, RoseAtNamed, RoseInTurn};
 ghost use Rattle.bcdb.specs.Reply.{Means, is_of_files, is_reply};
+ghost use Rattle.chain_file.specs.Chain.{chain};
 ghost use Rattle.cli_words.specs.Language.{settings_of, texts};
-ghost use Rattle.cli_words.specs.declared.settings.Settings.TheVariants.{Run};
+ghost use Rattle.cli_words.specs.declared.settings.Settings.TheVariants.{Run, Seal};
 ghost use Rattle.edge_traits.specs.Causes.{NoneFell, Rose};
 
+use crate::blocks::{BlocksFault, read_blocks};
 use crate::files::{AppFault, LONGEST_APPLICATION, read_application};
 use crate::refusal::{Refusal, TOO_LONG, refusal_line};
-use crate::run::answer_blocks;
+use crate::run::{answer_blocks, answer_seal};
 use crate::status::Status;
-use chain_file::LONGEST_DRAFT;
-use chain_file::laws::drafts_are_bounded;
 use cli_words::{Settings, WordsFault, read_words};
 use edge_traits::{FetchFault, Shelf, read_whole};
 use proc_check::Checked;
@@ -49,7 +49,7 @@ fn refuse_app(alloc: Global, refusal: Refusal) -> Result<Reply, NoMemory>
 }
 
 // The reply over an accepted application, once the blocks are read.
-fn read_blocks<S: Shelf>(
+fn run_app<S: Shelf>(
     alloc: Global,
     shelf: &mut S,
     app: Checked,
@@ -62,13 +62,25 @@ fn read_blocks<S: Shelf>(
     ensures read { IfOk result (λ reply. reply.status ≡ Status.ReadFault → Rose (S.faults shelf.old name.now) (S.faults shelf.new name.now)) }
     ensures kind { IfOk result (λ reply. is_of_files reply.status ≡ true) }
 {
-    // so that a file with more bytes is none
-    drafts_are_bounded();
-    match read_whole(alloc, shelf, name, LONGEST_DRAFT) {
-        Ok(blocks) => answer_blocks(alloc, app, blocks.as_slice()),
-        Err(FetchFault::Failed) => plain(alloc, Status::ReadFault, b"refused read\n"),
-        Err(FetchFault::TooLong) => plain(alloc, Status::BlocksRefused, b"refused blocks\n"),
-        Err(FetchFault::NoMemory) => Err(NoMemory),
+    match read_blocks(alloc, shelf, name) {
+        Ok(read) => answer_blocks(alloc, app, &read),
+        Err(BlocksFault::Failed) => plain(alloc, Status::ReadFault, b"refused read\n"),
+        Err(BlocksFault::NoMemory) => Err(NoMemory),
+    }
+}
+
+// The reply to a seal, once the blocks are read.
+fn seal_file<S: Shelf>(alloc: Global, shelf: &mut S, name: &str) -> Result<Reply, NoMemory>
+    requires allowed { S.may_read shelf.old name.now }
+    ensures told { IfOk result (λ reply. IfSome (S.told shelf.old) (λ files. Means (sealed (chain (files name.now)).0 (chain (files name.now)).1) reply
+        ⊎ (Means read_refused reply × Rose (S.faults shelf.old name.now) (S.faults shelf.new name.now)))) }
+    ensures read { IfOk result (λ reply. reply.status ≡ Status.ReadFault → Rose (S.faults shelf.old name.now) (S.faults shelf.new name.now)) }
+    ensures kind { IfOk result (λ reply. is_of_files reply.status ≡ true) }
+{
+    match read_blocks(alloc, shelf, name) {
+        Ok(read) => answer_seal(alloc, &read),
+        Err(BlocksFault::Failed) => plain(alloc, Status::ReadFault, b"refused read\n"),
+        Err(BlocksFault::NoMemory) => Err(NoMemory),
     }
 }
 
@@ -90,7 +102,7 @@ fn check_app<S: Shelf>(
     ensures kind { IfOk result (λ reply. is_of_files reply.status ≡ true) }
 {
     match read_application(alloc, app) {
-        Ok(checked) => read_blocks(alloc, shelf, checked, name),
+        Ok(checked) => run_app(alloc, shelf, checked, name),
         Err(AppFault::Refused(refusal)) => refuse_app(alloc, refusal),
         Err(AppFault::NoMemory) => Err(NoMemory),
     }
@@ -130,6 +142,7 @@ pub fn decide<S: Shelf>(alloc: Global, words: &[&str], shelf: &mut S) -> Result<
 {
     match read_words(alloc, words) {
         Ok(Settings::Run { app, blocks }) => read_app(alloc, shelf, app.as_str(), blocks.as_str()),
+        Ok(Settings::Seal { blocks }) => seal_file(alloc, shelf, blocks.as_str()),
         Err(WordsFault::Usage) => plain(alloc, Status::Usage, b"refused usage\n"),
         Err(WordsFault::NoMemory) => Err(NoMemory),
     }

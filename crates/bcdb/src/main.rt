@@ -1,6 +1,8 @@
-//! A permissioned blockchain database: runs a file of blocks on an application and prints outcomes and tables.
+//! A permissioned blockchain database: runs a file of blocks on an application and prints outcomes and tables, or writes the
+//! blocks as a chain.
 #![tactic(auto)]
 
+pub mod blocks;
 pub mod decide;
 pub mod files;
 pub mod refusal;

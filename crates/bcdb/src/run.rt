@@ -1,21 +1,20 @@
-//! The blocks of a draft on an application, and their report.
+//! The blocks of a file: their report on an application, and their chain.
 
-ghost use Rattle.std.specs.Prelude.{◌≡◌, IfOk, Ok, Some, [], true};
-ghost use Rattle.bcdb.specs.Answer.{over_blocks, over_app};
+ghost use Rattle.std.specs.Prelude.{◌≡◌, IfOk, [], true};
+ghost use Rattle.bcdb.specs.Answer.{over_blocks, sealed, status_of};
 ghost use Rattle.bcdb.specs.Reply.{Means, is_of_files};
-ghost use Rattle.chain_file.specs.Draft.{draft};
 ghost use Rattle.chain_file.specs.Numbered.{NumberedFrom};
 ghost use Rattle.node_model.specs.Fold.{node_result};
 
-use crate::decide::{Reply, plain};
+use crate::decide::Reply;
 use crate::status::Status;
-use chain_file::{DraftFault, read_draft};
+use chain_file::{Fed, seal};
 use node_model::NodeResult;
 use plain_node::PlainNode;
 use proc_check::Checked;
-use proc_syntax::Block;
+use proc_syntax::{Block, ChainFault};
 use rel_base::{List, NoMemory};
-use report_text::report;
+use report_text::{report, stopped_line};
 use row_sets::Versions;
 use std::alloc::Global;
 use std::sync::Arc;
@@ -37,30 +36,54 @@ pub fn run_blocks<V: Versions>(
     node.close()
 }
 
-fn report_blocks(alloc: Global, app: &Arc<Checked>, blocks: &List<Block>) -> Result<Reply, NoMemory>
-    requires { NumberedFrom 1 blocks.now }
-    ensures { IfOk result (λ reply. Means (over_blocks app.now.value.app (Some blocks.now)) reply) }
+// The report of the blocks before the first fault.
+fn report_blocks(alloc: Global, app: &Arc<Checked>, read: &Fed) -> Result<List<u8>, NoMemory>
+    requires { NumberedFrom 1 read.now.blocks }
+    ensures { IfOk result (λ bytes. bytes ≡ (over_blocks app.now.value.app read.now.blocks read.now.fault).bytes) }
 {
-    let node = run_blocks::<IndexVersions>(alloc, app, blocks.as_slice())?;
+    let node = run_blocks::<IndexVersions>(alloc, app, read.blocks.as_slice())?;
     let mut nodes = List::new(alloc);
     nodes.push(node)?;
-    let bytes = report(alloc, app.tables(), &nodes)?;
-    Ok(Reply {
-        status: Status::Done,
-        bytes,
-    })
+    report(alloc, app.tables(), &nodes, read.fault.as_ref())
 }
 
-/// The reply over an accepted application and the bytes of a block file.
-pub fn answer_blocks(alloc: Global, app: Checked, bytes: &[u8]) -> Result<Reply, NoMemory>
-    ensures means { IfOk result (λ reply. Means (over_app (Ok app.app) bytes.now) reply) }
+// Whether the block file was read to its end.
+fn status_of(fault: Option<ChainFault>) -> Status
+    ensures { result ≡ status_of fault }
+{
+    match fault {
+        None => Status::Done,
+        Some(_) => Status::ChainRefused,
+    }
+}
+
+/// The reply over an accepted application and what a block file gave.
+pub fn answer_blocks(alloc: Global, app: Checked, read: &Fed) -> Result<Reply, NoMemory>
+    requires { NumberedFrom 1 read.now.blocks }
+    ensures means { IfOk result (λ reply. Means (over_blocks app.app read.now.blocks read.now.fault) reply) }
     ensures kind { IfOk result (λ reply. is_of_files reply.status ≡ true) }
     ensures read { IfOk result (λ reply. reply.status ≡ Status.ReadFault → ⊥) }
 {
     let app = Arc::new(alloc, app)?;
-    match read_draft(alloc, bytes) {
-        Ok(blocks) => report_blocks(alloc, &app, &blocks),
-        Err(DraftFault::Bad) => plain(alloc, Status::BlocksRefused, b"refused blocks\n"),
-        Err(DraftFault::NoMemory) => Err(NoMemory),
-    }
+    let bytes = report_blocks(alloc, &app, read)?;
+    Ok(Reply {
+        status: status_of(read.fault),
+        bytes,
+    })
+}
+
+/// The reply to a seal: the chain file of the blocks of a file without a fault, and else where the file stopped.
+pub fn answer_seal(alloc: Global, read: &Fed) -> Result<Reply, NoMemory>
+    ensures means { IfOk result (λ reply. Means (sealed read.now.blocks read.now.fault) reply) }
+    ensures kind { IfOk result (λ reply. is_of_files reply.status ≡ true) }
+    ensures read { IfOk result (λ reply. reply.status ≡ Status.ReadFault → ⊥) }
+{
+    let bytes = match &read.fault {
+        None => seal(alloc, &read.blocks)?,
+        Some(fault) => stopped_line(alloc, fault)?,
+    };
+    Ok(Reply {
+        status: status_of(read.fault),
+        bytes,
+    })
 }

@@ -3,7 +3,7 @@
 /// The status with which the program ends.
 #[derive(Clone, Copy, Debug, PartialEq, Eq)]
 pub enum Status {
-    /// The report is written.
+    /// All input was read to its end, and the answer is written.
     Done = 0,
     /// The words are not in the language of the command line.
     Usage = 2,
@@ -11,8 +11,8 @@ pub enum Status {
     ReadFault = 3,
     /// The application is too long, outside its grammar or not well typed.
     AppRefused = 4,
-    /// The block file is not a whole draft.
-    BlocksRefused = 5,
+    /// The block file stops at a fault, before its end.
+    ChainRefused = 5,
     /// The output could not be written.
     WriteFault = 7,
     /// Memory ran out.

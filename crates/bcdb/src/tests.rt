@@ -76,11 +76,50 @@ fn refusals(rt: HostRuntime) -> Result<(), Fail> {
     let mut files = shelf(alloc, b"draft 2\n", &[])?;
     let mut out = sink(alloc, 100, &[])?;
     let status = bcdb(alloc, &WORDS, &mut files, &mut out);
-    assert_eq!(rt; status, Status::BlocksRefused);
-    assert!(rt; out.bytes() == b"refused blocks\n".as_slice());
+    assert_eq!(rt; status, Status::ChainRefused);
+    let want = b"node 1\ntable acct\nheight 0\nstopped 1 BadHeader\n";
+    assert!(rt; out.bytes() == want.as_slice());
     let mut out = sink(alloc, 100, &[])?;
     let status = bcdb(alloc, &["run"], &mut files, &mut out);
     assert_eq!(rt; status, Status::Usage);
     assert!(rt; out.bytes() == b"refused usage\n".as_slice());
+    Ok(())
+}
+
+// The blocks before a fault are run and reported.
+#[test]
+fn a_second_block_that_stops(rt: HostRuntime) -> Result<(), Fail> {
+    let alloc = rt.alloc();
+    let file = b"draft 1\nblock 1\ntx a1 0 add 1 \"ann\" 50\nend\nblock 2\ntx a2 0 add 2 \"bob\" 20\nend";
+    let mut files = shelf(alloc, file, &[])?;
+    let mut out = sink(alloc, 1000, &[])?;
+    let status = bcdb(alloc, &WORDS, &mut files, &mut out);
+    assert_eq!(rt; status, Status::ChainRefused);
+    let want = b"node 1\nblock 1\ntx 1 a1 committed\ntable acct\nrow 1 \"ann\" 50\nheight 1\nstopped 7 Truncated\n";
+    assert!(rt; out.bytes() == want.as_slice());
+    Ok(())
+}
+
+const CHAIN: &[u8] = b"chain 1\nblock 1 0000000000000000000000000000000000000000000000000000000000000000\ntx a1 0 add 1 \"ann\" 50\nend\n";
+
+#[test]
+fn sealed_insert(rt: HostRuntime) -> Result<(), Fail> {
+    let alloc = rt.alloc();
+    let words = ["seal", "--blocks", "first"];
+    let mut files = shelf(alloc, ONE_INSERT, &[])?;
+    let mut out = sink(alloc, 1000, &[])?;
+    let status = bcdb(alloc, &words, &mut files, &mut out);
+    assert_eq!(rt; status, Status::Done);
+    assert!(rt; out.bytes() == CHAIN);
+    let mut files = shelf(alloc, CHAIN, &[])?;
+    let mut again = sink(alloc, 1000, &[])?;
+    let status = bcdb(alloc, &words, &mut files, &mut again);
+    assert_eq!(rt; status, Status::Done);
+    assert!(rt; again.bytes() == CHAIN);
+    let mut files = shelf(alloc, &CHAIN[..CHAIN.len() - 1], &[])?;
+    let mut cut = sink(alloc, 1000, &[])?;
+    let status = bcdb(alloc, &words, &mut files, &mut cut);
+    assert_eq!(rt; status, Status::ChainRefused);
+    assert!(rt; cut.bytes() == b"stopped 4 Truncated\n".as_slice());
     Ok(())
 }

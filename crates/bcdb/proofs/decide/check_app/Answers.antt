@@ -4,7 +4,7 @@ use Rattle.bcdb.proofs.decide.check_app.Goals as goal
 
 pub returns-in-Ok-clause-told : goal.returns-in-Ok-clause-told
 returns-in-Ok-clause-told g c =
-    if_ok_then c.read_blocks.result _ _ c.read_blocks.ensures.told (λ reply told.
+    if_ok_then c.run_app.result _ _ c.run_app.ensures.told (λ reply told.
     accepted_told (g.S.Shelf.told c.args.shelf.now) c.args.app_name.now c.args.name.now c.args.app.now c.in-Ok.checked.app _ reply c.requires.bytes c.in-Ok.ensures.ok told)
 
 pub returns-in-Err-Refused-clause-told : goal.returns-in-Err-Refused-clause-told

@@ -1,0 +1,70 @@
+-- Pieces of a file, one after another: what was read stays a front of the file, and a fault that was met is the file's.
+use Rattle.std.proofs.Common.{◌≡◌, ℕ, ◌<◌, ◌≤◌, ◌+◌, List, ◌++◌, length, take, drop, sym, ap, subst, ◌∙◌, length-append, arith, Option, Some, None, IfSome}
+use Rattle.std.proofs.lemmas.List.{length-take-le, take-append-drop, take_all}
+use Rattle.bcdb.specs.Reading.{HasFault, IsRead, IsWhole, TakesPiece}
+use Rattle.chain_file.specs.Chain.{chain, lasting}
+use Rattle.chain_file.specs.Files.{FaultsLast, FilesAreBounded, FilesAreNumbered}
+use Rattle.chain_file.specs.Numbered.{NumberedFrom}
+use Rattle.chain_file.specs.Text.{longest_draft}
+use Rattle.chain_file.specs.declared.reader.Reader.{Reader}
+use Rattle.edge_traits.proofs.Fronts.{told_grows}
+use Rattle.edge_traits.specs.Shelf.{Files, IsPiece}
+use Rattle.proc_syntax.specs.declared.call.Block.{Block}
+use Rattle.proc_syntax.specs.declared.chain_fault.ChainFault.{ChainFault}
+
+-- what was read and a piece behind it are a front of the file
+front_by : (told : Option Files) (name bytes buffer : List ℕ) (at count : ℕ) → length bytes ≡ at → count ≤ length buffer → IfSome told (λ files. IsPiece (files name) at count buffer)
+    → IfSome told (λ files. bytes ≡ take at (files name)) → IfSome told (λ files. bytes ++ take count buffer ≡ take (length (bytes ++ take count buffer)) (files name))
+front_by None name bytes buffer at count size le piece front = tt
+front_by (Some files) name bytes buffer at count size le piece front =
+    told_grows (Some files) name bytes buffer count le (subst (λ n. IsPiece (files name) n count buffer) (sym size) piece) (front ∙ ap (λ n. take n (files name)) (sym size))
+
+at_size : (told : Option Files) (name bytes : List ℕ) (n : ℕ) → length bytes ≡ n → IfSome told (λ files. bytes ≡ take (length bytes) (files name)) → IfSome told (λ files. bytes ≡ take n (files name))
+at_size None name bytes n size front = tt
+at_size (Some files) name bytes n size front = front ∙ ap (λ n. take n (files name)) size
+
+module _ (told : Option Files) (name buffer : List ℕ) (at count : ℕ) (old : Reader) (before : List Block) (read : IsRead told name at old before) (le : count ≤ length buffer)
+    (piece : IfSome told (λ files. IsPiece (files name) at count buffer)) where
+  abbrev both : List ℕ
+  both = read.bytes ++ take count buffer
+
+  size : length both ≡ at + count
+  size = omega (arith, length-append read.bytes (take count buffer), length-take-le count buffer le, read.size)
+
+  front : IfSome told (λ files. both ≡ take (length both) (files name))
+  front = front_by told name read.bytes buffer at count read.size le piece read.front
+
+  -- the reading goes on behind a piece without a fault
+  pub goes_on : (new : Reader) (blocks : List Block) (fault : Option ChainFault) → TakesPiece both new blocks fault → IsRead told name (at + count) new blocks
+  goes_on new blocks fault takes = record { bytes = both; size = size; follows = takes.follows; blocks_are = takes.blocks_are; front = at_size told name both (at + count) size front }
+
+  -- and has not gone past the longest file
+  pub within : FilesAreBounded → (new : Reader) (blocks : List Block) (fault : Option ChainFault) → TakesPiece both new blocks fault → fault ≡ None → at + count ≤ longest_draft
+  within bounded new blocks fault takes none = subst (λ n. n ≤ longest_draft) size (bounded both (sym takes.fault_is ∙ none))
+
+  whole_by : (told : Option Files) → IfSome told (λ files. both ≡ take (length both) (files name)) → FaultsLast → (blocks : List Block) (found : ChainFault) → (chain both).0 ≡ blocks
+      → lasting (chain both).1 ≡ Some found → IfSome told (λ files. chain (files name) ≡ (blocks, Some found))
+  whole_by None begins last blocks found are is = tt
+  whole_by (Some files) begins last blocks found are is =
+      let whole : both ++ drop (length both) (files name) ≡ files name = ap (λ bs. bs ++ drop (length both) (files name)) begins ∙ take-append-drop (length both) (files name) in
+      ap chain (sym whole) ∙ last both (drop (length both) (files name)) found is ∙ ap (λ bs. (bs, Some found)) are
+
+  -- a fault that was met is the file's, with the blocks before it
+  pub stops : FaultsLast → (new : Reader) (blocks : List Block) (fault : Option ChainFault) (found : ChainFault) → TakesPiece both new blocks fault → fault ≡ Some found → HasFault told name blocks found
+  stops last new blocks fault found takes is = whole_by told front last blocks found takes.blocks_are (sym takes.fault_is ∙ is)
+
+  -- blocks that were taken are numbered
+  pub numbered : FilesAreNumbered → (new : Reader) (blocks : List Block) (fault : Option ChainFault) → TakesPiece both new blocks fault → NumberedFrom 1 blocks
+  numbered all new blocks fault takes = subst (NumberedFrom 1) takes.blocks_are (all both)
+
+end_by : (told : Option Files) (name bytes buffer : List ℕ) (at count : ℕ) → 0 < length buffer → count ≡ 0 → IfSome told (λ files. IsPiece (files name) at count buffer)
+    → IfSome told (λ files. bytes ≡ take at (files name)) → IfSome told (λ files. bytes ≡ files name)
+end_by None name bytes buffer at count room none piece begins = tt
+end_by (Some files) name bytes buffer at count room none piece begins = begins ∙ take_all at (files name) ((piece.end room).0 none)
+
+-- where no byte comes, the file was read whole
+pub ends : (told : Option Files) (name buffer : List ℕ) (at count : ℕ) (reader : Reader) (blocks : List Block) → (read : IsRead told name at reader blocks) → 0 < length buffer → count ≡ 0
+    → IfSome told (λ files. IsPiece (files name) at count buffer) → FilesAreNumbered → IsWhole told name reader blocks × NumberedFrom 1 blocks
+ends told name buffer at count reader blocks read room none piece all = (
+  record { bytes = read.bytes; follows = read.follows; blocks_are = read.blocks_are; whole = end_by told name read.bytes buffer at count room none piece read.front },
+  subst (NumberedFrom 1) read.blocks_are (all read.bytes))

@@ -1,0 +1,179 @@
+//! The block file, read piece by piece to its end or to its first fault.
+
+ghost use Rattle.std.specs.Prelude.{◌≡◌, ◌≤◌, ◌<◌, ◌++◌, List, ℕ, IfOk, IfSome, IsErrOf, Option, length};
+ghost use Rattle.bcdb.specs.Reading.{Goes, IsRead, TakesPiece};
+ghost use Rattle.chain_file.specs.Chain.{chain};
+ghost use Rattle.chain_file.specs.Files.{FaultsLast, FilesAreBounded, FilesAreNumbered};
+ghost use Rattle.chain_file.specs.Following.{EndsAs, Follows};
+ghost use Rattle.chain_file.specs.Numbered.{NumberedFrom};
+ghost use Rattle.edge_traits.specs.Causes.{Keeps, NoneFell, Rose};
+
+use chain_file::laws::{faults_last, files_are_bounded, files_are_numbered};
+use chain_file::{Fed, Reader};
+use edge_traits::Shelf;
+use proc_syntax::{Block, ChainFault};
+use rel_base::{List, NoMemory};
+use std::alloc::{AllocError, Global};
+
+/// Why there are no blocks.
+#[derive(Clone, Copy, Debug, PartialEq, Eq)]
+pub enum BlocksFault {
+    /// Memory ran out.
+    NoMemory,
+    /// A read failed.
+    Failed,
+}
+
+impl From<NoMemory> for BlocksFault {
+    ghost use Rattle.std.specs.Prelude.{◌≡◌};
+    ghost use Rattle.bcdb.specs.declared.blocks.BlocksFault.TheVariants as fault;
+
+    ghost from_gives = { λ _ e. e ≡ fault.NoMemory };
+
+    fn from(_error: NoMemory) -> BlocksFault {
+        BlocksFault::NoMemory
+    }
+}
+
+impl From<AllocError> for BlocksFault {
+    ghost use Rattle.std.specs.Prelude.{◌≡◌};
+    ghost use Rattle.bcdb.specs.declared.blocks.BlocksFault.TheVariants as fault;
+
+    ghost from_gives = { λ _ e. e ≡ fault.NoMemory };
+
+    fn from(_error: AllocError) -> BlocksFault {
+        BlocksFault::NoMemory
+    }
+}
+
+// How many bytes are asked for at once.
+const PIECE: usize = 65536;
+
+// A buffer on the heap, where the stack would pay for it at each call.
+fn make_buffer(alloc: Global) -> Result<Vec<u8>, AllocError>
+    ensures { IfOk result (λ buffer. length buffer.items ≡ 65536) }
+{
+    vec![in alloc; 0; PIECE]
+}
+
+// Reads a piece that follows others, and answers the fault that was met.
+fn take_piece(
+    reader: &mut Reader,
+    blocks: &mut List<Block>,
+    piece: &[u8],
+) -> Result<Option<ChainFault>, NoMemory>
+    ensures { (bytes : List ℕ) → Follows reader.old bytes → (chain bytes).0 ≡ blocks.old → IfOk result (TakesPiece (bytes ++ piece.now) reader.new blocks.new) }
+{
+    let fed = reader.feed(piece)?;
+    let Fed { blocks: more, fault } = fed;
+    blocks.append(more)?;
+    Ok(fault)
+}
+
+// The fault of a file that ends here.
+fn end_fault(mut reader: Reader) -> Option<ChainFault>
+    ensures { (bytes : List ℕ) → Follows reader bytes → (chain bytes).1 ≡ result }
+{
+    match reader.end() {
+        Ok(()) => None,
+        Err(fault) => Some(fault),
+    }
+}
+
+/// What one more piece of a file came to.
+#[derive(Clone, Copy, Debug, PartialEq, Eq)]
+pub enum Step {
+    /// So many bytes more were read.
+    More(usize),
+    /// The file has ended.
+    End,
+    /// The file stopped at a fault.
+    Stop(ChainFault),
+}
+
+// Reads one more piece of a file, of which so many bytes were read.
+#[tactic(auto, using(crate::proofs::Taken::goes_on, crate::proofs::Taken::within, crate::proofs::Taken::stops, crate::proofs::Taken::ends, crate::proofs::Taken::numbered))]
+fn read_piece<S: Shelf>(
+    shelf: &mut S,
+    name: &str,
+    at: u64,
+    buffer: &mut [u8],
+    reader: &mut Reader,
+    blocks: &mut List<Block>,
+) -> Result<Step, BlocksFault>
+    requires allowed { S.may_read shelf.old name.now }
+    requires room { 0 < length buffer.old }
+    requires bounded { FilesAreBounded }
+    requires numbered { FilesAreNumbered }
+    requires lasting { FaultsLast }
+    requires read { IsRead (S.told shelf.old) name.now at reader.old blocks.old }
+    ensures goes { IfOk result (λ step. Goes step (S.told shelf.old) name.now at reader.new blocks.new) }
+    ensures told { S.told shelf.new ≡ S.told shelf.old }
+    ensures allowed { Keeps (S.may_read shelf.old) (S.may_read shelf.new) }
+    ensures later { NoneFell (S.faults shelf.old) (S.faults shelf.new) }
+    ensures failed { IsErrOf result BlocksFault.Failed → Rose (S.faults shelf.old name.now) (S.faults shelf.new name.now) }
+{
+    let Ok(count) = shelf.read_at(name, at, buffer) else {
+        return Err(BlocksFault::Failed);
+    };
+    if count == 0 {
+        return Ok(Step::End);
+    }
+    match take_piece(reader, blocks, &buffer[..count])? {
+        None => Ok(Step::More(count)),
+        Some(fault) => Ok(Step::Stop(fault)),
+    }
+}
+
+// Reads a file from its front, by a buffer that has room.
+fn read_through<S: Shelf>(
+    alloc: Global,
+    shelf: &mut S,
+    name: &str,
+    buffer: &mut [u8],
+) -> Result<Fed, BlocksFault>
+    requires allowed { S.may_read shelf.old name.now }
+    requires room { 0 < length buffer.old }
+    ensures later { NoneFell (S.faults shelf.old) (S.faults shelf.new) }
+    ensures told { IfOk result (λ read. IfSome (S.told shelf.old) (λ files. chain (files name.now) ≡ (read.blocks, read.fault))) }
+    ensures numbered { IfOk result (λ read. NumberedFrom 1 read.blocks) }
+    ensures failed { IsErrOf result BlocksFault.Failed → Rose (S.faults shelf.old name.now) (S.faults shelf.new name.now) }
+{
+    files_are_bounded();
+    files_are_numbered();
+    faults_last();
+    let mut reader = Reader::new(alloc);
+    let mut blocks = List::new(alloc);
+    let mut at: u64 = 0;
+    loop {
+        match read_piece(shelf, name, at, buffer, &mut reader, &mut blocks)? {
+            Step::More(count) => at += count as u64,
+            Step::End => {
+                let fault = end_fault(reader);
+                return Ok(Fed { blocks, fault });
+            }
+            Step::Stop(fault) => {
+                return Ok(Fed {
+                    blocks,
+                    fault: Some(fault),
+                });
+            }
+        }
+    }
+}
+
+/// The blocks of a file up to its first fault, and that fault. The file is read no further.
+pub fn read_blocks<S: Shelf>(
+    alloc: Global,
+    shelf: &mut S,
+    name: &str,
+) -> Result<Fed, BlocksFault>
+    requires allowed { S.may_read shelf.old name.now }
+    ensures later { NoneFell (S.faults shelf.old) (S.faults shelf.new) }
+    ensures told { IfOk result (λ read. IfSome (S.told shelf.old) (λ files. chain (files name.now) ≡ (read.blocks, read.fault))) }
+    ensures numbered { IfOk result (λ read. NumberedFrom 1 read.blocks) }
+    ensures failed { IsErrOf result BlocksFault.Failed → Rose (S.faults shelf.old name.now) (S.faults shelf.new name.now) }
+{
+    let mut buffer = make_buffer(alloc)?;
+    read_through(alloc, shelf, name, &mut buffer)
+}
