@@ -3,9 +3,10 @@
 
 The application is close to 1,048,576 bytes of assignments; it is read and checked over a draft without blocks. The procedure is four
 nested loops over the rows of a table, 100,000 steps in all; runs of one call and of many give the time of a step. Prints megabytes and
-steps per second. Usage: bench/procedures.py PROGRAM
+steps per second, and those of a plain parser and interpreter in Rust (bench/plain.rs) where rustc is there. Usage: bench/procedures.py PROGRAM
 """
 import os
+import shutil
 import subprocess
 import sys
 import tempfile
@@ -50,6 +51,27 @@ def seconds(program, app, draft):
         return time.monotonic() - begin
 
 
+def plain(folder, *words):
+    """The seconds that the plain program says it took, the best of three."""
+    made = os.path.join(folder, "plain")
+    if not os.path.exists(made):
+        source = os.path.join(os.path.dirname(os.path.abspath(__file__)), "plain.rs")
+        subprocess.run(["rustc", "-O", "-o", made, source], check=True)
+    runs = [subprocess.run([made, *words], capture_output=True, text=True, check=True) for _ in range(3)]
+    return min(float(run.stdout) for run in runs)
+
+
+def compare(app, parse_rate, step_rate):
+    with tempfile.TemporaryDirectory() as folder:
+        path = os.path.join(folder, "a.app")
+        with open(path, "w") as out:
+            out.write(app)
+        parsed = len(app) / plain(folder, "parse", path)
+        stepped = CALLS * STEPS / plain(folder, "spin")
+    print(f"plain parser in Rust: {parsed / 1e6:.1f} MB a second, {parsed / parse_rate:.1f} times the rate")
+    print(f"plain interpreter in Rust: {stepped:,.0f} steps a second, {stepped / step_rate:.1f} times the rate")
+
+
 def main():
     program = os.path.abspath(sys.argv[1])
     app = large_application()
@@ -58,6 +80,8 @@ def main():
     none = min(seconds(program, HEAD + SPIN, spins(0)) for _ in range(3))
     many = min(seconds(program, HEAD + SPIN, spins(CALLS)) for _ in range(3))
     print(f"{CALLS} calls of {STEPS} steps: {many - none:.3f} s, {CALLS * STEPS / (many - none):,.0f} steps a second")
+    if shutil.which("rustc"):
+        compare(app, len(app) / took, CALLS * STEPS / (many - none))
 
 
 if __name__ == "__main__":
