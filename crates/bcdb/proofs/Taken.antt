@@ -67,4 +67,5 @@ pub ends : (told : Option Files) (name buffer : List ℕ) (at count : ℕ) (read
     → IfSome told (λ files. IsPiece (files name) at count buffer) → FilesAreNumbered → IsWhole told name reader blocks × NumberedFrom 1 blocks
 ends told name buffer at count reader blocks read room none piece all = (
   record { bytes = read.bytes; follows = read.follows; blocks_are = read.blocks_are; whole = end_by told name read.bytes buffer at count room none piece read.front },
-  subst (NumberedFrom 1) read.blocks_are (all read.bytes))
+  subst (NumberedFrom 1) read.blocks_are (all read.bytes),
+)

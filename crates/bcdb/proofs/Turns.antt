@@ -57,4 +57,3 @@ pub refused_told : (told : Option Files) (app_name name bytes : List ℕ) (refus
 refused_told None app_name name bytes refusal Rose reply same is means = tt
 refused_told (Some files) app_name name bytes refusal Rose reply same is means =
     inl (subst (λ found. Means (over_app found (files name)) reply) (sym (ap accepted (sym same) ∙ is)) means)
-

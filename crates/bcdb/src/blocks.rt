@@ -65,7 +65,10 @@ fn take_piece(
     ensures { (bytes : List ℕ) → Follows reader.old bytes → (chain bytes).0 ≡ blocks.old → IfOk result (TakesPiece (bytes ++ piece.now) reader.new blocks.new) }
 {
     let fed = reader.feed(piece)?;
-    let Fed { blocks: more, fault } = fed;
+    let Fed {
+        blocks: more,
+        fault,
+    } = fed;
     blocks.append(more)?;
     Ok(fault)
 }
@@ -163,11 +166,7 @@ fn read_through<S: Shelf>(
 }
 
 /// The blocks of a file up to its first fault, and that fault. The file is read no further.
-pub fn read_blocks<S: Shelf>(
-    alloc: Global,
-    shelf: &mut S,
-    name: &str,
-) -> Result<Fed, BlocksFault>
+pub fn read_blocks<S: Shelf>(alloc: Global, shelf: &mut S, name: &str) -> Result<Fed, BlocksFault>
     requires allowed { S.may_read shelf.old name.now }
     ensures later { NoneFell (S.faults shelf.old) (S.faults shelf.new) }
     ensures told { IfOk result (λ read. IfSome (S.told shelf.old) (λ files. chain (files name.now) ≡ (read.blocks, read.fault))) }

@@ -90,17 +90,20 @@ fn refusals(rt: HostRuntime) -> Result<(), Fail> {
 #[test]
 fn a_second_block_that_stops(rt: HostRuntime) -> Result<(), Fail> {
     let alloc = rt.alloc();
-    let file = b"draft 1\nblock 1\ntx a1 0 add 1 \"ann\" 50\nend\nblock 2\ntx a2 0 add 2 \"bob\" 20\nend";
+    let file =
+        b"draft 1\nblock 1\ntx a1 0 add 1 \"ann\" 50\nend\nblock 2\ntx a2 0 add 2 \"bob\" 20\nend";
     let mut files = shelf(alloc, file, &[])?;
     let mut out = sink(alloc, 1000, &[])?;
     let status = bcdb(alloc, &WORDS, &mut files, &mut out);
     assert_eq!(rt; status, Status::ChainRefused);
-    let want = b"node 1\nblock 1\ntx 1 a1 committed\ntable acct\nrow 1 \"ann\" 50\nheight 1\nstopped 7 Truncated\n";
+    let want =
+        b"node 1\nblock 1\ntx 1 a1 committed\ntable acct\nrow 1 \"ann\" 50\nheight 1\nstopped 7 Truncated\n";
     assert!(rt; out.bytes() == want.as_slice());
     Ok(())
 }
 
-const CHAIN: &[u8] = b"chain 1\nblock 1 0000000000000000000000000000000000000000000000000000000000000000\ntx a1 0 add 1 \"ann\" 50\nend\n";
+const CHAIN: &[u8] =
+    b"chain 1\nblock 1 0000000000000000000000000000000000000000000000000000000000000000\ntx a1 0 add 1 \"ann\" 50\nend\n";
 
 #[test]
 fn sealed_insert(rt: HostRuntime) -> Result<(), Fail> {
