@@ -3,7 +3,9 @@
 use crate::resolving::resolve;
 use crate::tree::{Action, Term};
 use crate::values::eval;
-use proc_syntax::{App, Binding, ColumnText, Expr, Named, Op, ProcDef, Stmt, TableText, tables_of};
+use proc_syntax::{
+    App, Binding, ColumnText, Expr, Named, Op, ProcDef, Stmt, TableText, has_few_columns, tables_of,
+};
 use rel_base::{Boxed, Kind, List, Name, Value};
 use std::alloc::Global;
 use std::test::Fail;
@@ -97,7 +99,9 @@ fn a_sum_of_a_column_and_a_parameter(rt: HostRuntime) -> Result<(), Fail> {
         tables: accounts(alloc)?,
         procs: list_of_one(alloc, procedure(alloc)?)?,
     };
+    assert!(rt; has_few_columns(&app));
     let tables = tables_of(alloc, &app)?;
+    assert!(rt; tables.len() < 4_294_967_296);
     let code = resolve(alloc, &app, &tables)?;
     let mut row = List::new(alloc);
     row.push(Value::Int(7))?;
