@@ -1,19 +1,19 @@
 -- The entries of tree maps, and the finite maps that they make.
-use Rattle.std.proofs.Common.{◌≡◌, ℕ, List, [], ◌∷◌, Some, None, refl, cond, not, ap, ◌∙◌, sym, subst, T, true, false}
+use Rattle.std.proofs.Common.{◌≡◌, ℕ, List, [], ◌∷◌, Bool, Option, Some, None, refl, cond, not, ap, ◌∙◌, sym, subst, T, true, false}
 use Rattle.std.specs.BTreeMap.{is_at, insert_entry}
 use Rattle.std.specs.Map.{lookup, keys_of, remove_entry}
 use Rattle.std.specs.Cmp.{IsTotalOrder, Equal-is, eq_by_cmp_equiv}
 use Rattle.std.specs.declared.cmp.Ordering.{Ordering}
 use Rattle.std.specs.declared.cmp.Ordering.TheVariants.{Less, Equal, Greater}
 use Rattle.std.specs.Ordering.{is_lt, is_eq, eq_by_cmp, match_ordering}
-use Rattle.std.specs.List.{AllByRecursion}
+use Rattle.std.specs.List.{AllByRecursion, filter}
 use Rattle.std.specs.List.Sorted.{IsStrictlySortedBy}
 use Rattle.std.specs.FinMap.{from_entries, entries, entries_sorted, get, get-entries, get-from_entries, insert, get-insert, same_map}
 use Rattle.std.specs.FinMap.Entries.{find, is_sorted, below_all, same_entries, put, where_key, by_order}
 use Rattle.rel_base.specs.declared.value.Value.{Value}
 use Rattle.rel_base.specs.Tables.{ref_cmp, ref_cmp-total, ref_cmp-exact}
 use Rattle.rel_base.specs.Value.{key_cmp, key_cmp-total, key_cmp-exact}
-use Rattle.rel_base.proofs.Bits.{both, first, second, is_Less}
+use Rattle.rel_base.proofs.Bits.{both, first, second, is_Less, is_Equal}
 
 module _ {K X : Type 0} (R : K → K → Ordering) where
   below_from_keys : (k : K) (es : List (K × X)) → AllByRecursion (λ q. R k q ≡ Less) (keys_of es) → T (below_all R k es)
@@ -66,6 +66,35 @@ module _ {K X : Type 0} (R : K → K → Ordering) where
   pub find_is_lookup : (q : K) (es : List (K × X)) → find R q es ≡ lookup (is_at (R q)) es
   find_is_lookup q [] = refl
   find_is_lookup q (e ∷ es) = ap (cond (is_at (R q) e.0) (Some e.1)) (find_is_lookup q es)
+
+-- ---- entries that pass a test
+
+module _ {K X : Type 0} (R : K → K → Ordering) (exact : (a b : K) → R a b ≡ Equal → a ≡ b) where
+  -- a value that passes a test with its key
+  abbrev pub kept_if : (K × X → Bool) → K → Option X → Option X
+  kept_if p q None = None
+  kept_if p q (Some x) = cond (p (q, x)) (Some x) None
+
+  -- what is found among the entries that pass
+  pub find-filter : (p : K × X → Bool) (q : K) (es : List (K × X)) → T (is_sorted R es) → find R q (filter p es) ≡ kept_if p q (find R q es)
+  find-filter p q [] sorted = refl
+  find-filter p q (e ∷ es) sorted =
+      elim (eq_by_cmp R q e.0) as (λ t. eq_by_cmp R q e.0 ≡ t → find R q (cond (p e) (e ∷ filter p es) (filter p es)) ≡ kept_if p q (cond t (Some e.1) (find R q es))) [
+        | true ↦ λ tied.
+            let same : q ≡ e.0 = exact q e.0 (is_Equal (R q e.0) tied) in
+            let below : T (below_all R q es) = subst (λ k. T (below_all R k es)) (sym same) (first _ _ sorted) in
+            let gone : find R q (filter p es) ≡ None = find-filter p q es (second _ _ sorted) ∙ ap (kept_if p q) (not_found R q es below) in
+            elim (p e) as (λ b. p e ≡ b → find R q (cond b (e ∷ filter p es) (filter p es)) ≡ cond (p (q, e.1)) (Some e.1) None) [
+              | true ↦ λ passes. ap (λ t. cond t (Some e.1) (find R q (filter p es))) tied ∙ sym (ap (λ b. cond b (Some e.1) None) (ap (λ k. p (k, e.1)) same ∙ passes))
+              | false ↦ λ fails. gone ∙ sym (ap (λ b. cond b (Some e.1) None) (ap (λ k. p (k, e.1)) same ∙ fails))
+            ] refl
+        | false ↦ λ apart.
+            let rest = find-filter p q es (second _ _ sorted) in
+            elim (p e) as (λ b. find R q (cond b (e ∷ filter p es) (filter p es)) ≡ kept_if p q (find R q es)) [
+              | true ↦ ap (λ t. cond t (Some e.1) (find R q (filter p es))) apart ∙ rest
+              | false ↦ rest
+            ]
+      ] refl
 
 -- ---- as a finite map
 

@@ -3,6 +3,7 @@ pub mod Endings
 pub mod Entries
 pub mod Filling
 pub mod Flat
+pub mod Histories
 pub mod Laid
 pub mod Nets
 pub mod Owns

@@ -12,4 +12,4 @@ pub mod versions;
 
 pub use overlay::Overlay;
 pub use table_writes::OwnWrite;
-pub use versions::{HitRef, Versions};
+pub use versions::{HitRef, Lifespan, Versions};

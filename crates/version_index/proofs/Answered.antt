@@ -3,17 +3,15 @@ use Rattle.std.proofs.Common.{◌≡◌, ◌∙◌, ℕ, List, [], ◌∷◌, �
 use Rattle.std.specs.List.Sorted.{IsStrictlySortedBy}
 use Rattle.std.specs.Map.{keys_of, lookup}
 use Rattle.std.specs.BTreeMap.{is_at}
-use Rattle.std.specs.Option.{IsSomeAnd}
 use Rattle.std.specs.Ordering.{eq_by_cmp, is_eq, nat_cmp, ordering_then}
 use Rattle.std.specs.Cmp.{tied_itself, nat_cmp_total}
 use Rattle.std.specs.FinMap.{entries, get, get-entries}
 use Rattle.std.proofs.lemmas.Bool.Decides.{Decides-eqb}
-use Rattle.std.proofs.lemmas.List.Elements.{All-weaker}
 use Rattle.rel_base.specs.declared.access.Read.{Read}
 use Rattle.rel_base.specs.declared.access.Read.TheVariants.{Point}
 use Rattle.rel_base.specs.declared.schema.TableDef.{TableDef}
 use Rattle.rel_base.specs.declared.value.Value.{Value}
-use Rattle.rel_base.specs.Access.{read_table, hits_write, WriteFits}
+use Rattle.rel_base.specs.Access.{read_table, hits_write}
 use Rattle.rel_base.specs.Among.{rows_by, rows_in}
 use Rattle.rel_base.specs.Late.{where_declared, hits_in, least_hit, stamp_cmp}
 use Rattle.rel_base.specs.Schema.{key_of_row}
@@ -23,7 +21,7 @@ use Rattle.rel_base.proofs.Bits.{first_true, second_true, is_Equal, no_both}
 use Rattle.rel_base.proofs.KeyOrder.{Stands, all_stand}
 use Rattle.version_index.specs.Chain.{IsLast, IsFirst, is_on, is_late, is_seen}
 use Rattle.version_index.specs.Heads.{head_of, noted}
-use Rattle.version_index.specs.Log.{FitsTable, InOrder, is_hit_between}
+use Rattle.version_index.specs.Log.{InOrder, is_hit_between}
 use Rattle.version_index.specs.Rows.{rows_of_keys, write_of}
 use Rattle.version_index.proofs.KeyRows.{AllAmong, among_keys, rows_of_all, All-found}
 use Rattle.version_index.proofs.LeastHits.{first_agrees, least_from_first, least_of_point, hits_table}
@@ -33,12 +31,6 @@ use Rattle.std.specs.Ordering.{is_le}
 use Rattle.version_index.proofs.Logged.{seen_within}
 use Rattle.version_index.proofs.Lasts.{none_seen}
 use Rattle.version_index.proofs.Visible.{get_seen}
-
--- the writes of a declared table fit its declaration
-pub table_fits : (defs : List TableDef) (def : TableDef) (table : ℕ) (history : List Stamped) → slice_get defs table ≡ Some def → HistoryFits defs history → FitsTable def table history
-table_fits defs def table history declared fits =
-    All-weaker (λ (s : Stamped). IsSomeAnd (slice_get defs s.1.write.table) (λ d. WriteFits d s.1.write)) (λ s. s.1.write.table ≡ table → WriteFits def s.1.write)
-    (λ s fit same. subst (λ found. IsSomeAnd found (λ d. WriteFits d s.1.write)) (ap (slice_get defs) same ∙ declared) fit) history fits
 
 -- the rows of a read of a declared table
 pub rows_declared : (defs : List TableDef) (def : TableDef) (read : Read) (tables : Tables) → slice_get defs (read_table read) ≡ Some def → rows_in defs read tables ≡ rows def read tables

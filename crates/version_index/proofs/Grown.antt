@@ -1,33 +1,28 @@
 -- What one more entry does to a log and to the maps of the last writes.
-use Rattle.std.proofs.Common.{◌≡◌, ◌∙◌, ℕ, suc, zero, ◌<◌, List, [], ◌∷◌, ◌++◌, Bool, true, false, ◌&&◌, ◌==◌, cond, Option, Some, None, refl, ap, sym, subst, arith, All, slice_get, slice_set, take, drop, length, ◌⊎◌, inl, inr, IsTrue, append_assoc, nat_lt}
+use Rattle.std.proofs.Common.{◌≡◌, ◌∙◌, ℕ, suc, zero, ◌<◌, ◌≤◌, ◌+◌, List, [], ◌∷◌, ◌++◌, Bool, true, false, ◌&&◌, ◌==◌, cond, Option, Some, None, refl, ap, sym, subst, arith, All, slice_get, slice_set, take, drop, length, ◌⊎◌, inl, inr, IsTrue, append_assoc, nat_lt}
 use Rattle.std.specs.Option.{IsSomeAnd}
 use Rattle.std.specs.Ordering.{eq_by_cmp, is_lt, is_gt, nat_cmp, ordering_then}
 use Rattle.std.specs.declared.cmp.Ordering.{Ordering}
 use Rattle.std.specs.declared.cmp.Ordering.TheVariants.{Less, Equal, Greater}
-use Rattle.std.proofs.lemmas.List.{map-append, length-map, take_all, append-nil, take-append-le}
+use Rattle.std.proofs.lemmas.List.{map-append, length-map, take_all, append-nil, take-append-le, length_push}
 use Rattle.std.proofs.lemmas.List.Elements.{All-nil, All-cons, All-head, All-tail, All-weaker, All-append, All-map}
 use Rattle.rel_base.specs.declared.value.Value.{Value}
 use Rattle.rel_base.specs.Tables.{Stamped, ref_cmp, write_ref}
 use Rattle.version_index.specs.declared.entry.Entry.{Entry}
 use Rattle.version_index.specs.Chain.{IsLast, is_on}
-use Rattle.version_index.specs.Heads.{head_of, holds_key}
+use Rattle.version_index.specs.Heads.{head_of}
 use Rattle.std.proofs.lemmas.Bool.Decides.{Decides-eqb}
 use Rattle.rel_base.specs.Value.{key_cmp}
 use Rattle.rel_base.proofs.Bits.{no_both}
-use Rattle.version_index.proofs.LeastHits.{same_parts}
-use Rattle.version_index.specs.Log.{stamped_of, history_of, Linked, Headed, head_at, head_in, holds_at, held_in, entry_of, InOrder, Precedes}
+use Rattle.row_sets.proofs.Histories.{same_parts, unwrapped}
+use Rattle.version_index.specs.Log.{stamped_of, history_of, Linked, Headed, head_at, head_in, entry_of, InOrder, Precedes}
 use Rattle.rel_base.specs.declared.access.Place.{Place}
 use Rattle.rel_base.specs.declared.access.Write.{Write}
 use Rattle.row_sets.specs.Versions.{stamped_at, IsBefore, are_rising, follows}
 use Rattle.std.specs.Cmp.{tied_itself, nat_cmp_total}
-use Rattle.rel_base.specs.declared.schema.TableDef.{TableDef}
-use Rattle.rel_base.specs.Access.{WriteFits}
-use Rattle.rel_base.specs.Among.{WriteFitsIn}
-use Rattle.rel_base.specs.Tables.{HistoryFits, ref_cmp-total}
+use Rattle.rel_base.specs.Tables.{ref_cmp-total}
 use Rattle.rel_base.proofs.Bits.{first_true, second_true}
-use Rattle.version_index.proofs.Lasts.{below_of_get}
 use Rattle.std.proofs.lemmas.Bool.Decides.{nat_tests}
-use Rattle.version_index.proofs.Logged.{unwrapped}
 
 module _ {X : Type 0} where
   -- the last item of a list with one more at the end
@@ -136,52 +131,38 @@ module _ (heads : List (List (List Value × Option ℕ))) (table : ℕ) (old new
       ] refl
       ∙ ap (λ b. cond b (Some number) (head_at heads t k)) (sym (same_parts t table (key_cmp k key)))
 
-  -- what is held is so still
-  pub set_held : ((q : List Value) → IsTrue (holds_key old q) → IsTrue (holds_key new q)) → (t : ℕ) (k : List Value) → IsTrue (holds_at heads t k) → IsTrue (holds_at (slice_set heads table new) t k)
-  set_held keeps t k held =
-      elim (t == table) as (λ b. (t == table) ≡ b → IsTrue (holds_at (slice_set heads table new) t k)) [
-        | true ↦ λ one.
-            let same : t ≡ table = (Decides-eqb t table).0 one in
-            subst (λ n. IsTrue (holds_at (slice_set heads table new) n k)) (sym same)
-            (subst (λ found. IsTrue (held_in found k)) (sym (set_same heads table new below)) (keeps k (subst (λ found. IsTrue (held_in found k)) there (subst (λ n. IsTrue (holds_at heads n k)) same held))))
-        | false ↦ λ differ. subst (λ found. IsTrue (held_in found k)) (sym (set_other heads table t new (λ same. no_both (t == table) ((Decides-eqb t table).1 same) differ))) held
-      ] refl
-
 -- ---- a log that takes in the writes of a transaction one by one
 
--- the log and the maps while some writes are left to take in: the history with those that are left is the whole, and their keys are held
-pub record Growing (entries : List Entry) (heads : List (List (List Value × Option ℕ))) (left : List Write) (place : Place) (whole : List Stamped) (tables : ℕ) : Type 0 where
+-- the log while some writes are left to take in: the history with those that are left is the whole, and the maps name the last writes
+-- among those that are noted
+pub record Growing (entries : List Entry) (heads : List (List (List Value × Option ℕ))) (noted : ℕ) (left : List Write) (place : Place) (whole : List Stamped) : Type 0 where
   pub history : history_of entries ++ stamped_at place left ≡ whole
   pub linked : Linked entries
-  pub headed : Headed heads (history_of entries)
-  pub one_each : length heads ≡ tables
+  pub within : noted ≤ length entries
+  pub headed : Headed heads (take noted (history_of entries))
   pub numbers : All (λ write. write.table < length heads) left
-  pub held : All (λ write. IsTrue (holds_at heads write.table write.key)) left
 
-pub growing_next : (entries next : List Entry) (heads new : List (List (List Value × Option ℕ))) (write : Write) (left : List Write) (place : Place) (whole : List Stamped) (tables : ℕ)
-    → Growing entries heads (write ∷ left) place whole tables
-    → next ≡ entries ++ entry_of place write (head_at heads write.table write.key) ∷ []
-    → length new ≡ length heads
-    → ((t : ℕ) (k : List Value) → head_at new t k ≡ cond (eq_by_cmp ref_cmp (t, k) (write.table, write.key)) (Some (length entries)) (head_at heads t k))
-    → ((t : ℕ) (k : List Value) → IsTrue (holds_at heads t k) → IsTrue (holds_at new t k))
-    → Growing next new left place whole tables
-growing_next entries next heads new write left place whole tables growing is same sets kept =
-    let entry : Entry = entry_of place write (head_at heads write.table write.key) in
+pub growing_next : (entries next : List Entry) (heads : List (List (List Value × Option ℕ))) (noted : ℕ) (write : Write) (left : List Write) (place : Place) (whole : List Stamped) (earlier : Option ℕ)
+    → Growing entries heads noted (write ∷ left) place whole → next ≡ entries ++ entry_of place write earlier ∷ [] → IsLast (is_on (write.table, write.key)) (history_of entries) earlier
+    → Growing next heads noted left place whole
+growing_next entries next heads noted write left place whole earlier growing is last =
+    let entry : Entry = entry_of place write earlier in
+    let within = growing.within in
+    let same = length-map entries stamped_of in
+    let more : length next ≡ length entries + 1 = ap length is ∙ length_push entries entry in
     let after : history_of next ≡ history_of entries ++ stamped_of entry ∷ [] = ap history_of is ∙ history_next entries entry in
+    let front : take noted (history_of next) ≡ take noted (history_of entries) = ap (take noted) after ∙ take-append-le noted (history_of entries) (stamped_of entry ∷ []) (omega (arith, within, same)) in
     record {
       history = ap (λ xs. xs ++ stamped_at place left) after ∙ append_assoc (history_of entries) (stamped_of entry ∷ []) (stamped_at place left) ∙ growing.history;
-      linked = subst Linked (sym is) (linked_next entries entry growing.linked (growing.headed write.table write.key));
-      headed = subst (Headed new) (sym after) (headed_next heads new (history_of entries) (stamped_of entry) growing.headed
-          (λ t k. sets t k ∙ ap (λ n. cond (eq_by_cmp ref_cmp (t, k) (write.table, write.key)) (Some n) (head_at heads t k)) (sym (length-map entries stamped_of))));
-      one_each = same ∙ growing.one_each;
-      numbers = subst (λ n. All (λ (w : Write). w.table < n) left) (sym same) (All-tail (λ (w : Write). w.table < length heads) write left growing.numbers);
-      held = All-weaker (λ (w : Write). IsTrue (holds_at heads w.table w.key)) (λ w. IsTrue (holds_at new w.table w.key)) (λ w held. kept w.table w.key held) left
-          (All-tail (λ (w : Write). IsTrue (holds_at heads w.table w.key)) write left growing.held);
+      linked = subst Linked (sym is) (linked_next entries entry growing.linked last);
+      within = omega (arith, within, more);
+      headed = subst (Headed heads) (sym front) growing.headed;
+      numbers = All-tail (λ (w : Write). w.table < length heads) write left growing.numbers;
     }
 
 -- where none is left, the history is the whole
-pub growing_end : (entries : List Entry) (heads : List (List (List Value × Option ℕ))) (place : Place) (whole : List Stamped) (tables : ℕ) → Growing entries heads [] place whole tables → history_of entries ≡ whole
-growing_end entries heads place whole tables growing = sym (append-nil (history_of entries)) ∙ growing.history
+pub growing_end : (entries : List Entry) (heads : List (List (List Value × Option ℕ))) (noted : ℕ) (place : Place) (whole : List Stamped) → Growing entries heads noted [] place whole → history_of entries ≡ whole
+growing_end entries heads noted place whole growing = sym (append-nil (history_of entries)) ∙ growing.history
 
 -- ---- the order of a history with the writes of a later place
 
@@ -193,6 +174,18 @@ less_from : (o : Ordering) → is_lt o ≡ true → o ≡ Less
 less_from Less less = refl
 less_from Equal less = absurd (no_both false less refl)
 less_from Greater less = absurd (no_both false less refl)
+
+-- a table and key that is another's or below it, is below those that rise behind that one
+pub less_all : (a : Write) (low : ℕ × List Value) (writes : List Write) → (low ≡ write_ref a) ⊎ (ref_cmp (write_ref a) low ≡ Less) → IsTrue (follows low writes) → All (λ b. ref_cmp (write_ref a) (write_ref b) ≡ Less) writes
+less_all a low [] from rises = All-nil (λ b. ref_cmp (write_ref a) (write_ref b) ≡ Less)
+less_all a low (b ∷ rest) from rises =
+    let next : ref_cmp low (write_ref b) ≡ Less = less_from (ref_cmp low (write_ref b)) (first_true (is_lt (ref_cmp low (write_ref b))) (follows (write_ref b) rest) rises) in
+    let less : ref_cmp (write_ref a) (write_ref b) ≡ Less = chain low (write_ref b) from next in
+    All-cons (λ b. ref_cmp (write_ref a) (write_ref b) ≡ Less) b rest less (less_all a (write_ref b) rest (inr less) (second_true (is_lt (ref_cmp low (write_ref b))) (follows (write_ref b) rest) rises))
+  where
+    chain : (low high : ℕ × List Value) → (low ≡ write_ref a) ⊎ (ref_cmp (write_ref a) low ≡ Less) → ref_cmp low high ≡ Less → ref_cmp (write_ref a) high ≡ Less
+    chain low high (inl same) less = ap (λ r. ref_cmp r high) (sym same) ∙ less
+    chain low high (inr below) less = ref_cmp-total.trans (write_ref a) low high below less
 
 module _ (place : Place) where
   -- a write that stands before the place precedes one at it
@@ -224,28 +217,21 @@ module _ (place : Place) where
   )
 
   -- a write precedes all that follow it in order
-  follow_all : (a : Write) (low : ℕ × List Value) (writes : List Write) → (low ≡ write_ref a) ⊎ (ref_cmp (write_ref a) low ≡ Less) → IsTrue (follows low writes)
-      → All (Precedes (place.block, record { pos = place.pos; write = a })) (stamped_at place writes)
-  follow_all a low [] from rises = All-nil (Precedes (place.block, record { pos = place.pos; write = a }))
-  follow_all a low (b ∷ rest) from rises =
-      let next : ref_cmp low (write_ref b) ≡ Less = less_from (ref_cmp low (write_ref b)) (first_true (is_lt (ref_cmp low (write_ref b))) (follows (write_ref b) rest) rises) in
-      let less : ref_cmp (write_ref a) (write_ref b) ≡ Less = chain low (write_ref b) from next in
-      All-cons (Precedes (place.block, record { pos = place.pos; write = a })) (place.block, record { pos = place.pos; write = b }) (stamped_at place rest) (precedes_key a b less)
-      (follow_all a (write_ref b) rest (inr less) (second_true (is_lt (ref_cmp low (write_ref b))) (follows (write_ref b) rest) rises))
-    where
-      chain : (low high : ℕ × List Value) → (low ≡ write_ref a) ⊎ (ref_cmp (write_ref a) low ≡ Less) → ref_cmp low high ≡ Less → ref_cmp (write_ref a) high ≡ Less
-      chain low high (inl same) less = ap (λ r. ref_cmp r high) (sym same) ∙ less
-      chain low high (inr below) less = ref_cmp-total.trans (write_ref a) low high below less
+  follow_all : (a : Write) (writes : List Write) → IsTrue (follows (write_ref a) writes) → All (Precedes (place.block, record { pos = place.pos; write = a })) (stamped_at place writes)
+  follow_all a writes rises =
+      let first : Stamped = (place.block, record { pos = place.pos; write = a }) in
+      All-map (Precedes first) (λ write. (place.block, record { pos = place.pos; write = write })) writes
+      (All-weaker (λ b. ref_cmp (write_ref a) (write_ref b) ≡ Less) (λ b. Precedes first (place.block, record { pos = place.pos; write = b })) (precedes_key a) writes (less_all a (write_ref a) writes (inl refl) rises))
 
   order_of_follows : (low : ℕ × List Value) (writes : List Write) → IsTrue (follows low writes) → InOrder (stamped_at place writes)
   order_of_follows low [] rises = tt
   order_of_follows low (write ∷ rest) rises =
       let behind = second_true (is_lt (ref_cmp low (write_ref write))) (follows (write_ref write) rest) rises in
-      (follow_all write (write_ref write) rest (inl refl) behind, order_of_follows (write_ref write) rest behind)
+      (follow_all write rest behind, order_of_follows (write_ref write) rest behind)
 
   order_at_place : (writes : List Write) → IsTrue (are_rising writes) → InOrder (stamped_at place writes)
   order_at_place [] rises = tt
-  order_at_place (write ∷ rest) rises = (follow_all write (write_ref write) rest (inl refl) rises, order_of_follows (write_ref write) rest rises)
+  order_at_place (write ∷ rest) rises = (follow_all write rest rises, order_of_follows (write_ref write) rest rises)
 
   -- a history in order, and the writes of a later place behind it
   pub order_next : (history : List Stamped) (writes : List Write) → InOrder history → All (IsBefore place) history → IsTrue (are_rising writes) → InOrder (history ++ stamped_at place writes)
@@ -254,15 +240,3 @@ module _ (place : Place) where
     All-append (Precedes stamped) rest (stamped_at place writes) ordered.0 (precede_all stamped writes (All-head (IsBefore place) stamped rest before)),
     order_next rest writes ordered.1 (All-tail (IsBefore place) stamped rest before) rises,
   )
-
--- a history that fits, and writes that fit behind it
-pub fits_next : (defs : List TableDef) (place : Place) (history : List Stamped) (writes : List Write) → HistoryFits defs history → All (WriteFitsIn defs) writes → HistoryFits defs (history ++ stamped_at place writes)
-fits_next defs place history writes fits more =
-    let Fit : Stamped → Type 0 = λ stamped. WriteFitsIn defs stamped.1.write in
-    All-append Fit history (stamped_at place writes) fits (All-map Fit (λ (write : Write). (place.block, record { pos = place.pos; write = write })) writes more)
-
--- writes that fit are of tables that have a map
-pub numbers_below : (defs : List TableDef) (heads : List (List (List Value × Option ℕ))) (writes : List Write) → length heads ≡ length defs → All (WriteFitsIn defs) writes → All (λ write. write.table < length heads) writes
-numbers_below defs heads writes one_each fits =
-    All-weaker (WriteFitsIn defs) (λ write. write.table < length heads)
-    (λ write fit. let below = below_of_get (λ def. WriteFits def write) write.table defs fit in omega (arith, below, one_each)) writes fits

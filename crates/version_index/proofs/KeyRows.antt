@@ -4,7 +4,7 @@ use Rattle.std.specs.List.{filter, AllByRecursion}
 use Rattle.std.specs.List.Sorted.{IsStrictlySortedBy}
 use Rattle.std.specs.declared.cmp.Ordering.{Ordering}
 use Rattle.std.specs.declared.cmp.Ordering.TheVariants.{Less, Equal}
-use Rattle.std.specs.Ordering.{is_eq, is_lt, eq_by_cmp, ordering_then}
+use Rattle.std.specs.Ordering.{is_lt, eq_by_cmp, ordering_then}
 use Rattle.std.specs.Cmp.{tied_itself, nat_cmp_total}
 use Rattle.std.specs.FinMap.{entries, entries_sorted, get, get-entries}
 use Rattle.std.specs.FinMap.Entries.{find, is_sorted, below_all, same_entries}
@@ -17,44 +17,11 @@ use Rattle.rel_base.specs.declared.value.Value.{Value}
 use Rattle.rel_base.specs.Access.{read_table, covers_row}
 use Rattle.rel_base.specs.Tables.{Tables, ref_cmp, ref_cmp-total, ref_cmp-exact, is_read, rows}
 use Rattle.rel_base.specs.Value.{key_cmp}
-use Rattle.rel_base.proofs.Bits.{both, first, second, is_Less, is_Equal}
+use Rattle.rel_base.proofs.Bits.{both, is_Equal}
 use Rattle.rel_base.proofs.Commutes.{is_sorted-filter}
 use Rattle.version_index.specs.Rows.{covered_row, rows_of_keys}
-use Rattle.version_index.proofs.Logged.{unwrapped}
-
--- ---- entries in order, and what a filter leaves to find
-
-module _ {K X : Type 0} (R : K → K → Ordering) (exact : (a b : K) → R a b ≡ Equal → a ≡ b) where
-  -- a key that is below those of entries is not found
-  not_below : (q : K) (es : List (K × X)) → T (below_all R q es) → find R q es ≡ None
-  not_below q [] below = refl
-  not_below q (e ∷ es) below = ap (λ o. cond (is_eq o) (Some e.1) (find R q es)) (is_Less (R q e.0) (first _ _ below)) ∙ not_below q es (second _ _ below)
-
-  -- a value that passes a test with its key
-  abbrev pub kept_if : (K × X → Bool) → K → Option X → Option X
-  kept_if p q None = None
-  kept_if p q (Some x) = cond (p (q, x)) (Some x) None
-
-  -- what is found among the entries that pass
-  pub find-filter : (p : K × X → Bool) (q : K) (es : List (K × X)) → T (is_sorted R es) → find R q (filter p es) ≡ kept_if p q (find R q es)
-  find-filter p q [] sorted = refl
-  find-filter p q (e ∷ es) sorted =
-      elim (eq_by_cmp R q e.0) as (λ t. eq_by_cmp R q e.0 ≡ t → find R q (cond (p e) (e ∷ filter p es) (filter p es)) ≡ kept_if p q (cond t (Some e.1) (find R q es))) [
-        | true ↦ λ tied.
-            let same : q ≡ e.0 = exact q e.0 (is_Equal (R q e.0) tied) in
-            let below : T (below_all R q es) = subst (λ k. T (below_all R k es)) (sym same) (first _ _ sorted) in
-            let gone : find R q (filter p es) ≡ None = find-filter p q es (second _ _ sorted) ∙ ap (kept_if p q) (not_below q es below) in
-            elim (p e) as (λ b. p e ≡ b → find R q (cond b (e ∷ filter p es) (filter p es)) ≡ cond (p (q, e.1)) (Some e.1) None) [
-              | true ↦ λ passes. ap (λ t. cond t (Some e.1) (find R q (filter p es))) tied ∙ sym (ap (λ b. cond b (Some e.1) None) (ap (λ k. p (k, e.1)) same ∙ passes))
-              | false ↦ λ fails. gone ∙ sym (ap (λ b. cond b (Some e.1) None) (ap (λ k. p (k, e.1)) same ∙ fails))
-            ] refl
-        | false ↦ λ apart.
-            let rest = find-filter p q es (second _ _ sorted) in
-            elim (p e) as (λ b. find R q (cond b (e ∷ filter p es) (filter p es)) ≡ kept_if p q (find R q es)) [
-              | true ↦ ap (λ t. cond t (Some e.1) (find R q (filter p es))) apart ∙ rest
-              | false ↦ rest
-            ]
-      ] refl
+use Rattle.row_sets.proofs.Entries.{find-filter, kept_if}
+use Rattle.row_sets.proofs.Histories.{unwrapped}
 
 -- what holds of each entry, holds of one that is found
 pub All-found : {K X : Type 0} (R : K → K → Ordering) (exact : (a b : K) → R a b ≡ Equal → a ≡ b) (P : K × X → Type 0) (q : K) (es : List (K × X)) (x : X) → All P es → find R q es ≡ Some x → P (q, x)

@@ -1,12 +1,11 @@
 -- The first late write on a key or of a table is the least one that a read hits.
-use Rattle.std.proofs.Common.{◌≡◌, ◌∙◌, ℕ, suc, zero, List, [], ◌∷◌, Bool, true, false, ◌&&◌, ◌||◌, ◌==◌, cond, Option, Some, None, refl, ap, sym, subst, All, is_some, ◌⊎◌, inl, inr, arith, slice_get, take, nat_le, nat_lt}
+use Rattle.std.proofs.Common.{◌≡◌, ◌∙◌, ℕ, suc, zero, List, [], ◌∷◌, Bool, true, false, ◌&&◌, ◌||◌, ◌==◌, cond, Option, Some, None, refl, ap, sym, subst, All, is_some, ◌⊎◌, inl, inr, slice_get, take, nat_le, nat_lt}
 use Rattle.std.specs.List.{filter}
 use Rattle.std.specs.Option.{IsSomeAnd, IfSome}
 use Rattle.std.specs.declared.cmp.Ordering.{Ordering}
-use Rattle.std.specs.declared.cmp.Ordering.TheVariants.{Less, Equal, Greater}
-use Rattle.std.specs.Ordering.{nat_cmp, is_gt, is_eq, eq_by_cmp, ordering_then}
+use Rattle.std.specs.Ordering.{is_gt, eq_by_cmp}
 use Rattle.std.specs.Cmp.{eq_by_cmp_equiv}
-use Rattle.std.proofs.lemmas.Bool.Decides.{Decides-eqb, nat_tests}
+use Rattle.std.proofs.lemmas.Bool.Decides.{Decides-eqb}
 use Rattle.std.proofs.lemmas.List.Elements.{All-head, All-tail, All-weaker, All-filter, All-take, filter_passes}
 use Rattle.rel_base.specs.declared.access.Read.{Read}
 use Rattle.rel_base.specs.declared.access.Read.TheVariants.{Point}
@@ -18,6 +17,7 @@ use Rattle.rel_base.specs.Late.{stamp_cmp, lesser, least, least_hit, hits_in, wh
 use Rattle.rel_base.specs.Tables.{Stamped, HistoryFits, ref_cmp, writes_between, write_ref}
 use Rattle.rel_base.specs.Value.{key_cmp, key_eq, key_cmp-total}
 use Rattle.rel_base.proofs.Bits.{no_both, first_true}
+use Rattle.row_sets.proofs.Histories.{same_parts}
 use Rattle.version_index.specs.Chain.{IsFirst, is_late}
 use Rattle.version_index.specs.Log.{InOrder, Precedes}
 use Rattle.version_index.specs.Rows.{write_of}
@@ -116,14 +116,6 @@ hits_by_key : (def : TableDef) (table : ℕ) (key : List Value) (write : Write) 
 hits_by_key def table key write fits =
     (λ i. covers_fit def table key write.key write.before fits.before i || covers_fit def table key write.key write.after fits.after i)
     ∙ one_there (is_some write.before) (is_some write.after) (key_eq write.key key) fits.some ∙ (eq_by_cmp_equiv key_cmp-total).symm write.key key
-
--- tables and keys are one where both are
-pub same_parts : (a b : ℕ) (k : Ordering) → is_eq (ordering_then (nat_cmp a b) k) ≡ ((a == b) && is_eq k)
-same_parts a b k =
-    elim (a == b) as (λ t. (a == b) ≡ t → is_eq (ordering_then (cond (nat_lt a b) Less (cond t Equal Greater)) k) ≡ (t && is_eq k)) [
-      | true ↦ λ same. let apart : nat_lt a b ≡ false = grind (arith, nat_tests, (Decides-eqb a b).0 same) in ap (λ c. is_eq (ordering_then (cond c Less Equal) k)) apart
-      | false ↦ λ other. elim (nat_lt a b) as (λ c. is_eq (ordering_then (cond c Less Greater) k) ≡ false) [ true ↦ refl | false ↦ refl ]
-    ] refl
 
 pub hits_point : (defs : List TableDef) (def : TableDef) (table : ℕ) (key : List Value) (write : Write) → slice_get defs table ≡ Some def → IsSomeAnd (slice_get defs write.table) (λ d. WriteFits d write)
     → hits_in defs (Point table key) write ≡ eq_by_cmp ref_cmp (table, key) (write_ref write)

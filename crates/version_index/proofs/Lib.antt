@@ -8,3 +8,6 @@ pub mod LeastHits
 pub mod Grown
 pub mod Answered
 pub mod Keeping
+pub mod Tails
+pub mod Chains
+pub mod Rising

@@ -1,6 +1,6 @@
 -- What an entry of the log says of the history.
 use Rattle.std.proofs.Common.{◌≡◌, ◌∙◌, ℕ, suc, zero, ◌<◌, ◌≤◌, List, [], ◌∷◌, Bool, true, false, ◌&&◌, Option, Some, None, refl, ap, sym, subst, arith, slice_get, take, length, get_or, nat_le}
-use Rattle.std.specs.Option.{IsSomeAnd, unwrap_or}
+use Rattle.std.specs.Option.{IsSomeAnd}
 use Rattle.std.specs.FinMap.{get}
 use Rattle.rel_base.specs.Tables.{tables_at}
 use Rattle.version_index.specs.Rows.{seen_of}
@@ -26,6 +26,7 @@ use Rattle.rel_base.specs.declared.access.Read.{Read}
 use Rattle.rel_base.specs.declared.schema.TableDef.{TableDef}
 use Rattle.rel_base.specs.Access.{WriteFits, hits_write}
 use Rattle.std.proofs.lemmas.Bool.Decides.{nat_tests}
+use Rattle.row_sets.proofs.Histories.{unwrapped}
 use Rattle.version_index.proofs.Lasts.{Walk, walk_found, walk_back, get_of_part, below_of_get, fewer_left, count}
 
 -- the committed write of a number is that of the entry
@@ -117,10 +118,6 @@ late_by_upto : (ref : ℕ × List Value) (after upto : ℕ) (stamped : Stamped) 
 late_by_upto ref after upto stamped on high =
     let passes : nat_lt after stamped.0 ≡ true = grind (arith, nat_tests) in
     ap (λ b. b && (nat_lt after stamped.0 && nat_le stamped.0 upto)) on ∙ ap (λ b. b && nat_le stamped.0 upto) passes
-
--- two values that are there are one
-pub unwrapped : {X : Type 0} (x y : X) → Some x ≡ Some y → x ≡ y
-unwrapped x y same = ap (λ found. unwrap_or found x) same
 
 -- an item that was got is one of the list
 pub contains_got : {X : Type 0} (xs : List X) (number : ℕ) (x : X) → slice_get xs number ≡ Some x → Contains xs x

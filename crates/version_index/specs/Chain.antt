@@ -9,6 +9,12 @@ abbrev pub IsLast : {X : Type 0} → (X → Bool) → List X → Option ℕ → 
 IsLast test xs None = All (λ x. test x ≡ false) xs
 IsLast test xs (Some number) = IsSomeAnd (slice_get xs number) (λ x. test x ≡ true) × All (λ x. test x ≡ false) (drop (suc number) xs)
 
+-- the number of the last item that passes a test, where it is looked for from a number on: it is the last one of all, or none
+-- from that number on passes
+abbrev pub IsLastFrom : {X : Type 0} → (X → Bool) → ℕ → List X → Option ℕ → Type 0
+IsLastFrom test start xs None = All (λ x. test x ≡ false) (drop start xs)
+IsLastFrom test start xs (Some number) = IsLast test xs (Some number)
+
 -- the number of the first item that passes a test: it passes, and none before it does; where there is none, no item passes
 abbrev pub IsFirst : {X : Type 0} → (X → Bool) → List X → Option ℕ → Type 0
 IsFirst test xs None = All (λ x. test x ≡ false) xs

@@ -1,5 +1,5 @@
 -- The rows that a read gets, key by key.
-use Rattle.std.specs.Prelude.{ℕ, List, [], ◌∷◌, Option, Some, None, cond, slice_get}
+use Rattle.std.specs.Prelude.{◌≡◌, ℕ, List, [], ◌∷◌, Option, Some, None, cond, drop, find, slice_get}
 use Rattle.std.specs.List.{flat_map}
 use Rattle.std.specs.FinMap.{get}
 use Rattle.rel_base.specs.declared.access.Read.{Read}
@@ -9,6 +9,8 @@ use Rattle.rel_base.specs.declared.value.Value.{Value}
 use Rattle.rel_base.specs.Access.{covers_row}
 use Rattle.rel_base.specs.declared.access.Place.{Place}
 use Rattle.rel_base.specs.Tables.{Tables, Stamped, seen_at}
+use Rattle.version_index.specs.Chain.{is_on}
+use Rattle.version_index.specs.Heads.{head_of}
 
 -- the row that a committed write leaves, with its place
 abbrev pub seen_of : Stamped → Option Seen
@@ -31,3 +33,7 @@ rows_of_keys def read tables table keys = flat_map (λ key. covered_row def read
 abbrev pub write_of : List Stamped → Option ℕ → Option Stamped
 write_of history None = None
 write_of history (Some number) = slice_get history number
+
+-- a map names the first write on each key of a table among the writes from a number on
+abbrev pub AreFirsts : ℕ → ℕ → List Stamped → List (List Value × Option ℕ) → Type 0
+AreFirsts table start history heads = (key : List Value) → write_of history (head_of heads key) ≡ find (is_on (table, key)) (drop start history)

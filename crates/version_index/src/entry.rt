@@ -1,8 +1,11 @@
 //! The entries of the log.
 
 ghost use Rattle.std.specs.Prelude.{◌≡◌, ◌<◌, length, slice_get, Some};
+ghost use Rattle.row_sets.specs.Lifespans.{place_of};
+ghost use Rattle.version_index.specs.Chain.{is_on};
+ghost use Rattle.version_index.specs.Log.{stamped_of};
 
-use rel_base::Placed;
+use rel_base::{Key, Place, Placed};
 
 /// A committed write: the number of its block, the write with its position, and the number in the log, from 0, of the write
 /// before it on its key, where there is one.
@@ -19,4 +22,22 @@ pub fn entry_at(entries: &[Entry], number: usize) -> &Entry
     ensures { slice_get entries.now number ≡ Some result.now }
 {
     &entries[number]
+}
+
+/// The place of the write of an entry.
+pub fn place_at(entry: &Entry) -> Place
+    ensures { result ≡ place_of (stamped_of entry.now) }
+{
+    Place {
+        block: entry.block,
+        pos: entry.placed.pos,
+    }
+}
+
+/// Whether the write of an entry is on a key of a table.
+pub fn is_on_key(entry: &Entry, table: u32, key: &Key) -> bool
+    ensures { result ≡ is_on (table, key.now) (stamped_of entry.now) }
+{
+    let by_key = key.cmp(&entry.placed.write.key);
+    table.cmp(&entry.placed.write.table).then(by_key).is_eq()
 }

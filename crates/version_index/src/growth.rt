@@ -1,15 +1,18 @@
-//! How the log grows: keys are held first, so that the writes themselves need no memory.
+//! How the log grows, and how its tail is noted in the maps of the last writes.
 
-ghost use Rattle.std.specs.Prelude.{◌≡◌, ◌<◌, ◌≤◌, ◌+◌, ◌++◌, ◌∷◌, [], ℕ, All, List, OnOk, Some, cond, length, IsTrue};
+ghost use Rattle.std.specs.Prelude.{◌≡◌, ◌<◌, ◌≤◌, ◌+◌, ◌++◌, ◌∷◌, [], ℕ, All, List, OnErr, OnOk, Some, cond, length, take, IsTrue};
 ghost use Rattle.std.specs.Vec.{vec_len, vec_capacity};
 ghost use Rattle.std.specs.Ordering.{eq_by_cmp};
-ghost use Rattle.rel_base.specs.Tables.{ref_cmp};
+ghost use Rattle.rel_base.specs.Tables.{ref_cmp, write_ref};
 ghost use Rattle.rel_base.specs.declared.value.Value.{Value as Cell};
-ghost use Rattle.row_sets.specs.Versions.{stamped_at};
-ghost use Rattle.version_index.specs.Log.{Headed, Linked, head_at, history_of, holds_at, entry_of};
+ghost use Rattle.row_sets.specs.Versions.{are_rising, stamped_at};
+ghost use Rattle.version_index.specs.Chain.{IsLast, is_on};
+ghost use Rattle.version_index.specs.Kept.{room_of};
+ghost use Rattle.version_index.specs.Log.{Headed, Linked, head_at, history_of, holds_at, entry_of, stamped_of};
 
-use crate::entry::Entry;
+use crate::entry::{Entry, entry_at};
 use crate::heads::Heads;
+use crate::tail::last_on;
 use rel_base::{Key, List, NoMemory, Place, Placed, Write};
 use std::alloc::Global;
 
@@ -18,23 +21,9 @@ fn hold_one(alloc: Global, heads: &mut Vec<Heads>, table: u32, key: &Key) -> Res
     requires { table < length heads.old.items }
     ensures length { length heads.new.items ≡ length heads.old.items }
     ensures same { (t : ℕ) (k : List Cell) → head_at heads.new.items t k ≡ head_at heads.old.items t k }
-    ensures kept { (t : ℕ) (k : List Cell) → IsTrue (holds_at heads.old.items t k) → IsTrue (holds_at heads.new.items t k) }
     ensures held { OnOk result (IsTrue (holds_at heads.new.items table key.now)) }
 {
     heads[table as usize].hold(alloc, key)
-}
-
-/// Holds the keys of writes in the maps of their tables. The last writes on all keys stay as they were.
-pub fn hold_all(alloc: Global, heads: &mut Vec<Heads>, writes: &[Write]) -> Result<(), NoMemory>
-    requires { All (λ write. write.table < length heads.old.items) writes.now }
-    ensures length { length heads.new.items ≡ length heads.old.items }
-    ensures same { (t : ℕ) (k : List Cell) → head_at heads.new.items t k ≡ head_at heads.old.items t k }
-    ensures held { OnOk result (All (λ write. IsTrue (holds_at heads.new.items write.table write.key)) writes.now) }
-{
-    for write in writes {
-        hold_one(alloc, heads, write.table, &write.key)?;
-    }
-    Ok(())
 }
 
 /// Notes the last write on a key that is held.
@@ -43,70 +32,111 @@ fn set_one(heads: &mut Vec<Heads>, table: u32, key: &Key, number: usize)
     requires held { IsTrue (holds_at heads.old.items table key.now) }
     ensures length { length heads.new.items ≡ length heads.old.items }
     ensures set { (t : ℕ) (k : List Cell) → head_at heads.new.items t k ≡ cond (eq_by_cmp ref_cmp (t, k) (table, key.now)) (Some number) (head_at heads.old.items t k) }
-    ensures kept { (t : ℕ) (k : List Cell) → IsTrue (holds_at heads.old.items t k) → IsTrue (holds_at heads.new.items t k) }
 {
     heads[table as usize].set(key, number);
 }
 
-/// The number of the last write on a key.
-fn last_on(heads: &[Heads], table: u32, key: &Key) -> Option<usize>
-    requires { table < length heads.now }
-    ensures { result ≡ head_at heads.now table key.now }
-{
-    heads[table as usize].last(key)
-}
-
-/// Appends an entry to a log that has room for it.
-fn push_within(log: &mut Vec<Entry>, entry: Entry)
-    requires { vec_len log.old < vec_capacity log.old }
-    ensures log { log.new.items ≡ log.old.items ++ entry ∷ [] }
-    ensures len { vec_len log.new ≡ vec_len log.old + 1 }
-    ensures room { vec_capacity log.old ≤ vec_capacity log.new }
-{
-    let _done = log.push(entry);
-}
-
-/// Appends a write to a log that has room for it, and notes it as the last one on its key, which is held.
-fn push_one(log: &mut Vec<Entry>, heads: &mut Vec<Heads>, place: Place, write: Write)
-    requires room { vec_len log.old < vec_capacity log.old }
-    requires table { write.table < length heads.old.items }
-    requires held { IsTrue (holds_at heads.old.items write.table write.key) }
-    ensures log { log.new.items ≡ log.old.items ++ entry_of place write (head_at heads.old.items write.table write.key) ∷ [] }
-    ensures len { vec_len log.new ≡ vec_len log.old + 1 }
-    ensures room { vec_capacity log.old ≤ vec_capacity log.new }
+/// Notes the write of an entry as the last one on its key. Where memory is wanting, the last writes on all keys stay as they were.
+fn note_one(
+    alloc: Global,
+    heads: &mut Vec<Heads>,
+    entry: &Entry,
+    number: usize,
+) -> Result<(), NoMemory>
+    requires { entry.now.placed.write.table < length heads.old.items }
     ensures length { length heads.new.items ≡ length heads.old.items }
-    ensures set { (t : ℕ) (k : List Cell) → head_at heads.new.items t k ≡ cond (eq_by_cmp ref_cmp (t, k) (write.table, write.key)) (Some (length log.old.items)) (head_at heads.old.items t k) }
-    ensures kept { (t : ℕ) (k : List Cell) → IsTrue (holds_at heads.old.items t k) → IsTrue (holds_at heads.new.items t k) }
+    ensures noted { OnOk result ((t : ℕ) (k : List Cell) → head_at heads.new.items t k ≡ cond (is_on (t, k) (stamped_of entry.now)) (Some number) (head_at heads.old.items t k)) }
+    ensures same { OnErr result ((t : ℕ) (k : List Cell) → head_at heads.new.items t k ≡ head_at heads.old.items t k) }
 {
-    let earlier = last_on(heads, write.table, &write.key);
-    set_one(heads, write.table, &write.key, log.len());
+    let write = &entry.placed.write;
+    hold_one(alloc, heads, write.table, &write.key)?;
+    set_one(heads, write.table, &write.key, number);
+    Ok(())
+}
+
+/// Notes the writes of the tail in the maps, one after the other. Where memory is wanting, those before are noted already, and counted.
+pub fn note_tail(
+    alloc: Global,
+    heads: &mut Vec<Heads>,
+    entries: &[Entry],
+    noted: &mut usize,
+) -> Result<(), NoMemory>
+    requires within { noted.old ≤ length entries.now }
+    requires tables { All (λ entry. entry.placed.write.table < length heads.old.items) entries.now }
+    requires headed { Headed heads.old.items (take noted.old (history_of entries.now)) }
+    ensures within { noted.new ≤ length entries.now }
+    ensures headed { Headed heads.new.items (take noted.new (history_of entries.now)) }
+    ensures length { length heads.new.items ≡ length heads.old.items }
+    ensures whole { OnOk result (noted.new ≡ length entries.now) }
+{
+    while *noted < entries.len() {
+        note_one(alloc, heads, entry_at(entries, *noted), *noted)?;
+        *noted += 1;
+    }
+    Ok(())
+}
+
+/// Appends a write to a log that has room for it, with the number of the last write on its key.
+fn push_one(log: &mut Vec<Entry>, place: Place, write: Write, earlier: Option<usize>)
+    requires { vec_len log.old < vec_capacity log.old }
+    ensures log { log.new.items ≡ log.old.items ++ entry_of place write earlier ∷ [] }
+    ensures len { vec_len log.new ≡ vec_len log.old + 1 }
+    ensures room { vec_capacity log.new ≡ vec_capacity log.old }
+{
     let placed = Placed {
         pos: place.pos,
         write,
     };
-    push_within(
-        log,
-        Entry {
-            block: place.block,
-            placed,
-            earlier,
-        },
-    );
+    log.push_reserved(Entry {
+        block: place.block,
+        placed,
+        earlier,
+    });
 }
 
-/// Appends the writes of a transaction at its place to a log that has room for them. Their keys are held.
-pub fn push_all(log: &mut Vec<Entry>, heads: &mut Vec<Heads>, place: Place, writes: List<Write>)
-    requires room { vec_len log.old + length writes ≤ vec_capacity log.old }
-    requires tables { All (λ write. write.table < length heads.old.items) writes }
-    requires held { All (λ write. IsTrue (holds_at heads.old.items write.table write.key)) writes }
+/// The number of the last write on the key of a write among the first entries, as many as `count` says.
+fn last_among(
+    entries: &[Entry],
+    count: usize,
+    heads: &[Heads],
+    noted: usize,
+    write: &Write,
+) -> Option<usize>
+    requires noted { noted ≤ count }
+    requires within { count ≤ length entries.now }
+    requires table { write.now.table < length heads.now }
+    requires headed { Headed heads.now (take noted (history_of entries.now)) }
+    ensures { IsLast (is_on (write_ref write.now)) (take count (history_of entries.now)) result }
+{
+    last_on(&entries[..count], heads, noted, write.table, &write.key)
+}
+
+/// Appends the writes of a transaction at its place to a log that has room for them, each linked to the last one on its key. The
+/// maps name the last writes among the first entries of a number alone, and stay as they are.
+///
+/// The writes rise by table and key, so none is on the key of another, and the links are looked for among the entries from before.
+pub fn push_all(
+    log: &mut Vec<Entry>,
+    heads: &[Heads],
+    noted: usize,
+    place: Place,
+    writes: List<Write>,
+)
+    requires room { length writes ≤ room_of log.old }
+    requires rise { IsTrue (are_rising writes) }
+    requires tables { All (λ write. write.table < length heads.now) writes }
+    requires within { noted ≤ length log.old.items }
     requires linked { Linked log.old.items }
-    requires headed { Headed heads.old.items (history_of log.old.items) }
+    requires headed { Headed heads.now (take noted (history_of log.old.items)) }
     ensures history { history_of log.new.items ≡ history_of log.old.items ++ stamped_at place writes }
     ensures linked { Linked log.new.items }
-    ensures headed { Headed heads.new.items (history_of log.new.items) }
-    ensures length { length heads.new.items ≡ length heads.old.items }
+    ensures within { noted ≤ length log.new.items }
+    ensures headed { Headed heads.now (take noted (history_of log.new.items)) }
+    ensures room { room_of log.new + length writes ≡ room_of log.old }
 {
+    let start = log.len();
     for write in writes.into_vec() {
-        push_one(log, heads, place, write);
+        let earlier = last_among(log.as_slice(), start, heads, noted, &write);
+        push_one(log, place, write, earlier);
     }
 }

@@ -11,7 +11,7 @@ ghost use Rattle.rel_base.specs.Access.{ReadFits, read_table};
 ghost use Rattle.rel_base.specs.Tables.{tables_at};
 ghost use Rattle.version_index.specs.Chain.{IsLast, is_on};
 ghost use Rattle.version_index.specs.Heads.{head_of, holds_key};
-ghost use Rattle.version_index.specs.Log.{history_of, Linked, FitsTable};
+ghost use Rattle.version_index.specs.Log.{history_of, stamped_of, Linked, FitsTable};
 ghost use Rattle.version_index.specs.Rows.{rows_of_keys};
 
 use crate::entry::Entry;
@@ -87,6 +87,25 @@ impl Heads {
         if let Some(head) = self.last.get_mut(key) {
             *head = Some(number);
         }
+    }
+
+    /// Notes the write of an entry as the last one on its key, where it is on the table.
+    pub fn note(
+        &mut self,
+        alloc: Global,
+        table: u32,
+        entry: &Entry,
+        number: usize,
+    ) -> Result<(), NoMemory>
+        ensures { OnOk result ((q : List Cell) → head_of self.new q ≡ cond (is_on (table, q) (stamped_of entry.now)) (Some number) (head_of self.old q)) }
+    {
+        let write = &entry.placed.write;
+        if write.table != table {
+            return Ok(());
+        }
+        self.hold(alloc, &write.key)?;
+        self.set(&write.key, number);
+        Ok(())
     }
 
     /// The rows of the keys after the block of a height that a read covers, in the order of the keys.

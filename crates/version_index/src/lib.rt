@@ -1,5 +1,5 @@
 //! A store of committed versions with an index by key: the writes in one log, each linked to the one before it on its key,
-//! and for each table an ordered map from its keys to their last writes.
+//! and for each table an ordered map from its keys to their last writes but for those of the log's tail.
 #![tactic(auto)]
 
 pub mod chain;
@@ -10,8 +10,10 @@ pub mod hits;
 pub mod reading;
 pub mod rows;
 pub mod store;
+pub mod tail;
 #[cfg(test)]
 mod tests;
+pub mod versions;
 
 pub use entry::Entry;
 pub use heads::Heads;

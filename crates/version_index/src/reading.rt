@@ -10,15 +10,17 @@ ghost use Rattle.rel_base.specs.Tables.{HistoryFits, tables_at, writes_between};
 ghost use Rattle.rel_base.specs.declared.value.Value.{Value as Cell};
 ghost use Rattle.version_index.specs.Chain.{IsLast, is_on};
 ghost use Rattle.version_index.specs.Heads.{head_of};
-ghost use Rattle.version_index.specs.Log.{history_of, stamped_of, Linked, InOrder, FitsTable};
+ghost use Rattle.version_index.specs.Kept.{WellKept};
+ghost use Rattle.version_index.specs.Log.{history_of, stamped_of, Linked, FitsTable};
 ghost use Rattle.version_index.specs.Rows.{rows_of_keys, write_of};
 
 use crate::chain::first_late;
-use crate::entry::{Entry, entry_at};
+use crate::entry::{Entry, entry_at, place_at};
 use crate::heads::Heads;
 use crate::hits::{covers_part, first_hit};
 use crate::rows::add_key;
-use rel_base::{Key, List, NoMemory, Place, Read, Seen, TableDef};
+use crate::tail::{heads_of, is_tail_above, last_on};
+use rel_base::{Key, List, NoMemory, Read, Seen, TableDef};
 use row_sets::HitRef;
 use std::alloc::Global;
 
@@ -52,8 +54,8 @@ fn rows_of_key(
     Ok(rows)
 }
 
-/// The rows that a read gets of the tables after the block of a height.
-pub fn rows_at(
+/// The rows that a read gets of the tables after the block of a height, from a map of the last writes on the keys of its table.
+fn rows_by_heads(
     alloc: Global,
     defs: &[TableDef],
     entries: &[Entry],
@@ -67,18 +69,58 @@ pub fn rows_at(
     requires read_fits { ReadFitsIn defs.now read.now }
     ensures { IfOk result (λ seen. seen ≡ rows_in defs.now read.now (tables_at height (history_of entries.now))) }
 {
-    let def = def_of(defs, read);
+    heads.rows(alloc, entries, def_of(defs, read), read, height)
+}
+
+/// The rows that a read gets of the tables after the block of a height, key by key. Where the height is below the tail, the map
+/// of the table has all keys that had a row, and else a map is made from the whole log.
+fn rows_of_all(
+    alloc: Global,
+    defs: &[TableDef],
+    entries: &[Entry],
+    heads: &[Heads],
+    noted: usize,
+    read: &Read,
+    height: u64,
+) -> Result<List<Seen>, NoMemory>
+    requires kept { WellKept defs.now entries.now heads.now noted }
+    requires read_fits { ReadFitsIn defs.now read.now }
+    ensures { IfOk result (λ seen. seen ≡ rows_in defs.now read.now (tables_at height (history_of entries.now))) }
+{
+    let table = read.table();
+    if is_tail_above(entries, noted, height) {
+        let heads = &heads[table as usize];
+        return rows_by_heads(alloc, defs, &entries[..noted], heads, read, height);
+    }
+    let heads = heads_of(alloc, entries, table)?;
+    rows_by_heads(alloc, defs, entries, &heads, read, height)
+}
+
+/// The rows that a read gets of the tables after the block of a height.
+pub fn rows_at(
+    alloc: Global,
+    defs: &[TableDef],
+    entries: &[Entry],
+    heads: &[Heads],
+    noted: usize,
+    read: &Read,
+    height: u64,
+) -> Result<List<Seen>, NoMemory>
+    requires kept { WellKept defs.now entries.now heads.now noted }
+    requires read_fits { ReadFitsIn defs.now read.now }
+    ensures { IfOk result (λ seen. seen ≡ rows_in defs.now read.now (tables_at height (history_of entries.now))) }
+{
     match read {
-        Read::Point { key, .. } => rows_of_key(
+        Read::Point { table, key } => rows_of_key(
             alloc,
             entries,
-            def,
+            def_of(defs, read),
             read,
             key,
-            heads.last(key),
+            last_on(entries, heads, noted, *table, key),
             height,
         ),
-        Read::Span { .. } => heads.rows(alloc, entries, def, read, height),
+        Read::Span { .. } => rows_of_all(alloc, defs, entries, heads, noted, read, height),
     }
 }
 
@@ -86,15 +128,13 @@ pub fn rows_at(
 pub fn hit_at(
     defs: &[TableDef],
     entries: &[Entry],
-    heads: &Heads,
+    heads: &[Heads],
+    noted: usize,
     read: &Read,
     after: u64,
     upto: u64,
 ) -> Option<usize>
-    requires linked { Linked entries.now }
-    requires in_order { InOrder (history_of entries.now) }
-    requires headed { (key : List Cell) → IsLast (is_on (read_table read.now, key)) (history_of entries.now) (head_of heads.now key) }
-    requires fits { HistoryFits defs.now (history_of entries.now) }
+    requires kept { WellKept defs.now entries.now heads.now noted }
     requires read_fits { ReadFitsIn defs.now read.now }
     ensures least { write_of (history_of entries.now) result ≡ least_hit defs.now read.now (writes_between after upto (history_of entries.now)) }
     ensures below { IfSome result (λ number. number < length entries.now) }
@@ -105,7 +145,7 @@ pub fn hit_at(
             entries,
             *table,
             key,
-            heads.last(key),
+            last_on(entries, heads, noted, *table, key),
             after,
             upto,
         ),
@@ -123,10 +163,7 @@ fn hit_ref<'a>(defs: &[TableDef], read: &Read, entry: &'a Entry) -> HitRef<'a>
     let def = def_of(defs, read);
     let stale = covers_part(read, def, &entry.placed.write.before);
     HitRef {
-        place: Place {
-            block: entry.block,
-            pos: entry.placed.pos,
-        },
+        place: place_at(entry),
         key: &entry.placed.write.key,
         stale,
     }
@@ -137,19 +174,17 @@ fn hit_ref<'a>(defs: &[TableDef], read: &Read, entry: &'a Entry) -> HitRef<'a>
 pub fn late_at<'a>(
     defs: &[TableDef],
     entries: &'a [Entry],
-    heads: &Heads,
+    heads: &[Heads],
+    noted: usize,
     read: &Read,
     after: u64,
     upto: u64,
 ) -> Option<HitRef<'a>>
-    requires linked { Linked entries.now }
-    requires in_order { InOrder (history_of entries.now) }
-    requires headed { (key : List Cell) → IsLast (is_on (read_table read.now, key)) (history_of entries.now) (head_of heads.now key) }
-    requires fits { HistoryFits defs.now (history_of entries.now) }
+    requires kept { WellKept defs.now entries.now heads.now noted }
     requires read_fits { ReadFitsIn defs.now read.now }
     ensures { option_map hit_of result ≡ option_map (hit_by defs.now read.now) (least_hit defs.now read.now (writes_between after upto (history_of entries.now))) }
 {
-    match hit_at(defs, entries, heads, read, after, upto) {
+    match hit_at(defs, entries, heads, noted, read, after, upto) {
         None => None,
         Some(number) => Some(hit_ref(defs, read, entry_at(entries, number))),
     }

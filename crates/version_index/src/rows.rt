@@ -10,7 +10,7 @@ ghost use Rattle.version_index.specs.Log.{history_of, stamped_of, Linked, FitsTa
 ghost use Rattle.version_index.specs.Rows.{covered_row, seen_of, seen_row};
 
 use crate::chain::last_up_to;
-use crate::entry::{Entry, entry_at};
+use crate::entry::{Entry, entry_at, place_at};
 use rel_base::{Key, List, NoMemory, Place, Read, Row, Seen, TableDef, Twin};
 use std::alloc::Global;
 
@@ -49,13 +49,7 @@ fn add_row(
 {
     match &entry.placed.write.after {
         None => Ok(()),
-        Some(row) => {
-            let place = Place {
-                block: entry.block,
-                pos: entry.placed.pos,
-            };
-            add_covered(alloc, rows, def, read, row, place)
-        }
+        Some(row) => { add_covered(alloc, rows, def, read, row, place_at(entry)) }
     }
 }
 

@@ -20,7 +20,7 @@ hit_ref-requires-clause-on_table c =
     least_on_table c.args.defs.now c.args.read.now c.args.after c.args.upto (history_of c.args.entries.now) (stamped_of c.entry_at.result.now) is
 
 pub hit_ref-requires-clause-write_fits : goal.hit_ref-requires-clause-write_fits
-hit_ref-requires-clause-write_fits c = entry_fits_in c.args.defs.now c.args.entries.now c.in-Some.number c.entry_at.result.now c.requires.fits c.entry_at.ensures
+hit_ref-requires-clause-write_fits c = entry_fits_in c.args.defs.now c.args.entries.now c.in-Some.number c.entry_at.result.now c.requires.kept.fits c.entry_at.ensures
 
 pub returns-in-Some : goal.returns-in-Some
 returns-in-Some c =

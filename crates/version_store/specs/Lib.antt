@@ -1,0 +1,5 @@
+pub mod Hits
+pub mod Log
+pub mod Rows
+pub mod Kept
+pub mod Example

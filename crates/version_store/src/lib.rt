@@ -1,0 +1,14 @@
+//! A plain store of committed versions: one list of the writes, which every answer walks. It is a reference for stores that answer
+//! faster.
+#![tactic(auto)]
+
+pub mod committed;
+pub mod hits;
+pub mod lifespans;
+pub mod rows;
+pub mod store;
+#[cfg(test)]
+mod tests;
+
+pub use committed::Committed;
+pub use store::PlainVersions;
