@@ -1,10 +1,12 @@
 pub mod Cases
 pub mod Words
 pub mod Places
-pub mod Marks
+pub mod Marked
 pub mod Members
 pub mod Joined
 pub mod Noted
+pub mod Apart
+pub mod Sampled
 pub mod Found
 pub mod Forms
 pub mod Lists

@@ -1,8 +1,9 @@
 -- The edges to one more committed transaction.
-use Rattle.std.proofs.Common.{ap, Bool, false, List, refl, sym, true, ◌∷◌, ◌∙◌, ◌≡◌, ◌&&◌, ◌||◌, ℕ, ⊎_elim}
+use Rattle.std.proofs.Common.{ap, drop, length, Bool, false, List, refl, sym, true, ◌∷◌, ◌∙◌, ◌≡◌, ◌≤◌, ◌&&◌, ◌||◌, ℕ, ⊎_elim}
 use Rattle.std.specs.Bool.{nat_eq}
 use Rattle.std.specs.List.{list_any}
 use Rattle.std.proofs.lemmas.Bool.{eq-eqb}
+use Rattle.std.proofs.lemmas.List.{at_drop_all}
 use Rattle.std.proofs.lemmas.Bool.Decides.{eqb_tells}
 
 turned_test : (a b : ℕ) → nat_eq a b ≡ nat_eq b a
@@ -28,3 +29,15 @@ note_next place test all left after done holds holds' is so_far noted pos =
     ap (λ b. b || list_any (λ x. nat_eq (place x) pos && test x) after) (noted pos ∙ ap (λ b. (test done && b) || holds pos) (turned_test pos (place done)))
     ∙ moved (test done) (nat_eq (place done) pos) (holds pos) (list_any (λ x. nat_eq (place x) pos && test x) after)
     ∙ ap (λ xs. holds pos || list_any (λ x. nat_eq (place x) pos && test x) xs) (sym is) ∙ so_far pos
+
+or_false : (b : Bool) → (b || false) ≡ b
+or_false true = refl
+or_false false = refl
+
+-- once nothing is left, what was noted is all
+pub noted_all : {X : Type 0} (place : X → ℕ) (test : X → Bool) (all : List X) (index : ℕ) (holds : ℕ → Bool)
+    → length all ≤ index
+    → ((pos : ℕ) → (holds pos || list_any (λ x. nat_eq (place x) pos && test x) (drop index all)) ≡ list_any (λ x. nat_eq (place x) pos && test x) all)
+    → (pos : ℕ) → holds pos ≡ list_any (λ x. nat_eq (place x) pos && test x) all
+noted_all place test all index holds past so_far pos =
+    sym (or_false (holds pos)) ∙ ap (λ b. holds pos || b) (sym (at_drop_all (list_any (λ x. nat_eq (place x) pos && test x)) all index past)) ∙ so_far pos

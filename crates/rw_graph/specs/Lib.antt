@@ -3,4 +3,6 @@ pub mod Held
 pub mod Sides
 pub mod Graph
 pub mod Fitting
+pub mod Hashing
+pub mod Marking
 pub mod Laws

@@ -21,6 +21,7 @@ pub struct EdgeSet {
     /// The row of position p is at place p - 1. Positions that are not of the set have rows without an edge.
     rows: Vec<Edges>,
     ghost few: { vec_len rows ≤ 1024 },
+    ghost enough: { (pos : ℕ) → is_among positions pos ≡ true → pos ≤ vec_len rows },
     ghost rising: { AllPairs (λ p q. p < q) positions },
     ghost same_members: { (pos : ℕ) → holds members pos ≡ is_among positions pos },
     ghost turned: { (from to : ℕ) → comes_in rows.items to from ≡ goes_out rows.items from to },
@@ -71,16 +72,43 @@ impl EdgeSet {
         least_out(self.rows.as_slice(), from)
     }
 
-    /// The edges between a position and the others: `None` exactly where the position is not of the set.
-    pub fn row(&self, pos: u32) -> Option<Edges>
+    // The row of a position, where the position is of the set.
+    fn kept(&self, pos: u32) -> Option<&Edges>
         ensures { MatchOption result (is_among (positions_of self.now) pos ≡ false)
-            (λ edges. (is_among (positions_of self.now) pos ≡ true) × AreEdgesOf (has_edge self.now) pos edges) }
+            (λ row. (is_among (positions_of self.now) pos ≡ true) × AreEdgesOf (has_edge self.now) pos row.now) }
     {
         if self.members.has(pos) {
             Some(row_at(self.rows.as_slice(), pos))
         } else {
             None
         }
+    }
+
+    /// The edges between a position and the others: `None` exactly where the position is not of the set.
+    pub fn row(&self, pos: u32) -> Option<Edges>
+        ensures { MatchOption result (is_among (positions_of self.now) pos ≡ false)
+            (λ edges. (is_among (positions_of self.now) pos ≡ true) × AreEdgesOf (has_edge self.now) pos edges) }
+    {
+        let row = self.kept(pos)?;
+        Some(*row)
+    }
+
+    /// The positions to which a position has an edge, as the set keeps them: `None` exactly where the position is not of the set.
+    pub fn out_row(&self, pos: u32) -> Option<&Bits>
+        ensures { MatchOption result (is_among (positions_of self.now) pos ≡ false)
+            (λ out. (is_among (positions_of self.now) pos ≡ true) × ((other : ℕ) → holds out.now other ≡ has_edge self.now pos other)) }
+    {
+        let row = self.kept(pos)?;
+        Some(&row.out)
+    }
+
+    /// The positions that have an edge to a position, as the set keeps them: `None` exactly where the position is not of the set.
+    pub fn into_row(&self, pos: u32) -> Option<&Bits>
+        ensures { MatchOption result (is_among (positions_of self.now) pos ≡ false)
+            (λ into. (is_among (positions_of self.now) pos ≡ true) × ((other : ℕ) → holds into.now other ≡ has_edge self.now other pos)) }
+    {
+        let row = self.kept(pos)?;
+        Some(&row.into)
     }
 
     /// Adds a position above all others, from 1 to 1,024, with its edges to and from positions of the set. Where memory is

@@ -15,6 +15,7 @@ fn push_row(rows: &mut Vec<Edges>) -> Result<(), NoMemory>
     ensures into { (from to : ℕ) → comes_in rows.new.items from to ≡ comes_in rows.old.items from to }
     ensures len { OnOk result (vec_len rows.new ≡ vec_len rows.old + 1) }
     ensures most { vec_len rows.new ≤ vec_len rows.old + 1 }
+    ensures kept { vec_len rows.old ≤ vec_len rows.new }
 {
     rows.push(no_edges())?;
     Ok(())
@@ -26,6 +27,7 @@ pub fn grow(rows: &mut Vec<Edges>, len: usize) -> Result<(), NoMemory>
     ensures into { (from to : ℕ) → comes_in rows.new.items from to ≡ comes_in rows.old.items from to }
     ensures enough { OnOk result (len ≤ vec_len rows.new) }
     ensures no_more { vec_len rows.new ≤ max (vec_len rows.old) len }
+    ensures kept { vec_len rows.old ≤ vec_len rows.new }
 {
     while rows.len() < len {
         push_row(rows)?;
@@ -88,16 +90,14 @@ pub fn join(rows: &mut Vec<Edges>, edges: &Edges, pos: u32)
     join_rows(rows.as_mut_slice(), edges, pos);
 }
 
-/// The row of a position, which is without an edge where none is kept.
-pub fn row_at(rows: &[Edges], pos: u32) -> Edges
-    requires { 1 ≤ pos }
-    ensures out { (other : ℕ) → holds result.out other ≡ goes_out rows.now pos other }
-    ensures into { (other : ℕ) → holds result.into other ≡ comes_in rows.now pos other }
+/// The row of a position, as it is kept.
+pub fn row_at(rows: &[Edges], pos: u32) -> &Edges
+    requires counts { 1 ≤ pos }
+    requires within { pos ≤ length rows.now }
+    ensures out { (other : ℕ) → holds result.now.out other ≡ goes_out rows.now pos other }
+    ensures into { (other : ℕ) → holds result.now.into other ≡ comes_in rows.now pos other }
 {
-    match rows.get(pos as usize - 1) {
-        None => no_edges(),
-        Some(row) => *row,
-    }
+    &rows[pos as usize - 1]
 }
 
 /// The least position to which the row of a position has an edge.

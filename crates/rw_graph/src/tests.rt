@@ -197,6 +197,11 @@ fn rows_of_positions(rt: HostRuntime) -> Result<(), Fail> {
     let row = set.row(64).ok_or("no row of 64")?;
     assert!(rt; row.out.has(1) && row.out.has(65) && !row.out.has(64));
     assert_eq!(rt; row.into.least_from(0), None);
+    let out = set.out_row(64).ok_or("no row out of 64")?;
+    assert!(rt; out.has(1) && out.has(65) && !out.has(64));
+    let into = set.into_row(65).ok_or("no row into 65")?;
+    assert!(rt; into.has(64) && !into.has(1));
+    assert!(rt; set.out_row(2).is_none() && set.into_row(0).is_none());
     assert!(rt; set.row(2).is_none() && set.row(0).is_none() && set.row(66).is_none());
     Ok(())
 }

@@ -1,5 +1,5 @@
 use Rattle.std.proofs.Common.{length, rules, ◌<◌}
-use Rattle.rw_graph.proofs.Marks.{marked_next}
+use Rattle.rw_graph.proofs.Marked.{marked_next}
 use Rattle.rw_graph.proofs.rows.mark.Goals as goal
 use Rattle.rw_graph.specs.Held.{holds}
 

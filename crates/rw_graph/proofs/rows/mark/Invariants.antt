@@ -1,5 +1,5 @@
 use Rattle.std.proofs.Common.{length, ◌≡◌}
-use Rattle.rw_graph.proofs.Marks.{Marked}
+use Rattle.rw_graph.proofs.Marked.{Marked}
 use Rattle.rw_graph.proofs.rows.mark.Given as goal
 use Rattle.rw_graph.specs.Held.{holds}
 

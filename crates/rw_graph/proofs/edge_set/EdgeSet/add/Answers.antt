@@ -1,7 +1,7 @@
-use Rattle.std.proofs.Common.{ap, sym, ◌<◌, ◌||◌, ◌∙◌, nat_eq}
+use Rattle.std.proofs.Common.{ap, arith, sym, vec_len, ◌<◌, ◌||◌, ◌∙◌, nat_eq}
 use Rattle.std.proofs.lemmas.List.Quantifiers.{all_pairs_push}
 use Rattle.rw_graph.proofs.Joined.{between_joined, into_below, out_below, position_joined, turned_joined}
-use Rattle.rw_graph.proofs.Members.{among_more}
+use Rattle.rw_graph.proofs.Members.{among_more, bound_more}
 use Rattle.rw_graph.proofs.edge_set.EdgeSet.add.Goals as goal
 use Rattle.rw_graph.specs.Held.{holds}
 use Rattle.rw_graph.specs.Sides.{comes_in, goes_out, joined}
@@ -37,3 +37,9 @@ returns-clause-edges c =
     position_joined c.args.self.now.positions c.args.pos c.requires.above (holds c.args.edges.now.out) (holds c.args.edges.now.into) c.requires.out c.requires.into
     (goes_out c.args.self.now.rows.items) c.args.self.now.between
     (goes_out c.join.new.rows.items) (λ from to. c.join.ensures.out from to ∙ ap (joined (nat_eq from c.args.pos) (nat_eq to c.args.pos) (holds c.args.edges.now.out to) (holds c.args.edges.now.into from)) (c.grow.ensures.out from to))
+
+pub invariant_of-self-2-clause-enough : goal.invariant_of-self-2-clause-enough
+invariant_of-self-2-clause-enough c = rw c.in_ok-push.ensures.ok (
+    bound_more c.args.self.now.positions c.args.pos (vec_len c.args.self.now.rows) (vec_len c.join.new.rows) c.args.self.now.enough
+    (omega (arith, c.grow.ensures.kept, c.join.ensures.len))
+    (omega (arith, c.in_ok-grow.ensures.enough, c.join.ensures.len)))
