@@ -1,1 +1,3 @@
-pub mod Orders
+pub mod Items
+pub mod Commands
+pub mod Neighbours

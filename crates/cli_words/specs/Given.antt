@@ -5,4 +5,4 @@ use Rattle.cli_words.specs.declared.options.Given.{Given}
 
 -- the same, without its references
 abbrev pub said : Given → Said
-said given = record { app = option_copied given.app; blocks = option_copied given.blocks; waiting = given.waiting }
+said given = record { app = option_copied given.app; blocks = option_copied given.blocks; flags = given.flags; waiting = given.waiting }

@@ -1,6 +1,7 @@
 //! The words of the command line, and the settings that they say.
 #![tactic(auto)]
 
+pub mod flags;
 pub mod laws;
 pub mod options;
 pub mod read;
@@ -9,6 +10,7 @@ pub mod settings;
 mod tests;
 pub mod word;
 
+pub use flags::Flags;
 pub use read::read_words;
 pub use settings::{Settings, WordsFault};
 pub use word::Word;

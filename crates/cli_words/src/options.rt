@@ -2,8 +2,10 @@
 
 ghost use Rattle.std.specs.Prelude.{◌≡◌, Option};
 ghost use Rattle.std.specs.Option.{option_copied, option_map};
-ghost use Rattle.cli_words.specs.Language.{Said, say, say_option, say_value, is_value, choice_of, nothing_said};
+ghost use Rattle.cli_words.specs.Language.{Said, say, say_choice, say_flag, say_named, say_value, is_value, named_by, nothing_said};
 ghost use Rattle.cli_words.specs.Given.{said};
+
+use crate::flags::{Flag, Flags};
 
 /// An option that takes a value.
 #[derive(Clone, Copy, Debug, PartialEq, Eq)]
@@ -14,6 +16,15 @@ pub enum Choice {
     Blocks,
 }
 
+/// An option, by its word.
+#[derive(Clone, Copy, Debug, PartialEq, Eq)]
+pub enum Named {
+    /// The next word is its value.
+    Choice(Choice),
+    /// It stands alone.
+    Flag(Flag),
+}
+
 /// What the words so far say.
 #[derive(Clone, Copy)]
 pub struct Given<'a> {
@@ -21,6 +32,8 @@ pub struct Given<'a> {
     pub app: Option<&'a str>,
     /// The value of `--blocks`.
     pub blocks: Option<&'a str>,
+    /// The flags that were given.
+    pub flags: Flags,
     /// The option whose value comes next.
     pub waiting: Option<Choice>,
 }
@@ -36,12 +49,14 @@ pub fn is_value(word: &str) -> bool
 }
 
 /// The option that a word names.
-pub fn choice_of(word: &str) -> Option<Choice>
-    ensures { result ≡ choice_of word.now }
+pub fn named_by(word: &str) -> Option<Named>
+    ensures { result ≡ named_by word.now }
 {
     match word {
-        "--app" => Some(Choice::App),
-        "--blocks" => Some(Choice::Blocks),
+        "--app" => Some(Named::Choice(Choice::App)),
+        "--blocks" => Some(Named::Choice(Choice::Blocks)),
+        "--orders" => Some(Named::Flag(Flag::Orders)),
+        "--digests" => Some(Named::Flag(Flag::Digests)),
         _ => None,
     }
 }
@@ -54,16 +69,16 @@ impl<'a> Given<'a> {
         Given {
             app: None,
             blocks: None,
+            flags: Flags::none(),
             waiting: None,
         }
     }
 
     /// Waits for the value of an option, unless it was given before.
-    fn with_option(self, option: Option<Choice>) -> Option<Given<'a>>
-        ensures { option_map said result ≡ say_option (said self.entry) option }
+    fn with_choice(self, choice: Choice) -> Option<Given<'a>>
+        ensures { option_map said result ≡ say_choice (said self.entry) choice }
     {
-        let option = option?;
-        let before = match option {
+        let before = match choice {
             Choice::App => self.app,
             Choice::Blocks => self.blocks,
         };
@@ -71,16 +86,40 @@ impl<'a> Given<'a> {
             return None;
         }
         Some(Given {
-            waiting: Some(option),
+            waiting: Some(choice),
             ..self
         })
     }
 
-    /// Gives an option its value.
-    fn with_value(self, option: Choice, word: &'a str) -> Given<'a>
-        ensures { said result ≡ say_value (said self.entry) option word.now }
+    /// Takes a flag, unless it was given before.
+    fn with_flag(self, flag: Flag) -> Option<Given<'a>>
+        ensures { option_map said result ≡ say_flag (said self.entry) flag }
     {
-        match option {
+        if self.flags.has(flag) {
+            return None;
+        }
+        Some(Given {
+            flags: self.flags.with(flag),
+            ..self
+        })
+    }
+
+    /// Takes the option that a word names.
+    fn with_named(self, named: Option<Named>) -> Option<Given<'a>>
+        ensures { option_map said result ≡ say_named (said self.entry) named }
+    {
+        match named {
+            Some(Named::Choice(choice)) => self.with_choice(choice),
+            Some(Named::Flag(flag)) => self.with_flag(flag),
+            None => None,
+        }
+    }
+
+    /// Gives an option its value.
+    fn with_value(self, choice: Choice, word: &'a str) -> Given<'a>
+        ensures { said result ≡ say_value (said self.entry) choice word.now }
+    {
+        match choice {
             Choice::App => Given {
                 app: Some(word),
                 waiting: None,
@@ -99,14 +138,14 @@ impl<'a> Given<'a> {
         ensures { option_map said result ≡ say self.entry.waiting (said self.entry) word.now }
     {
         match self.waiting {
-            Some(option) => {
+            Some(choice) => {
                 if is_value(word) {
-                    Some(self.with_value(option, word))
+                    Some(self.with_value(choice, word))
                 } else {
                     None
                 }
             }
-            None => self.with_option(choice_of(word)),
+            None => self.with_named(named_by(word)),
         }
     }
 }

@@ -5,6 +5,7 @@ ghost use Rattle.std.specs.Option.{option_copied, option_map};
 ghost use Rattle.cli_words.specs.Language.{texts, say_all, nothing_said, command_of, run_of, seal_of, settings_of, settled};
 ghost use Rattle.cli_words.specs.Given.{said};
 
+use crate::flags::Flags;
 use crate::options::Given;
 use crate::settings::{Settings, WordsFault};
 use crate::word::Word;
@@ -41,30 +42,36 @@ fn read_options<'a>(given: Given<'a>, words: &[&'a str]) -> Option<Given<'a>>
 }
 
 fn to_run(alloc: Global, given: Given<'_>) -> Result<Settings, WordsFault>
-    ensures ok { IfOk result (λ settings. run_of (said given.entry).app (said given.entry).blocks given.entry.waiting ≡ Some settings) }
-    ensures usage { IsErrOf result WordsFault.Usage ↔ (run_of (said given.entry).app (said given.entry).blocks given.entry.waiting ≡ None) }
+    ensures ok { IfOk result (λ settings. run_of (said given.entry) ≡ Some settings) }
+    ensures usage { IsErrOf result WordsFault.Usage ↔ (run_of (said given.entry) ≡ None) }
 {
     match given {
         Given {
             app: Some(app),
             blocks: Some(blocks),
+            flags,
             waiting: None,
         } => Ok(Settings::Run {
             app: Word::new(alloc, app)?,
             blocks: Word::new(alloc, blocks)?,
+            flags,
         }),
         _ => Err(WordsFault::Usage),
     }
 }
 
 fn to_seal(alloc: Global, given: Given<'_>) -> Result<Settings, WordsFault>
-    ensures ok { IfOk result (λ settings. seal_of (said given.entry).app (said given.entry).blocks given.entry.waiting ≡ Some settings) }
-    ensures usage { IsErrOf result WordsFault.Usage ↔ (seal_of (said given.entry).app (said given.entry).blocks given.entry.waiting ≡ None) }
+    ensures ok { IfOk result (λ settings. seal_of (said given.entry) ≡ Some settings) }
+    ensures usage { IsErrOf result WordsFault.Usage ↔ (seal_of (said given.entry) ≡ None) }
 {
     match given {
         Given {
             app: None,
             blocks: Some(blocks),
+            flags: Flags {
+                orders: false,
+                digests: false,
+            },
             waiting: None,
         } => Ok(Settings::Seal {
             blocks: Word::new(alloc, blocks)?,

@@ -1,5 +1,6 @@
 //! What the command line asks for.
 
+use crate::flags::Flags;
 use crate::word::Word;
 use rel_base::NoMemory;
 
@@ -12,6 +13,8 @@ pub enum Settings {
         app: Word,
         /// The name of the file of blocks.
         blocks: Word,
+        /// What the report shows besides.
+        flags: Flags,
     },
     /// Writes the blocks of a file as a chain.
     Seal {

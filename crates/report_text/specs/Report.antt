@@ -1,5 +1,6 @@
 -- The lines of a report, and the report of nodes.
-use Rattle.std.specs.Prelude.{ℕ, ◌+◌, List, [], ◌∷◌, ◌++◌, Option, flat_map, length, codes, decimal}
+use Rattle.std.specs.Prelude.{ℕ, ◌+◌, List, [], ◌∷◌, ◌++◌, Bool, cond, Option, flat_map, length, codes, decimal}
+use Rattle.hex.specs.Hex.{encode_lower}
 use Rattle.node_model.specs.declared.result.BlockResult.{BlockResult}
 use Rattle.node_model.specs.declared.result.NodeResult.{NodeResult}
 use Rattle.node_model.specs.declared.result.TableRows.{TableRows}
@@ -8,6 +9,7 @@ use Rattle.proc_syntax.specs.declared.chain_fault.ChainFault.{ChainFault}
 use Rattle.rel_base.specs.declared.schema.TableDef.{TableDef}
 use Rattle.rel_base.specs.declared.value.Value.{Value}
 use Rattle.report_text.specs.Ending.{end_line}
+use Rattle.report_text.specs.declared.look.Look.{Look}
 use Rattle.report_text.specs.Outcome.{outcome_text, values_text, table_name}
 
 -- a line: its text and a newline
@@ -28,9 +30,26 @@ tx_line tables pos told =
 abbrev pub block_line : BlockResult → List ℕ
 block_line block = line (codes "block " ++ decimal block.number)
 
--- a block: its number, and its transactions at the positions from 1
-abbrev pub block_lines : List TableDef → BlockResult → List ℕ
-block_lines tables block = block_line block ++ numbered (tx_line tables) 1 block.outcomes
+-- positions, each after a space
+abbrev pub order_text : List ℕ → List ℕ
+order_text positions = flat_map (λ position. codes " " ++ decimal position) positions
+
+-- the positions of the committed transactions of a block in their serial order; `order` alone where there are none
+abbrev pub order_line : BlockResult → List ℕ
+order_line block = line (codes "order" ++ order_text block.order)
+
+-- the digest of a block, in lower-case hexadecimal digits
+abbrev pub digest_line : BlockResult → List ℕ
+digest_line block = line (codes "digest " ++ encode_lower block.digest)
+
+-- a line that is shown only where it is asked for
+abbrev pub shown_if : Bool → List ℕ → List ℕ
+shown_if asked text = cond asked text []
+
+-- a block: its number, its transactions at the positions from 1, and then its order and its digest, each if it is asked for
+abbrev pub block_lines : Look → List TableDef → BlockResult → List ℕ
+block_lines look tables block =
+    block_line block ++ numbered (tx_line tables) 1 block.outcomes ++ shown_if look.orders (order_line block) ++ shown_if look.digests (digest_line block)
 
 -- a row: its values in the order of the columns
 abbrev pub row_line : List Value → List ℕ
@@ -53,11 +72,11 @@ abbrev pub node_line : ℕ → List ℕ
 node_line number = line (codes "node " ++ decimal number)
 
 -- a node: its blocks, then its tables after the last of them, then its height
-abbrev pub node_lines : List TableDef → ℕ → NodeResult → List ℕ
-node_lines tables number node =
-    node_line number ++ flat_map (block_lines tables) node.blocks ++ flat_map (table_lines tables) node.tables
+abbrev pub node_lines : Look → List TableDef → ℕ → NodeResult → List ℕ
+node_lines look tables number node =
+    node_line number ++ flat_map (block_lines look tables) node.blocks ++ flat_map (table_lines tables) node.tables
     ++ height_line node.blocks
 
 -- a report: the nodes numbered from 1, and the line that ends it, by where the block file stopped
-abbrev pub report_text : List TableDef → List NodeResult → Option ChainFault → List ℕ
-report_text tables nodes stop = numbered (node_lines tables) 1 nodes ++ end_line stop
+abbrev pub report_text : Look → List TableDef → List NodeResult → Option ChainFault → List ℕ
+report_text look tables nodes stop = numbered (node_lines look tables) 1 nodes ++ end_line stop

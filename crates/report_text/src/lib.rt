@@ -4,6 +4,7 @@
 mod block;
 mod buffer;
 mod ending;
+mod look;
 mod node;
 mod outcome;
 mod table;
@@ -12,4 +13,5 @@ mod tests;
 mod value;
 
 pub use ending::stopped_line;
+pub use look::Look;
 pub use node::report;

@@ -7,6 +7,7 @@ ghost use Rattle.report_text.specs.Report.{numbered, height_line, node_line, nod
 use crate::block::push_blocks;
 use crate::buffer::push;
 use crate::ending::push_end;
+use crate::look::Look;
 use crate::table::push_tables;
 use literals::push_number;
 use node_model::{BlockResult, NodeResult};
@@ -35,30 +36,36 @@ fn push_height_line(out: &mut Vec<u8>, blocks: &[BlockResult]) -> Result<(), NoM
 /// A node: its blocks, its tables after the last of them, and its height.
 fn push_node(
     out: &mut Vec<u8>,
+    look: &Look,
     tables: &[TableDef],
     number: usize,
     node: &NodeResult,
 ) -> Result<(), NoMemory>
-    ensures { OnOk result (out.new.items ≡ out.old.items ++ node_lines tables.now number node.now) }
+    ensures { OnOk result (out.new.items ≡ out.old.items ++ node_lines look.now tables.now number node.now) }
 {
     push_node_line(out, number)?;
-    push_blocks(out, tables, node.blocks.as_slice())?;
+    push_blocks(out, look, tables, node.blocks.as_slice())?;
     push_tables(out, tables, node.tables.as_slice())?;
     push_height_line(out, node.blocks.as_slice())
 }
 
 /// Nodes, numbered from 1.
-fn push_nodes(out: &mut Vec<u8>, tables: &[TableDef], nodes: &[NodeResult]) -> Result<(), NoMemory>
-    ensures { OnOk result (out.new.items ≡ out.old.items ++ numbered (node_lines tables.now) 1 nodes.now) }
+fn push_nodes(
+    out: &mut Vec<u8>,
+    look: &Look,
+    tables: &[TableDef],
+    nodes: &[NodeResult],
+) -> Result<(), NoMemory>
+    ensures { OnOk result (out.new.items ≡ out.old.items ++ numbered (node_lines look.now tables.now) 1 nodes.now) }
 {
     for (before, node) in nodes.iter().enumerate() {
-        push_node(out, tables, before + 1, node)?;
+        push_node(out, look, tables, before + 1, node)?;
     }
     Ok(())
 }
 
-/// The report of the nodes: for each in turn its blocks with the outcome of every transaction, its tables with their
-/// rows, and its height; after the last node the line `done`, or `stopped LINE KIND` where the block file stopped at a fault.
+/// The report of the nodes: for each in turn its blocks with the outcome of every transaction and the lines that the look asks
+/// for, its tables with their rows, and its height; after the last node the line `done`, or `stopped LINE KIND` where the block file stopped at a fault.
 /// Every line ends with a newline.
 ///
 /// A table is shown by its name in the declarations; a number that none of them has is shown as an empty name. The only
@@ -68,11 +75,12 @@ pub fn report(
     tables: &List<TableDef>,
     nodes: &List<NodeResult>,
     stop: Option<&ChainFault>,
+    look: &Look,
 ) -> Result<List<u8>, NoMemory>
-    ensures { IfOk result (λ bytes. bytes ≡ report_text tables.now nodes.now (option_copied stop.entry)) }
+    ensures { IfOk result (λ bytes. bytes ≡ report_text look.now tables.now nodes.now (option_copied stop.entry)) }
 {
     let mut out = Vec::new(alloc);
-    push_nodes(&mut out, tables.as_slice(), nodes.as_slice())?;
+    push_nodes(&mut out, look, tables.as_slice(), nodes.as_slice())?;
     push_end(&mut out, stop)?;
     Ok(List::from_vec(out))
 }

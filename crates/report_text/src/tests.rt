@@ -1,5 +1,5 @@
-use crate::{report, stopped_line};
-use node_model::{BlockResult, Clash, Late, NodeResult, Outcome, TableRows, Told};
+use crate::{Look, report, stopped_line};
+use node_model::{BlockResult, Clash, Late, NO_DIGEST, NodeResult, Outcome, TableRows, Told};
 use proc_syntax::{ChainFault, ChainKind, Fault};
 use rel_base::{Blob, Id, Key, List, Name, Place, Row, Str, TableDef, Value};
 use std::alloc::Global;
@@ -38,11 +38,14 @@ fn told(alloc: Global, id: &str, outcome: Outcome) -> Result<Told, Fail> {
     })
 }
 
-fn block(number: u64, outcomes: Vec<Told>) -> BlockResult {
+fn block(alloc: Global, number: u64, outcomes: Vec<Told>) -> BlockResult {
     BlockResult {
         number,
         time: 0,
         outcomes: List::from_vec(outcomes),
+        order: List::new(alloc),
+        writes: List::new(alloc),
+        digest: NO_DIGEST,
     }
 }
 
@@ -58,21 +61,26 @@ fn node(alloc: Global, blocks: Vec<BlockResult>, rows: Vec<Row>) -> Result<NodeR
     })
 }
 
+const BARE: Look = Look {
+    orders: false,
+    digests: false,
+};
+
 fn shows(alloc: Global, node: NodeResult, want: &str) -> Result<bool, Fail> {
     let nodes = List::from_vec(vec![in alloc; node]?);
-    let bytes = report(alloc, &tables(alloc)?, &nodes, None)?;
+    let bytes = report(alloc, &tables(alloc)?, &nodes, None, &BARE)?;
     Ok(bytes.as_slice() == want.as_bytes())
 }
 
 fn committed(alloc: Global, number: u64, id: &str) -> Result<BlockResult, Fail> {
     let outcomes = vec![in alloc; told(alloc, id, Outcome::Committed)?]?;
-    Ok(block(number, outcomes))
+    Ok(block(alloc, number, outcomes))
 }
 
 // The report after an insert that committed in block 1, and a transaction alone in block 2.
 fn after_insert(alloc: Global, outcome: Outcome) -> Result<NodeResult, Fail> {
     let second = vec![in alloc; told(alloc, "b1", outcome)?]?;
-    let blocks = vec![in alloc; committed(alloc, 1, "a1")?, block(2, second)]?;
+    let blocks = vec![in alloc; committed(alloc, 1, "a1")?, block(alloc, 2, second)]?;
     node(
         alloc,
         blocks,
@@ -108,7 +116,7 @@ fn early_outcomes(rt: HostRuntime) -> Result<(), Fail> {
         told(alloc, "b1", Outcome::BadArguments)?,
     ]?;
     let second = vec![in alloc; told(alloc, "n1", Outcome::DuplicateId)?]?;
-    let blocks = vec![in alloc; block(1, first), block(2, second)]?;
+    let blocks = vec![in alloc; block(alloc, 1, first), block(alloc, 2, second)]?;
     let rows = vec![in alloc; account(alloc, 1, "ann", 50)?]?;
     let want = "node 1\nblock 1\ntx 1 a1 committed\ntx 2 a1 aborted duplicate-id\n\
         tx 3 n1 aborted unknown-procedure\ntx 4 b1 aborted bad-arguments\n\
@@ -156,7 +164,7 @@ fn same_key_in_block(rt: HostRuntime) -> Result<(), Fail> {
         told(alloc, "a1", Outcome::Committed)?,
         told(alloc, "a2", clash)?,
     ]?;
-    let blocks = vec![in alloc; block(1, outcomes)]?;
+    let blocks = vec![in alloc; block(alloc, 1, outcomes)]?;
     let rows = vec![in alloc; account(alloc, 1, "ann", 50)?]?;
     let want = "node 1\nblock 1\ntx 1 a1 committed\ntx 2 a2 aborted write-conflict with 1 acct 1\n\
         table acct\nrow 1 \"ann\" 50\nheight 1\ndone\n";
@@ -193,7 +201,7 @@ fn other_causes(alloc: Global) -> Result<Vec<Told>, Fail> {
 #[test]
 fn every_cause(rt: HostRuntime) -> Result<(), Fail> {
     let alloc = rt.alloc();
-    let blocks = vec![in alloc; block(7, other_causes(alloc)?)]?;
+    let blocks = vec![in alloc; block(alloc, 7, other_causes(alloc)?)]?;
     let want = "node 1\nblock 7\ntx 1 t-1 aborted future-height\n\
         tx 2 t-2 aborted stale 3 by 18446744073709551615 1024 lot \"oslo\" 2\ntx 3 t-3 aborted fault overflow\n\
         tx 4 t-4 aborted fault zero-divide\ntx 5 t-5 aborted fault no-row\ntx 6 t-6 aborted fault text-too-long\n\
@@ -229,7 +237,71 @@ fn two_nodes_and_values_of_each_kind(rt: HostRuntime) -> Result<(), Fail> {
     let want = "node 1\ntable acct\nheight 0\nnode 2\ntable lot\n\
         row \"\\\"o\\\\slo\\\" \u{e9}\" -9223372036854775808 x\"\" true\n\
         row \"\" 9223372036854775807 x\"000aff\" false\nheight 0\ndone\n";
-    assert!(rt; report(alloc, &tables(alloc)?, &nodes, None)?.as_slice() == want.as_bytes());
+    assert!(rt; report(alloc, &tables(alloc)?, &nodes, None, &BARE)?.as_slice() == want.as_bytes());
+    Ok(())
+}
+
+// Two committed transactions of which the second stands before the first in the serial order, and a block without any.
+fn ordered_blocks(alloc: Global) -> Result<Vec<BlockResult>, Fail> {
+    let outcomes = vec![in alloc;
+        told(alloc, "a1", Outcome::Committed)?,
+        told(alloc, "a2", Outcome::Committed)?,
+        told(alloc, "a1", Outcome::DuplicateId)?,
+    ]?;
+    let ordered = BlockResult {
+        order: List::from_vec(vec![in alloc; 2, 1]?),
+        digest: [
+            0, 1, 2, 3, 4, 5, 6, 7, 8, 9, 10, 11, 12, 13, 14, 15, 16, 17, 18, 19, 20, 21, 22, 23,
+            24, 25, 26, 27, 28, 29, 30, 31,
+        ],
+        ..block(alloc, 1, outcomes)
+    };
+    let empty = BlockResult {
+        digest: [0xAB; 32],
+        ..block(alloc, 2, Vec::new(alloc))
+    };
+    Ok(vec![in alloc; ordered, empty]?)
+}
+
+const ORDER_AND_DIGEST: &str =
+    "node 1\nblock 1\ntx 1 a1 committed\ntx 2 a2 committed\ntx 3 a1 aborted duplicate-id\norder 2 1\n\
+    digest 000102030405060708090a0b0c0d0e0f101112131415161718191a1b1c1d1e1f\nblock 2\norder\n\
+    digest abababababababababababababababababababababababababababababababab\ntable acct\nheight 2\ndone\n";
+
+const ORDER_ALONE: &str =
+    "node 1\nblock 1\ntx 1 a1 committed\ntx 2 a2 committed\ntx 3 a1 aborted duplicate-id\norder 2 1\n\
+    block 2\norder\ntable acct\nheight 2\ndone\n";
+
+const DIGEST_ALONE: &str =
+    "node 1\nblock 1\ntx 1 a1 committed\ntx 2 a2 committed\ntx 3 a1 aborted duplicate-id\n\
+    digest 000102030405060708090a0b0c0d0e0f101112131415161718191a1b1c1d1e1f\nblock 2\n\
+    digest abababababababababababababababababababababababababababababababab\ntable acct\nheight 2\ndone\n";
+
+const NEITHER: &str =
+    "node 1\nblock 1\ntx 1 a1 committed\ntx 2 a2 committed\ntx 3 a1 aborted duplicate-id\n\
+    block 2\ntable acct\nheight 2\ndone\n";
+
+fn looks(alloc: Global, orders: bool, digests: bool, want: &str) -> Result<bool, Fail> {
+    let nodes = List::from_vec(vec![in alloc;
+        node(alloc, ordered_blocks(alloc)?, Vec::new(alloc))?,
+    ]?);
+    let bytes = report(
+        alloc,
+        &tables(alloc)?,
+        &nodes,
+        None,
+        &Look { orders, digests },
+    )?;
+    Ok(bytes.as_slice() == want.as_bytes())
+}
+
+#[test]
+fn orders_and_digests(rt: HostRuntime) -> Result<(), Fail> {
+    let alloc = rt.alloc();
+    assert!(rt; looks(alloc, true, true, ORDER_AND_DIGEST)?);
+    assert!(rt; looks(alloc, true, false, ORDER_ALONE)?);
+    assert!(rt; looks(alloc, false, true, DIGEST_ALONE)?);
+    assert!(rt; looks(alloc, false, false, NEITHER)?);
     Ok(())
 }
 
@@ -244,7 +316,9 @@ fn a_file_that_stopped(rt: HostRuntime) -> Result<(), Fail> {
         kind: ChainKind::Truncated,
     };
     let want = "node 1\nblock 1\ntx 1 a1 committed\ntable acct\nheight 1\nstopped 7 Truncated\n";
-    assert!(rt; report(alloc, &tables(alloc)?, &nodes, Some(&stop))?.as_slice() == want.as_bytes());
+    assert!(rt;
+        report(alloc, &tables(alloc)?, &nodes, Some(&stop), &BARE)?.as_slice() == want.as_bytes()
+    );
     Ok(())
 }
 

@@ -1,5 +1,5 @@
 use Rattle.std.proofs.Common.{refl}
-use Rattle.cli_words.proofs.Orders.{only_seals}
+use Rattle.cli_words.proofs.Commands.{only_seals}
 use Rattle.cli_words.proofs.laws.only_seals.Goals as goal
 
 pub returns : goal.returns
