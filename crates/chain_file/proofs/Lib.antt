@@ -15,3 +15,4 @@ pub mod Lasting
 pub mod Longest
 pub mod Counted
 pub mod Stopped
+pub mod Held

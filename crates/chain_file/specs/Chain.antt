@@ -105,6 +105,11 @@ lasting (Some found) = cond (is_cut found.kind) None (Some found)
 abbrev pub walked : List ℕ → Walked
 walked bytes = walk front (parts_of bytes)
 
+-- how many bytes stand behind the last newline, where no fault was met before
+abbrev pub open_length : Result (Position × List ℕ) ChainFault → ℕ
+open_length (Err found) = 0
+open_length (Ok (at, rest)) = length rest
+
 -- the blocks that ended before the first fault, and that fault
 abbrev pub chain : List ℕ → List Block × Option ChainFault
 chain bytes = ((walked bytes).0, fault_at_end (walked bytes).1)

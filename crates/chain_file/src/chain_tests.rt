@@ -126,6 +126,44 @@ fn reads_in_two_pieces(rt: HostRuntime) -> Result<(), Fail> {
     Ok(())
 }
 
+/// Whether a reader gives so many blocks, wherever what stands behind a cut is cut once more.
+fn gives_in_three(alloc: Global, bytes: &[u8], cut: usize, blocks: usize) -> Result<bool, Fail> {
+    if cut > bytes.len() {
+        return Ok(false);
+    }
+    let (front, rest) = bytes.split_at(cut);
+    for again in 0..rest.len() {
+        if read_in(alloc, &[front, &rest[..again], &rest[again..]])? != (blocks, None) {
+            return Ok(false);
+        }
+    }
+    Ok(true)
+}
+
+#[test]
+fn reads_in_three_pieces(rt: HostRuntime) -> Result<(), Fail> {
+    let alloc = rt.alloc();
+    for cut in 0..FIRST.len() {
+        assert!(rt; gives_in_three(alloc, FIRST, cut, 1)?, "cut at {cut}");
+    }
+    Ok(())
+}
+
+#[test]
+fn holds_the_open_line(rt: HostRuntime) -> Result<(), Fail> {
+    let mut reader = Reader::new(rt.alloc());
+    assert_eq!(rt; reader.held(), 0);
+    reader.feed(b"dra")?;
+    assert_eq!(rt; reader.held(), 3);
+    reader.feed(b"ft 1\nblock 1\ntx a")?;
+    assert_eq!(rt; reader.held(), 4);
+    reader.feed(b"\n")?;
+    assert_eq!(rt; reader.held(), 0);
+    reader.feed(b"block 2")?;
+    assert_eq!(rt; reader.held(), 0);
+    Ok(())
+}
+
 #[test]
 fn reads_byte_by_byte(rt: HostRuntime) -> Result<(), Fail> {
     let alloc = rt.alloc();

@@ -1,10 +1,10 @@
 //! Block files, read in pieces.
 
-ghost use Rattle.std.specs.Prelude.{◌≡◌, ◌++◌, ◌∷◌, ℕ, List, [], Some, None, Result, Ok, Err, IfOk, IfSome, OnOk, OnErr, IfErr, length};
+ghost use Rattle.std.specs.Prelude.{◌≡◌, ◌≤◌, ◌++◌, ◌∷◌, ℕ, List, [], Some, None, Result, Ok, Err, IfOk, IfSome, OnOk, OnErr, IfErr, length};
 ghost use Rattle.std.specs.List.{flat_map};
 ghost use Rattle.std.specs.Prelude.{Option};
 ghost use Rattle.chain_file.specs.Lines.{parts_of};
-ghost use Rattle.chain_file.specs.Chain.{Position, chain, ended_blocks, fault_at_end, is_between, walk, walked};
+ghost use Rattle.chain_file.specs.Chain.{Position, chain, ended_blocks, fault_at_end, is_between, open_length, walk, walked};
 ghost use Rattle.chain_file.specs.Following.{Answers, EndsAs, Follows, Keeps, Reads, StandsAt, fault_met};
 
 use crate::advance::{LineStop, take_line};
@@ -177,6 +177,19 @@ impl Reader {
                 standing: Standing::front(),
                 held: List::new(alloc),
             },
+        }
+    }
+
+    /// How many bytes stand behind the last newline, which the reader keeps: at most 4,096, and none behind a fault.
+    #[tactic(auto, using(crate::proofs::Held::open_held, crate::proofs::Held::stopped_held))]
+    pub fn held(&self) -> usize
+        ensures held { (bytes : List ℕ) → Follows self.now bytes → result ≡ open_length (walked bytes).1 }
+        ensures most { (bytes : List ℕ) → Follows self.now bytes → result ≤ 4096 }
+        ensures stopped { (found : ChainFault) → fault_met self.now.state ≡ Some found → result ≡ 0 }
+    {
+        match &self.state {
+            State::Open { held, .. } => held.len(),
+            State::Stopped(_) => 0,
         }
     }
 
