@@ -1,6 +1,8 @@
 -- The fold of a chain of blocks: each transaction is decided on what the ones before it made.
+use Rattle.node_model.specs.BlockCode.{digest_of}
 use Rattle.node_model.specs.Decide.{decide, run_at}
-use Rattle.node_model.specs.History.{Sealed, snapshot}
+use Rattle.node_model.specs.History.{Sealed, placed_of, snapshot}
+use Rattle.node_model.specs.Order.{serial_order}
 use Rattle.node_model.specs.declared.outcome.Outcome.{Outcome}
 use Rattle.node_model.specs.declared.outcome.Outcome.TheVariants as outcome
 use Rattle.node_model.specs.declared.result.BlockResult.{BlockResult}
@@ -17,7 +19,7 @@ use Rattle.rel_base.specs.Tables.{Tables}
 use Rattle.rel_base.specs.declared.schema.TableDef.{TableDef}
 use Rattle.std.specs.FinMap as finite
 use Rattle.std.specs.List.{filter}
-use Rattle.std.specs.Prelude.{List, [], length, map, ℕ, ◌+◌, ◌++◌, ◌==◌, ◌∷◌}
+use Rattle.std.specs.Prelude.{List, [], length, map, replicate, ℕ, ◌+◌, ◌++◌, ◌==◌, ◌∷◌}
 
 -- a block in work: its outcomes so far, and its committed transactions
 pub record Work : Type 0 where
@@ -62,8 +64,33 @@ fold app blocks = fold_from app [] blocks
 
 -- ---- what a node reports
 
-abbrev pub block_result : Sealed → BlockResult
-block_result block = record { number = block.number; time = block.time; outcomes = block.outcomes }
+-- before the first block
+abbrev pub no_digest : List ℕ
+no_digest = replicate 32 0
+
+-- what is told of a block, with a digest
+abbrev pub result_with : List TableDef → Sealed → List ℕ → BlockResult
+result_with tables block digest = record {
+  number = block.number;
+  time = block.time;
+  outcomes = block.outcomes;
+  order = serial_order tables block.committed;
+  writes = placed_of block.committed;
+  digest = digest;
+}
+
+-- the result of a block, where the block before has a digest; the block's own digest has no part in its code
+abbrev pub block_result : List TableDef → List ℕ → Sealed → BlockResult
+block_result tables previous block = result_with tables block (digest_of previous (result_with tables block no_digest))
+
+-- the results of blocks, each with the digest of the one before
+abbrev pub results_from : List TableDef → List ℕ → List Sealed → List BlockResult
+results_from tables previous [] = []
+results_from tables previous (block ∷ rest) = block_result tables previous block ∷ results_from tables (block_result tables previous block).digest rest
+
+-- the results of a chain of blocks
+abbrev pub results_of : List TableDef → List Sealed → List BlockResult
+results_of tables chain = results_from tables no_digest chain
 
 -- the rows of a table in key order
 abbrev pub table_rows : Tables → ℕ → TableRows
@@ -77,6 +104,6 @@ all_rows tables number (declared ∷ rest) = table_rows tables number ∷ all_ro
 -- the report of a node on a chain of blocks: the result of each, and the tables after the last
 abbrev pub node_result : App → List Block → NodeResult
 node_result app blocks = record {
-  blocks = map block_result (fold app blocks);
+  blocks = results_of (tables_of app) (fold app blocks);
   tables = all_rows (snapshot (length (fold app blocks)) (fold app blocks)) 0 (tables_of app);
 }

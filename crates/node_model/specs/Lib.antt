@@ -1,6 +1,7 @@
 pub mod History
 pub mod Decide
-pub mod Fold
 pub mod Edges
 pub mod Danger
 pub mod Order
+pub mod BlockCode
+pub mod Fold

@@ -7,4 +7,4 @@ pub mod result;
 
 pub use dangerous::Danger;
 pub use outcome::{Clash, Late, Outcome};
-pub use result::{BlockResult, Committed, NodeResult, TableRows, Told};
+pub use result::{BlockResult, Committed, NO_DIGEST, NodeResult, TableRows, Told};

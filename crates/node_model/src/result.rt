@@ -1,7 +1,7 @@
 //! Results of blocks, and of a node.
 
 use crate::outcome::Outcome;
-use rel_base::{Id, List, Made, NoMemory, Row, Twin, Write};
+use rel_base::{Id, List, Made, NoMemory, Placed, Row, Twin, Write};
 use std::alloc::Global;
 
 /// A transaction's id and what became of it.
@@ -20,13 +20,23 @@ pub struct Committed {
     pub writes: List<Write>,
 }
 
-/// The result of a block: an outcome for each transaction in order.
+/// The digest before the first block.
+pub const NO_DIGEST: [u8; 32] = [0; 32];
+
+/// The result of a block.
 #[derive(Drop)]
 pub struct BlockResult {
     pub number: u64,
     /// In whole seconds, as the block says.
     pub time: i64,
+    /// An outcome for each transaction in order.
     pub outcomes: List<Told>,
+    /// The positions of the committed transactions, from 1, in their serial order.
+    pub order: List<u32>,
+    /// The net writes of the committed transactions by position, table and key.
+    pub writes: List<Placed>,
+    /// The SHA-256 of the digest of the block before and of the code of this result, in which the digest has no part.
+    pub digest: [u8; 32],
 }
 
 /// The rows of a table in key order.

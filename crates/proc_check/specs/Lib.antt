@@ -6,3 +6,4 @@ pub mod Statements
 pub mod Gives
 pub mod Apps
 pub mod Laws
+pub mod Sizes

@@ -1,11 +1,12 @@
 //! Checked applications.
 
-ghost use Rattle.std.specs.Prelude.{◌≡◌, ◌≤◌, None, IfOk, IfErr, Ok, length};
+ghost use Rattle.std.specs.Prelude.{◌≡◌, ◌≤◌, All, None, IfOk, IfErr, Ok, length};
 ghost use Rattle.proc_code.specs.Resolved.{code_of};
 ghost use Rattle.proc_syntax.specs.Declaring.{tables_of};
 ghost use Rattle.proc_syntax.specs.Call.{call_fault};
 ghost use Rattle.proc_check.specs.Apps.{walk_app, first_fault};
 ghost use Rattle.proc_check.specs.Gives.{IsFirst};
+ghost use Rattle.proc_check.specs.Sizes.{IsSmall};
 
 use crate::fault::CheckFault;
 use crate::procedures::check_procedures;
@@ -50,11 +51,13 @@ impl Checked {
         &self.app
     }
 
-    /// The declarations of its tables, with the names of key and index as the numbers of columns. There are at most 64.
-    #[tactic(auto, using(crate::proofs::Few::few_tables))]
+    /// The declarations of its tables, with the names of key and index as the numbers of columns. There are at most 64, each of at
+    /// most 32 columns with at most 8 in its key.
+    #[tactic(auto, using(crate::proofs::Few::few_tables, crate::proofs::Few::small_tables))]
     pub fn tables(&self) -> &List<TableDef>
         ensures tables { result.now ≡ tables_of self.now.app }
         ensures few { length (tables_of self.now.app) ≤ 64 }
+        ensures small { All IsSmall (tables_of self.now.app) }
     {
         &self.tables
     }

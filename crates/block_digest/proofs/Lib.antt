@@ -1,0 +1,8 @@
+pub mod Pushed
+pub mod Ascii
+pub mod Joins
+pub mod Outcomes
+pub mod Rising
+pub mod Blocks
+pub mod Whole
+pub mod Written

@@ -1,0 +1,37 @@
+//! The digest of a block's result.
+
+ghost use Rattle.std.specs.Prelude.{◌≡◌, ◌++◌, IfOk};
+ghost use Rattle.node_model.specs.BlockCode.{digest_of};
+ghost use Rattle.sha2.specs.Sha256.{sha256};
+ghost use Rattle.block_digest.specs.Codable.{IsCodable};
+
+use crate::write_block::encode;
+use node_model::BlockResult;
+use rel_base::NoMemory;
+use sha2::{Digest, Sha256};
+use std::alloc::Global;
+
+/// The SHA-256 of a digest and the bytes behind it.
+fn digest_behind(previous: &[u8; 32], code: &[u8]) -> [u8; 32]
+    ensures { result ≡ sha256 (previous.now ++ code.now) }
+{
+    let mut hasher = Sha256::new();
+    hasher.update(previous.as_slice());
+    hasher.update(code);
+    hasher.finalize()
+}
+
+/// The digest of a block's result, where the block before has a digest: before the first block, `NO_DIGEST` of `node_model`. The
+/// digest and the time that the result holds have no part in it. There are fewer than 2^32 outcomes, positions and writes, and at
+/// most 32 values in each key and row. The only refusal is want of memory, which is taken for the code of the result.
+pub fn digest_of(
+    alloc: Global,
+    previous: &[u8; 32],
+    block: &BlockResult,
+) -> Result<[u8; 32], NoMemory>
+    requires { IsCodable block.now }
+    ensures { IfOk result (λ digest. digest ≡ digest_of previous.now block.now) }
+{
+    let code = encode(alloc, block)?;
+    Ok(digest_behind(previous, code.as_slice()))
+}

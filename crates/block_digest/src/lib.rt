@@ -1,0 +1,17 @@
+//! The result of a block as bytes, and the digest by which nodes compare a whole chain of results.
+#![tactic(auto)]
+
+#[cfg(test)]
+mod decode_tests;
+pub mod digest;
+pub mod laws;
+pub mod read_block;
+pub mod read_outcome;
+#[cfg(test)]
+mod tests;
+pub mod write_block;
+pub mod write_outcome;
+
+pub use digest::digest_of;
+pub use read_block::{MOST_OUTCOMES, decode};
+pub use write_block::encode;

@@ -1,0 +1,261 @@
+//! The reader of a block's result.
+
+ghost use Rattle.std.specs.Prelude.{◌≡◌, cond, Some, None, IfOk, nat_le};
+ghost use Rattle.std.specs.Ordering.{is_lt};
+ghost use Rattle.canon_code.specs.Parts.{items_at, counted_at};
+ghost use Rattle.canon_code.specs.Reads.{Reads, Gives};
+ghost use Rattle.node_model.specs.BlockCode.{block_code};
+ghost use Rattle.rel_base.specs.Text.{has_id_form};
+ghost use Rattle.block_digest.specs.Codable.{IsCodable};
+ghost use Rattle.block_digest.specs.Decoding.{Decodes};
+ghost use Rattle.block_digest.specs.Grammar.{most_outcomes, most_counted, placed_cmp, HasBlockCode};
+ghost use Rattle.block_digest.specs.Readings.{small_at, id_at, told_at, is_position, position_at, placed_at, rise_behind, rise, outcomes_at, order_at, writes_at, block_at};
+
+use crate::read_outcome::read_outcome;
+use canon_code::short::read_short;
+use canon_code::{CodeFault, read_u32, read_u64, read_write};
+use node_model::{BlockResult, NO_DIGEST, Told};
+use rel_base::{Id, List, NameFault, Placed};
+use std::alloc::Global;
+
+/// The most transactions of a block.
+pub const MOST_OUTCOMES: u32 = 1024;
+
+/// The id of some bytes, if they are one.
+#[tactic(auto, using(crate::proofs::Ascii::no_id))]
+fn id_of(alloc: Global, bytes: &[u8]) -> Result<Id, CodeFault>
+    ensures { Gives result (cond (has_id_form bytes.now) (Some bytes.now) None) }
+{
+    let Ok(text) = std::str::from_utf8(bytes) else {
+        return Err(CodeFault::Bad);
+    };
+    match Id::new(alloc, text) {
+        Ok(id) => Ok(id),
+        Err(NameFault::NoMemory) => Err(CodeFault::NoMemory),
+        Err(NameFault::Bad) => Err(CodeFault::Bad),
+    }
+}
+
+/// Reads an id.
+fn read_id(alloc: Global, bytes: &[u8]) -> Result<(Id, &[u8]), CodeFault>
+    ensures { Reads result (id_at bytes.now) }
+{
+    let (found, rest) = read_short(bytes)?;
+    let id = id_of(alloc, found)?;
+    Ok((id, rest))
+}
+
+/// Reads a transaction: its id and its outcome.
+fn read_told(alloc: Global, bytes: &[u8]) -> Result<(Told, &[u8]), CodeFault>
+    ensures { Reads result (told_at bytes.now) }
+{
+    let (id, rest) = read_id(alloc, bytes)?;
+    let (outcome, rest) = read_outcome(alloc, rest)?;
+    Ok((Told { id, outcome }, rest))
+}
+
+/// Reads so many transactions.
+#[tactic(auto, using(canon_code::proofs::Loop::items_step, canon_code::proofs::Loop::items_stop, canon_code::proofs::Loop::items_done))]
+fn read_all_told(alloc: Global, count: u32, bytes: &[u8]) -> Result<(List<Told>, &[u8]), CodeFault>
+    ensures { Reads result (items_at told_at count bytes.now) }
+{
+    let mut outcomes = List::new(alloc);
+    let mut rest = bytes;
+    for _ in 0..count {
+        let (told, after) = read_told(alloc, rest)?;
+        outcomes.push(told)?;
+        rest = after;
+    }
+    Ok((outcomes, rest))
+}
+
+/// Reads so many transactions, if they are few enough for a block.
+fn read_few_told(alloc: Global, count: u32, bytes: &[u8]) -> Result<(List<Told>, &[u8]), CodeFault>
+    ensures { Reads result (cond (nat_le count most_outcomes) (items_at told_at count bytes.now) None) }
+{
+    if count > MOST_OUTCOMES {
+        return Err(CodeFault::Bad);
+    }
+    read_all_told(alloc, count, bytes)
+}
+
+/// Reads the transactions of a block.
+fn read_outcomes(alloc: Global, bytes: &[u8]) -> Result<(List<Told>, &[u8]), CodeFault>
+    ensures { Reads result (outcomes_at bytes.now) }
+{
+    let (count, rest) = read_u32(bytes)?;
+    read_few_told(alloc, count, rest)
+}
+
+/// Whether a position is one of a block of so many transactions.
+fn is_position(count: usize, position: u32) -> bool
+    ensures { result ≡ is_position count position }
+{
+    1 <= position && position as usize <= count
+}
+
+/// Reads a position of a block of so many transactions.
+fn read_position(count: usize, bytes: &[u8]) -> Result<(u32, &[u8]), CodeFault>
+    ensures { Reads result (position_at count bytes.now) }
+{
+    let (position, rest) = read_u32(bytes)?;
+    if !is_position(count, position) {
+        return Err(CodeFault::Bad);
+    }
+    Ok((position, rest))
+}
+
+/// Reads so many positions of a block of so many transactions. The number of positions may be any, so each takes its memory as it
+/// is read.
+#[tactic(auto, using(canon_code::proofs::Loop::items_step, canon_code::proofs::Loop::items_stop, canon_code::proofs::Loop::items_done))]
+fn read_positions(
+    alloc: Global,
+    count: usize,
+    positions: u32,
+    bytes: &[u8],
+) -> Result<(List<u32>, &[u8]), CodeFault>
+    ensures { Reads result (items_at (position_at count) positions bytes.now) }
+{
+    let mut order = List::new(alloc);
+    let mut rest = bytes;
+    for _ in 0..positions {
+        let (position, after) = read_position(count, rest)?;
+        order.push(position)?;
+        rest = after;
+    }
+    Ok((order, rest))
+}
+
+/// Reads the order of a block of so many transactions.
+fn read_order(alloc: Global, count: usize, bytes: &[u8]) -> Result<(List<u32>, &[u8]), CodeFault>
+    ensures { Reads result (order_at count bytes.now) }
+{
+    let (positions, rest) = read_u32(bytes)?;
+    read_positions(alloc, count, positions, rest)
+}
+
+/// Reads a write by a transaction of a block of so many.
+fn read_placed(alloc: Global, count: usize, bytes: &[u8]) -> Result<(Placed, &[u8]), CodeFault>
+    ensures { Reads result (placed_at count bytes.now) }
+{
+    let (placed, rest) = read_write(alloc, bytes)?;
+    if !is_position(count, placed.pos) {
+        return Err(CodeFault::Bad);
+    }
+    Ok((placed, rest))
+}
+
+/// Reads so many writes by transactions of a block of so many. The number of writes may be any, so each takes its memory as it is
+/// read.
+#[tactic(auto, using(canon_code::proofs::Loop::items_step, canon_code::proofs::Loop::items_stop, canon_code::proofs::Loop::items_done))]
+fn read_all_placed(
+    alloc: Global,
+    count: usize,
+    writes: u32,
+    bytes: &[u8],
+) -> Result<(List<Placed>, &[u8]), CodeFault>
+    ensures { Reads result (items_at (placed_at count) writes bytes.now) }
+{
+    let mut all = List::new(alloc);
+    let mut rest = bytes;
+    for _ in 0..writes {
+        let (placed, after) = read_placed(alloc, count, rest)?;
+        all.push(placed)?;
+        rest = after;
+    }
+    Ok((all, rest))
+}
+
+/// Whether a write stands before another: by position, then by table, then by key.
+fn stands_before(first: &Placed, second: &Placed) -> bool
+    ensures { result ≡ is_lt (placed_cmp first.now second.now) }
+{
+    let by_position = first.pos.cmp(&second.pos);
+    let by_table = first.write.table.cmp(&second.write.table);
+    let by_key = first.write.key.cmp(&second.write.key);
+    by_position.then(by_table.then(by_key)).is_lt()
+}
+
+/// Whether each of some writes stands after the one before it, the first after a given one.
+fn rise_behind(last: &Placed, writes: &[Placed]) -> bool
+    ensures { result ≡ rise_behind last.now writes.now }
+{
+    let mut last = last;
+    for next in writes {
+        if !stands_before(last, next) {
+            return false;
+        }
+        last = next;
+    }
+    true
+}
+
+/// Whether each write stands after the one before it.
+fn rise(writes: &[Placed]) -> bool
+    ensures { result ≡ rise writes.now }
+{
+    match writes {
+        [first, rest @ ..] => rise_behind(first, rest),
+        [] => true,
+    }
+}
+
+/// Reads writes behind their count.
+fn read_counted_writes(
+    alloc: Global,
+    count: usize,
+    bytes: &[u8],
+) -> Result<(List<Placed>, &[u8]), CodeFault>
+    ensures { Reads result (counted_at small_at most_counted (placed_at count) bytes.now) }
+{
+    let (writes, rest) = read_u32(bytes)?;
+    read_all_placed(alloc, count, writes, rest)
+}
+
+/// Reads the writes of a block of so many transactions.
+fn read_writes(
+    alloc: Global,
+    count: usize,
+    bytes: &[u8],
+) -> Result<(List<Placed>, &[u8]), CodeFault>
+    ensures { Reads result (writes_at count bytes.now) }
+{
+    let (writes, rest) = read_counted_writes(alloc, count, bytes)?;
+    if !rise(writes.as_slice()) {
+        return Err(CodeFault::Bad);
+    }
+    Ok((writes, rest))
+}
+
+/// Reads the block whose code stands at the front of the bytes, and answers what follows it too.
+fn read_block(alloc: Global, bytes: &[u8]) -> Result<(BlockResult, &[u8]), CodeFault>
+    ensures { Reads result (block_at bytes.now) }
+{
+    let (number, rest) = read_u64(bytes)?;
+    let (outcomes, rest) = read_outcomes(alloc, rest)?;
+    let (order, rest) = read_order(alloc, outcomes.len(), rest)?;
+    let (writes, rest) = read_writes(alloc, outcomes.len(), rest)?;
+    let block = BlockResult {
+        number,
+        time: 0,
+        outcomes,
+        order,
+        writes,
+        digest: NO_DIGEST,
+    };
+    Ok((block, rest))
+}
+
+/// The block whose code the bytes are, with time 0 and a digest of zeros, since a code holds neither. `Bad` exactly where the whole
+/// of the bytes is no code of a block of the grammar. Memory is taken for what was read alone, whatever the counts say.
+pub fn decode(alloc: Global, bytes: &[u8]) -> Result<BlockResult, CodeFault>
+    ensures decoded { Decodes block_code HasBlockCode bytes.now result }
+    // So what was read can be written again.
+    ensures codable { IfOk result IsCodable }
+{
+    let (block, rest) = read_block(alloc, bytes)?;
+    if !rest.is_empty() {
+        return Err(CodeFault::Bad);
+    }
+    Ok(block)
+}
