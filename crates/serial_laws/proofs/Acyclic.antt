@@ -1,20 +1,13 @@
 -- Why two forms of edges in a row suffice: where neither is there, every set has a source.
 use Rattle.std.proofs.Common.{Bool, List, arith, ap, false, inl, inr, not, refl, subst, sym, true, true≢false, ⊎_elim, [], ◌<◌, ◌∙◌, ◌≡◌, ◌≤◌, ◌∷◌, ℕ}
 use Rattle.rw_graph.proofs.Cases.{not_true}
-use Rattle.rw_graph.proofs.Lists.{In, contains_from, each_at, each_from, each_passes, in_from}
-use Rattle.serial_laws.proofs.Searches.{by_bool, not_false, some_fails}
-use Rattle.serial_laws.specs.Cycles.{HasNoCycle, HasSource, HasSources, IsPath}
+use Rattle.rw_graph.proofs.Lists.{In, contains_from, each_passes, in_from}
+use Rattle.serial_order.proofs.Each.{all_at, all_from}
+use Rattle.serial_order.proofs.Searches.{by_bool, not_false, some_fails}
+use Rattle.serial_order.specs.Cycles.{HasNoCycle, HasSource, HasSources, IsPath}
 use Rattle.std.proofs.lemmas.Bool.{cases_lt}
-use Rattle.std.proofs.lemmas.List.Elements.{All-from_recursion, recursion_from_All}
 use Rattle.std.specs.List.{list_all}
 use Rattle.std.specs.Prelude.{All, Contains}
-
-module _ {M : Type 0} where
-  pub all_at : (P : M → Type 0) (xs : List M) → All P xs → (x : M) → In x xs → P x
-  all_at P xs all = each_at P xs (recursion_from_All P xs all)
-
-  pub all_from : (P : M → Type 0) (xs : List M) → ((x : M) → In x xs → P x) → All P xs
-  all_from P xs f = All-from_recursion P xs (each_from P xs f)
 
 -- the earliest of some
 module _ {M : Type 0} (pos : M → ℕ) where

@@ -8,8 +8,8 @@ use Rattle.rel_base.specs.declared.schema.TableDef.{TableDef}
 use Rattle.rw_graph.proofs.Cases.{both_true, first_true, not_true, second_true}
 use Rattle.rw_graph.proofs.Lists.{In, Pairs, each_at, pairs_from}
 use Rattle.serial_laws.proofs.Acyclic.{HasNoForm, no_cycle, sources}
-use Rattle.serial_laws.proofs.Placed.{serial}
-use Rattle.serial_laws.proofs.Searches.{map_none, or_none, pair_none}
+use Rattle.serial_order.proofs.Placed.{serial}
+use Rattle.serial_order.proofs.Searches.{map_none, or_none, pair_none}
 use Rattle.serial_laws.specs.Decided.{AreAdmitted, MeetNoDanger}
 use Rattle.serial_laws.specs.Laws.{EdgesHaveNoCycle, OrderIsSerial, PositionsAreListed, SetsHaveSources}
 use Rattle.std.proofs.lemmas.Bool.{eq-eqb, le-leb, lt-ltb}

@@ -26,8 +26,8 @@ use Rattle.rel_base.specs.declared.access.Read.{Read}
 use Rattle.rel_base.specs.declared.access.Write.{Write}
 use Rattle.rel_base.specs.declared.schema.TableDef.{TableDef}
 use Rattle.rw_graph.proofs.Lists.{In}
-use Rattle.serial_laws.proofs.Acyclic.{all_at}
-use Rattle.serial_laws.proofs.Searches.{any_false, map_none}
+use Rattle.serial_order.proofs.Each.{all_at}
+use Rattle.serial_order.proofs.Searches.{any_false, map_none}
 use Rattle.serial_laws.proofs.Stories.{KeysApart, differs}
 use Rattle.std.specs.List.{list_any, position_from}
 use Rattle.std.specs.Option.{option_map}

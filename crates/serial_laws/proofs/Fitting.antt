@@ -9,7 +9,7 @@ use Rattle.rel_base.specs.declared.access.Write.{Write}
 use Rattle.rel_base.specs.declared.schema.TableDef.{TableDef}
 use Rattle.rel_base.specs.declared.value.Value.{Value}
 use Rattle.rw_graph.proofs.Lists.{In}
-use Rattle.serial_laws.proofs.Acyclic.{all_at}
+use Rattle.serial_order.proofs.Each.{all_at}
 use Rattle.serial_laws.proofs.Stories.{set_append}
 use Rattle.serial_laws.specs.Replay.{stamps}
 use Rattle.std.proofs.lemmas.Bool.{le-leb}

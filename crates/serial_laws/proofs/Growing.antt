@@ -19,7 +19,7 @@ use Rattle.rel_base.specs.Tables.{Finds, HistoryFits, Stamped, Tables, no_tables
 use Rattle.rel_base.specs.declared.access.Write.{Write}
 use Rattle.rel_base.specs.declared.schema.TableDef.{TableDef}
 use Rattle.rw_graph.proofs.Lists.{In, Pairs, each_at, each_from}
-use Rattle.serial_laws.proofs.Acyclic.{all_at, all_from}
+use Rattle.serial_order.proofs.Each.{all_at, all_from}
 use Rattle.serial_laws.proofs.Admitted.{in_append, order_is_serial}
 use Rattle.serial_laws.proofs.Fitting.{FitsAt, fits_stamps, made_fit, tables_fit}
 use Rattle.serial_laws.proofs.Folding.{admitted, at_end, of_block}
@@ -154,7 +154,7 @@ past_from app (block ∷ rest) chain last past numbered =
     subst (λ n. IsPast (tables_of app) n (fold_from app (chain ++ seal app chain block ∷ []) rest)) end
     (past_from app rest (chain ++ seal app chain block ∷ []) (last + 1) (subst (λ n. IsPast (tables_of app) n (chain ++ seal app chain block ∷ [])) numbered.0 (grown app chain block last past numbered.0)) numbered.1)
 
-fold_more : (app : App) (blocks : List Block) (block : Block) (chain : List Sealed) → fold_from app chain (blocks ++ block ∷ []) ≡ fold_from app chain blocks ++ seal app (fold_from app chain blocks) block ∷ []
+pub fold_more : (app : App) (blocks : List Block) (block : Block) (chain : List Sealed) → fold_from app chain (blocks ++ block ∷ []) ≡ fold_from app chain blocks ++ seal app (fold_from app chain blocks) block ∷ []
 fold_more app [] block chain = refl
 fold_more app (first ∷ rest) block chain = fold_more app rest block (chain ++ seal app chain first ∷ [])
 

@@ -1,7 +1,4 @@
-pub mod Searches
 pub mod Acyclic
-pub mod Placed
-pub mod Picked
 pub mod Admitted
 pub mod Stories
 pub mod Fitting
@@ -11,3 +8,4 @@ pub mod Past
 pub mod Folding
 pub mod Growing
 pub mod Positions
+pub mod Told

@@ -10,7 +10,7 @@ use Rattle.rel_base.specs.Late.{late}
 use Rattle.rel_base.specs.Tables.{HistoryFits, Stamped, Tables, no_tables, set_stamped, writes_between, writes_up_to}
 use Rattle.rel_base.specs.declared.schema.TableDef.{TableDef}
 use Rattle.rw_graph.proofs.Lists.{In, Pairs, each_at}
-use Rattle.serial_laws.proofs.Acyclic.{all_from}
+use Rattle.serial_order.proofs.Each.{all_from}
 use Rattle.serial_laws.proofs.Causes.{none_hit}
 use Rattle.serial_laws.proofs.Fitting.{AreMade, filter_all, filter_none}
 use Rattle.serial_laws.proofs.Replaying.{frame}

@@ -15,11 +15,11 @@ use Rattle.rel_base.specs.Late.{hits_in}
 use Rattle.rel_base.specs.Tables.{Finds, Tables, ref_cmp, ref_cmp-total, set_stamped, write_ref}
 use Rattle.rel_base.specs.declared.access.Made.{Made}
 use Rattle.rw_graph.proofs.Lists.{In, Pairs, each_at, pairs_both, pairs_from, pairs_weaker}
-use Rattle.serial_laws.proofs.Acyclic.{all_at, all_from}
+use Rattle.serial_order.proofs.Each.{all_at, all_from}
 use Rattle.serial_laws.proofs.Admitted.{Rises}
 use Rattle.serial_laws.proofs.Fitting.{AreMade, made_fit, made_more}
-use Rattle.serial_laws.proofs.Picked.{picks_from_permutation, picks_in, picks_pairs}
-use Rattle.serial_laws.proofs.Searches.{and_right, any_false}
+use Rattle.serial_order.proofs.Picked.{picks_from_permutation, picks_in, picks_pairs}
+use Rattle.serial_order.proofs.Searches.{and_right, any_false}
 use Rattle.serial_laws.proofs.Stories.{IsStory, KeysApart, each_stamp, own_story, puts_commute, rows_stay}
 use Rattle.serial_laws.specs.Replay.{IsRecorded, after_run, committed_run, replay, run_on, stamps, tx_at}
 use Rattle.serial_order.proofs.Taken.{Picks, Takes, here, nothing, pick, takes_in, takes_pairs, there}

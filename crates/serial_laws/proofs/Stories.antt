@@ -12,7 +12,7 @@ use Rattle.rel_base.specs.declared.access.Write.{Write}
 use Rattle.rel_base.specs.declared.schema.TableDef.{TableDef}
 use Rattle.rel_base.specs.declared.value.Value.{Value}
 use Rattle.rw_graph.proofs.Lists.{In, Pairs, each_at}
-use Rattle.serial_laws.proofs.Searches.{by_bool}
+use Rattle.serial_order.proofs.Searches.{by_bool}
 use Rattle.serial_laws.specs.Replay.{stamps}
 use Rattle.std.proofs.lemmas.Cmp.{tied_itself}
 use Rattle.std.specs.FinMap as finite

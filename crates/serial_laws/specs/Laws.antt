@@ -1,7 +1,7 @@
 -- The laws, each the contract of a function of the module `laws`.
 use Rattle.node_model.specs.Decide.{run_at, writes_since}
 use Rattle.node_model.specs.Edges.{edge, edge_at}
-use Rattle.node_model.specs.Fold.{fold, seal}
+use Rattle.node_model.specs.Fold.{fold, results_of, seal}
 use Rattle.node_model.specs.History.{snapshot, time_at}
 use Rattle.node_model.specs.Order.{IsSerialOrder, order, serial_order}
 use Rattle.node_model.specs.declared.result.Committed.{Committed}
@@ -14,9 +14,10 @@ use Rattle.proc_syntax.specs.declared.run.Ending.TheVariants.{Good}
 use Rattle.proc_syntax.specs.declared.tree.App.{App}
 use Rattle.rel_base.specs.Late.{late}
 use Rattle.rel_base.specs.declared.schema.TableDef.{TableDef}
-use Rattle.serial_laws.specs.Chained.{IsNext}
-use Rattle.serial_laws.specs.Cycles.{HasNoCycle, HasSources}
+use Rattle.serial_laws.specs.Chained.{AreNumbered, IsNext}
+use Rattle.serial_order.specs.Cycles.{HasNoCycle, HasSources}
 use Rattle.serial_laws.specs.Decided.{AreAdmitted}
+use Rattle.serial_laws.specs.InOrder.{EachInOrder, RunInOrder}
 use Rattle.serial_laws.specs.Replay.{IsRecorded, committed_run, replay}
 use Rattle.std.specs.Prelude.{All, AllPairs, IsPermutation, List, None, map, [], ◌++◌, ◌-◌, ◌<◌, ◌≡◌, ◌∷◌}
 
@@ -78,3 +79,12 @@ SerialOrdersReplay = (app : App) (blocks : List Block) (block : Block) → IsNex
 -- so the serial order of the committed transactions of a block replays
 abbrev pub TheOrderReplays : Type 0
 TheOrderReplays = (app : App) (blocks : List Block) (block : Block) → IsNext blocks block → Replays app blocks block (order (edge (tables_of app)) (seal app (fold app blocks) block).committed)
+
+-- and it is an order in which they run again
+abbrev pub TheOrderRuns : Type 0
+TheOrderRuns = (app : App) (blocks : List Block) (block : Block) → IsNext blocks block
+    → RunInOrder app blocks block (serial_order (tables_of app) (seal app (fold app blocks) block).committed)
+
+-- of blocks that are numbered from 1, the results that a node tells have such an order for each
+abbrev pub ResultsRun : Type 0
+ResultsRun = (app : App) (blocks : List Block) → AreNumbered 1 blocks → EachInOrder app blocks (results_of (tables_of app) (fold app blocks))

@@ -1,5 +1,5 @@
-pub mod Cycles
 pub mod Decided
 pub mod Replay
 pub mod Chained
+pub mod InOrder
 pub mod Laws

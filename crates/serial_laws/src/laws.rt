@@ -8,10 +8,12 @@ ghost use Rattle.serial_laws.specs.Laws.{
   OrderByPosition,
   OrderIsSerial,
   PositionsAreListed,
+  ResultsRun,
   RunsStay,
   SerialOrdersReplay,
   SetsHaveSources,
   TheOrderReplays,
+  TheOrderRuns,
 };
 
 /// Where each transaction of a block met no danger among those that committed before it, every non-empty set of them has one
@@ -69,4 +71,14 @@ pub fn serial_orders_replay()
 /// So they do along the serial order that is defined.
 pub fn the_order_replays()
     ensures { TheOrderReplays }
+{}
+
+/// Its positions are an order in which they run again: each stands there once, and what the runs are is what was recorded.
+pub fn the_order_runs()
+    ensures { TheOrderRuns }
+{}
+
+/// So of each block of a chain the results that are told have an order in which its committed transactions run again.
+pub fn results_run()
+    ensures { ResultsRun }
 {}

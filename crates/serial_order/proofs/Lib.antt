@@ -3,3 +3,8 @@ pub mod Mapped
 pub mod Maps
 pub mod Steps
 pub mod Checked
+pub mod Each
+pub mod Searches
+pub mod Picked
+pub mod Sources
+pub mod Placed

@@ -1,12 +1,13 @@
 -- The serial order places each member, and no edge leads back in it.
-use Rattle.std.proofs.Common.{Bool, List, None, Option, Some, ap, arith, length, not, false, suc, sym, true≢false, zero, [], ◌∙◌, ◌≡◌, ◌≤◌, ◌∷◌, ℕ}
+use Rattle.std.proofs.Common.{Bool, List, None, Option, Some, ap, arith, length, not, false, subst, suc, sym, true≢false, zero, [], ◌∙◌, ◌≡◌, ◌≤◌, ◌∷◌, ℕ}
 use Rattle.node_model.specs.Order.{IsSerialOrder, is_free, order, order_from, place, take_first}
 use Rattle.rw_graph.proofs.Cases.{not_true}
 use Rattle.rw_graph.proofs.Lists.{In, Pairs, contains_from, each_from, each_passes, in_from}
-use Rattle.serial_laws.proofs.Acyclic.{all_at, all_from}
-use Rattle.serial_laws.proofs.Picked.{picks_in}
-use Rattle.serial_laws.proofs.Searches.{all_pass}
-use Rattle.serial_laws.specs.Cycles.{HasSources}
+use Rattle.serial_order.proofs.Each.{all_at, all_from}
+use Rattle.serial_order.proofs.Picked.{picks_in}
+use Rattle.serial_order.proofs.Searches.{all_pass}
+use Rattle.serial_order.proofs.Sources.{sources_of}
+use Rattle.serial_order.specs.Cycles.{HasNoCycle, HasSources}
 use Rattle.serial_order.proofs.Taken.{IsTaken, Picks, all_pairs, nothing, pick, picks_permutation, taken, takes_length, takes_rest}
 use Rattle.std.specs.Prelude.{Contains}
 
@@ -46,3 +47,7 @@ module _ {M : Type 0} (edge : M → M → Bool) (members : List M) (sources : Ha
   serial =
       let f = placed (length members) members (omega arith) (λ t h. h) in
       record { permutation = picks_permutation members _ f.picks; forward = all_pairs (λ earlier later. edge later earlier ≡ false) _ f.pairs }
+
+-- the list that is the serial order, where there is no cycle
+pub serial_if : {M : Type 0} (edge : M → M → Bool) (members list : List M) → list ≡ order edge members → HasNoCycle edge members → IsSerialOrder edge members list
+serial_if edge members list is acyclic = subst (IsSerialOrder edge members) (sym is) (serial edge members (sources_of edge members acyclic))

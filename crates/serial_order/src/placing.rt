@@ -1,8 +1,9 @@
 //! The serial order, by counting the edges that come to each position from those that are left.
 
 ghost use Rattle.std.specs.Prelude.{ℕ, Bool, IfOk, IfSome, List, MatchOption, None, Some, map, vec_len, ◌<◌, ◌≡◌};
-ghost use Rattle.node_model.specs.Order.{order, take_first};
+ghost use Rattle.node_model.specs.Order.{IsSerialOrder, order, take_first};
 ghost use Rattle.rw_graph.specs.Graph.{has_edge, positions_of};
+ghost use Rattle.serial_order.specs.Cycles.{HasNoCycle};
 ghost use Rattle.serial_order.specs.Counts.{IsTakenAt, comers, entries, has_none, lowered};
 
 use crate::left::Left;
@@ -85,9 +86,10 @@ fn take_free(left: &mut Vec<Left>) -> Option<u32>
 }
 
 /// The positions of a set in serial order: again and again the earliest to which no edge comes from one that is left. Where the
-/// edges have no cycle, each position is placed.
+/// edges have no cycle, each position is placed once, and no edge leads from a later one to an earlier one.
 pub fn order(alloc: Global, set: &EdgeSet) -> Result<List<u32>, NoMemory>
-    ensures { IfOk result (λ list. list ≡ order (has_edge set.now) (positions_of set.now)) }
+    ensures order { IfOk result (λ list. list ≡ order (has_edge set.now) (positions_of set.now)) }
+    ensures serial { IfOk result (λ list. HasNoCycle (has_edge set.now) (positions_of set.now) → IsSerialOrder (has_edge set.now) (positions_of set.now) list) }
 {
     let mut left = counted(alloc, set)?;
     let mut list = List::new(alloc);

@@ -121,3 +121,126 @@ fn a_chain_to_earlier_ones_is_turned(rt: HostRuntime) -> Result<(), Fail> {
     assert!(rt; check_order(&set, &list));
     Ok(())
 }
+
+/// Numbers drawn one after another, by a linear congruence of Knuth's.
+#[derive(Drop)]
+struct Draws {
+    seed: u64,
+}
+
+impl Draws {
+    fn next(&mut self) -> u64 {
+        self.seed = self
+            .seed
+            .wrapping_mul(6364136223846793005)
+            .wrapping_add(1442695040888963407);
+        self.seed >> 33
+    }
+}
+
+/// A place in a hidden order of the positions 1 to 40, along which all drawn edges lead.
+fn rank(pos: u32) -> u32 {
+    pos.wrapping_mul(17) % 41
+}
+
+/// Some of the positions before one, of those to which an edge may lead from it, or else of those from which one may come.
+fn drawn_before(
+    alloc: Global,
+    draws: &mut Draws,
+    pos: u32,
+    leaves: bool,
+) -> Result<Vec<u32>, Fail> {
+    let mut drawn = Vec::new(alloc);
+    for other in 1..pos {
+        if draws.next() % 8 == 0 && (rank(pos) < rank(other)) == leaves {
+            drawn.push(other)?;
+        }
+    }
+    Ok(drawn)
+}
+
+/// A set of 40 positions with drawn edges, which have no cycle.
+fn drawn_set(alloc: Global, draws: &mut Draws) -> Result<EdgeSet, Fail> {
+    let mut set = EdgeSet::new(alloc);
+    for pos in 1..41u32 {
+        let out = drawn_before(alloc, draws, pos, true)?;
+        let into = drawn_before(alloc, draws, pos, false)?;
+        add(&mut set, pos, &out, &into)?;
+    }
+    Ok(set)
+}
+
+/// Whether no edge comes to a position from some others.
+fn is_free(set: &EdgeSet, left: &[u32], pos: u32) -> bool {
+    for from in left {
+        if set.has(*from, pos) {
+            return false;
+        }
+    }
+    true
+}
+
+/// The first of some positions to which no edge comes from them.
+fn first_free(set: &EdgeSet, left: &[u32]) -> Option<u32> {
+    for pos in left {
+        if is_free(set, left, *pos) {
+            return Some(*pos);
+        }
+    }
+    None
+}
+
+/// Some positions without one of them.
+fn without(alloc: Global, left: &[u32], pos: u32) -> Result<Vec<u32>, Fail> {
+    let mut others = Vec::new(alloc);
+    for other in left {
+        if *other != pos {
+            others.push(*other)?;
+        }
+    }
+    Ok(others)
+}
+
+/// The serial order by a plain scan: again and again the first of those that are left to which no edge comes from them.
+fn scanned(alloc: Global, set: &EdgeSet) -> Result<Vec<u32>, Fail> {
+    let mut left = set.positions().to_vec(alloc)?;
+    let mut list = Vec::new(alloc);
+    for _ in 0..set.positions().len() {
+        let pos = first_free(set, &left).ok_or("a cycle")?;
+        list.push(pos)?;
+        left = without(alloc, &left, pos)?;
+    }
+    Ok(list)
+}
+
+/// The list with the first two neighbours exchanged between which an edge leads.
+fn broken(alloc: Global, set: &EdgeSet, list: &[u32]) -> Result<Option<List<u32>>, Fail> {
+    for index in 1..list.len() {
+        if set.has(list[index - 1], list[index]) {
+            let mut swapped = list.to_vec(alloc)?;
+            swapped.swap(index - 1, index);
+            return Ok(Some(List::from_vec(swapped)));
+        }
+    }
+    Ok(None)
+}
+
+#[test]
+fn drawn_sets_are_ordered_as_by_a_scan(rt: HostRuntime) -> Result<(), Fail> {
+    let alloc = rt.alloc();
+    let mut draws = Draws { seed: 2026 };
+    let mut tried = 0u32;
+    for _ in 0..20 {
+        let set = drawn_set(alloc, &mut draws)?;
+        let list = order(alloc, &set)?;
+        let wanted = scanned(alloc, &set)?;
+        assert_eq!(rt; list.as_slice(), wanted.as_slice());
+        assert!(rt; check_order(&set, &list));
+        if let Some(list) = broken(alloc, &set, list.as_slice())? {
+            assert!(rt; !check_order(&set, &list));
+            tried = tried.wrapping_add(1);
+        }
+    }
+    assert!(rt; tried > 10);
+    Ok(())
+}

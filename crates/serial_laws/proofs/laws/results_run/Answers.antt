@@ -1,0 +1,5 @@
+use Rattle.serial_laws.proofs.Told.{results_run}
+use Rattle.serial_laws.proofs.laws.results_run.Goals as goal
+
+pub returns : goal.returns
+returns c = results_run

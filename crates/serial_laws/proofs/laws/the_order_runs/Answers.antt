@@ -1,0 +1,5 @@
+use Rattle.serial_laws.proofs.Told.{the_order_runs}
+use Rattle.serial_laws.proofs.laws.the_order_runs.Goals as goal
+
+pub returns : goal.returns
+returns c = the_order_runs
