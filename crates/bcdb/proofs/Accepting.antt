@@ -1,5 +1,5 @@
 -- What is read and checked is accepted.
-use Rattle.std.proofs.Common.{Bool, List, None, Option, Some, ap, arith, cond, false, length, refl, true, ◌∙◌, ◌≡◌, ◌≤◌, ℕ}
+use Rattle.std.proofs.Common.{Bool, List, None, Some, ap, arith, cond, false, length, refl, true, ◌∙◌, ◌≡◌, ◌≤◌, ℕ}
 use Rattle.std.specs.Prelude.{Err, Ok, Result, nat_le}
 use Rattle.bcdb.specs.Accepted.{accepted, sound, too_long, typed}
 use Rattle.bcdb.specs.declared.refusal.Refusal.{Refusal}

@@ -1,7 +1,7 @@
 -- How a call ends, by its reply.
-use Rattle.std.proofs.Common.{List, Option, length, subst, ℕ, ◌≡◌}
+use Rattle.std.proofs.Common.{List, Option, subst, ℕ, ◌≡◌}
 use Rattle.edge_traits.proofs.Fronts.{whole_is_front}
-use Rattle.edge_traits.specs.Sink.{WroteFront, appended}
+use Rattle.edge_traits.specs.Sink.{appended}
 use Rattle.bcdb.specs.Answer.{Answer, Ends, says}
 use Rattle.bcdb.specs.Reply.{Means}
 use Rattle.bcdb.specs.declared.decide.Reply.{Reply}

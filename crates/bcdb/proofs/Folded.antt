@@ -1,5 +1,5 @@
 -- A node that has processed the front of a list of blocks.
-use Rattle.std.proofs.Common.{List, [], ap, refl, ◌++◌, ◌∙◌, ◌≡◌, ◌∷◌}
+use Rattle.std.proofs.Common.{List, [], refl, ◌++◌, ◌≡◌, ◌∷◌}
 use Rattle.node_model.specs.Fold.{fold_from, seal}
 use Rattle.node_model.specs.History.{Sealed}
 use Rattle.proc_syntax.specs.declared.call.Block.{Block}

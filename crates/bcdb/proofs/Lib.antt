@@ -3,3 +3,4 @@ pub mod Ends
 pub mod Turns
 pub mod Folded
 pub mod Taken
+pub mod Orders

@@ -8,6 +8,7 @@ use Rattle.bcdb.specs.declared.status.Status.{Status}
 use Rattle.chain_file.specs.Chain.{chain}
 use Rattle.chain_file.specs.ChainText.{chain_text}
 use Rattle.cli_words.specs.Language.{settings_of}
+use Rattle.cli_words.specs.declared.flags.Flags.{Flags}
 use Rattle.cli_words.specs.declared.settings.Settings.TheVariants.{Run, Seal}
 use Rattle.cli_words.specs.declared.settings.Settings.{Settings}
 use Rattle.edge_traits.specs.Shelf.{Files}
@@ -19,6 +20,7 @@ use Rattle.proc_syntax.specs.declared.tree.App.{App}
 use Rattle.proc_syntax.specs.declared.chain_fault.ChainFault.{ChainFault}
 use Rattle.report_text.specs.Ending.{stopped_line}
 use Rattle.report_text.specs.Report.{report_text}
+use Rattle.report_text.specs.declared.look.Look.{Look}
 
 -- a status, and all that is written
 pub record Answer : Type 0 where
@@ -33,14 +35,18 @@ abbrev pub status_of : Option ChainFault → Status
 status_of None = Done
 status_of (Some fault) = ChainRefused
 
+-- what the flags of a run ask the report to show
+abbrev pub look_of : Flags → Look
+look_of flags = record { orders = flags.orders; digests = flags.digests }
+
 -- the blocks decide last: the report of those before the first fault, and where the file stopped
-abbrev pub over_blocks : App → List Block → Option ChainFault → Answer
-over_blocks app blocks stop = says (status_of stop) (report_text (tables_of app) (node_result app blocks ∷ []) stop)
+abbrev pub over_blocks : Look → App → List Block → Option ChainFault → Answer
+over_blocks look app blocks stop = says (status_of stop) (report_text look (tables_of app) (node_result app blocks ∷ []) stop)
 
 -- the application decides before the blocks
-abbrev pub over_app : Result App Refusal → List ℕ → Answer
-over_app (Err refusal) bytes = says AppRefused (refusal_line refusal)
-over_app (Ok app) bytes = over_blocks app (chain bytes).0 (chain bytes).1
+abbrev pub over_app : Look → Result App Refusal → List ℕ → Answer
+over_app look (Err refusal) bytes = says AppRefused (refusal_line refusal)
+over_app look (Ok app) bytes = over_blocks look app (chain bytes).0 (chain bytes).1
 
 -- a seal is the chain file of the blocks of a file without a fault, and else where the file stopped
 abbrev pub sealed : List Block → Option ChainFault → Answer
@@ -50,7 +56,7 @@ sealed blocks (Some fault) = says ChainRefused (stopped_line fault)
 -- the words decide first
 abbrev pub over_settings : Option Settings → Files → Answer
 over_settings None files = says Usage (codes "refused usage\n")
-over_settings (Some (Run app blocks)) files = over_app (accepted (files app)) (files blocks)
+over_settings (Some (Run app blocks flags)) files = over_app (look_of flags) (accepted (files app)) (files blocks)
 over_settings (Some (Seal blocks)) files = sealed (chain (files blocks)).0 (chain (files blocks)).1
 
 -- what the words mean over files

@@ -5,3 +5,4 @@ pub mod Answer
 pub mod Causes
 pub mod Reply
 pub mod Reading
+pub mod InOrder

@@ -14,7 +14,7 @@ use plain_node::PlainNode;
 use proc_check::Checked;
 use proc_syntax::{Block, ChainFault};
 use rel_base::{List, NoMemory};
-use report_text::{report, stopped_line};
+use report_text::{Look, report, stopped_line};
 use row_sets::Versions;
 use std::alloc::Global;
 use std::sync::Arc;
@@ -37,14 +37,19 @@ pub fn run_blocks<V: Versions>(
 }
 
 // The report of the blocks before the first fault.
-fn report_blocks(alloc: Global, app: &Arc<Checked>, read: &Fed) -> Result<List<u8>, NoMemory>
+fn report_blocks(
+    alloc: Global,
+    look: &Look,
+    app: &Arc<Checked>,
+    read: &Fed,
+) -> Result<List<u8>, NoMemory>
     requires { NumberedFrom 1 read.now.blocks }
-    ensures { IfOk result (λ bytes. bytes ≡ (over_blocks app.now.value.app read.now.blocks read.now.fault).bytes) }
+    ensures { IfOk result (λ bytes. bytes ≡ (over_blocks look.now app.now.value.app read.now.blocks read.now.fault).bytes) }
 {
     let node = run_blocks::<IndexVersions>(alloc, app, read.blocks.as_slice())?;
     let mut nodes = List::new(alloc);
     nodes.push(node)?;
-    report(alloc, app.tables(), &nodes, read.fault.as_ref())
+    report(alloc, app.tables(), &nodes, read.fault.as_ref(), look)
 }
 
 // Whether the block file was read to its end.
@@ -58,14 +63,14 @@ fn status_of(fault: Option<ChainFault>) -> Status
 }
 
 /// The reply over an accepted application and what a block file gave.
-pub fn answer_blocks(alloc: Global, app: Checked, read: &Fed) -> Result<Reply, NoMemory>
+pub fn answer_blocks(alloc: Global, look: Look, app: Checked, read: &Fed) -> Result<Reply, NoMemory>
     requires { NumberedFrom 1 read.now.blocks }
-    ensures means { IfOk result (λ reply. Means (over_blocks app.app read.now.blocks read.now.fault) reply) }
+    ensures means { IfOk result (λ reply. Means (over_blocks look app.app read.now.blocks read.now.fault) reply) }
     ensures kind { IfOk result (λ reply. is_of_files reply.status ≡ true) }
     ensures read { IfOk result (λ reply. reply.status ≡ Status.ReadFault → ⊥) }
 {
     let app = Arc::new(alloc, app)?;
-    let bytes = report_blocks(alloc, &app, read)?;
+    let bytes = report_blocks(alloc, &look, &app, read)?;
     Ok(Reply {
         status: status_of(read.fault),
         bytes,

@@ -1,5 +1,5 @@
 -- Each cause is an abort: with it the committed transactions stay as they are.
-use Rattle.std.proofs.Common.{Bool, List, None, Option, Some, cond, false, map, refl, sym, subst, true, ◌≡◌, ℕ}
+use Rattle.std.proofs.Common.{Bool, List, None, Option, Some, cond, false, map, refl, subst, true, ◌≡◌, ℕ}
 use Rattle.std.specs.Option.{option_map}
 use Rattle.std.specs.Prelude.{nat_le, slice_get}
 use Rattle.node_model.specs.Decide.{bad_call, clash, conflict_outcome, fault_outcome, late_outcome, or_else}

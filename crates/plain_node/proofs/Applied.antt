@@ -1,16 +1,17 @@
 -- The writes of a block are applied, and the node follows the chain with the block.
-use Rattle.std.proofs.Common.{All, Bool, List, None, Option, Some, [], ap, append_assoc, arith, inl, inr, length, map, refl, subst, sym, ◌++◌, ◌+◌, ◌<◌, ◌∙◌, ◌≡◌, ◌≤◌, ◌∷◌, ◌⊎◌, ℕ}
+use Rattle.std.proofs.Common.{All, List, [], ap, append_assoc, arith, inl, inr, length, refl, subst, sym, ◌++◌, ◌+◌, ◌<◌, ◌∙◌, ◌≡◌, ◌≤◌, ◌∷◌, ℕ}
 use Rattle.std.proofs.lemmas.List.Elements.{All-append, All-cons, All-map, All-nil, All-same, All-weaker}
-use Rattle.std.proofs.lemmas.List.{append-nil, length-append, length-map, map-append}
+use Rattle.std.proofs.lemmas.List.{length-append}
 use Rattle.std.specs.List.{list_any}
 use Rattle.std.specs.Str.{bytes_eq}
 use Rattle.node_model.specs.Fold.{block_result, no_work, seal, sealed_as, work_through}
 use Rattle.node_model.specs.History.{Sealed, history_of, ids_of, ids_told, stamped_of}
 use Rattle.node_model.specs.declared.result.BlockResult.{BlockResult}
 use Rattle.node_model.specs.declared.result.Committed.{Committed}
-use Rattle.plain_node.proofs.Grown.{history_grown, ids_grown, stamps_placed}
+use Rattle.plain_node.proofs.Grown.{history_grown, ids_grown, results_grown, stamps_placed}
 use Rattle.plain_node.specs.Following.{AreCommitted, Follows, IsSound, IsUpTo, stamps}
 use Rattle.plain_node.specs.Ids.{HasIds}
+use Rattle.plain_node.specs.Telling.{last_digest}
 use Rattle.plain_node.specs.Working.{work_of}
 use Rattle.plain_node.specs.declared.work.Working.{Working}
 use Rattle.proc_syntax.specs.Declaring.{tables_of}
@@ -74,19 +75,21 @@ module _ (app : App) (chain : List Sealed) (history : List Stamped) (ids : List 
   sealed_is : work_of working ≡ work_through app chain block.number no_work block.txs → sealed_as block (work_of working) ≡ seal app chain block
   sealed_is is = ap (sealed_as block) is
 
-  pub block_follows : (history' : List Stamped) (ids' : List (List ℕ)) (blocks' : List BlockResult) → Follows chain history ids blocks
+  pub block_follows : (history' : List Stamped) (ids' : List (List ℕ)) (blocks' : List BlockResult) (told : BlockResult) → Follows (tables_of app) chain history ids blocks
       → work_of working ≡ work_through app chain block.number no_work block.txs
       → HasIds ids' (ids_of chain ++ ids_told working.outcomes)
       → history' ≡ history ++ stamps block.number working.committed
-      → blocks' ≡ blocks ++ record { number = block.number; time = block.time; outcomes = working.outcomes } ∷ []
-      → Follows (chain ++ seal app chain block ∷ []) history' ids' blocks'
-  block_follows history' ids' blocks' follows work has wrote made = record {
+      → told ≡ block_result (tables_of app) (last_digest blocks) (sealed_as block (work_of working))
+      → blocks' ≡ blocks ++ told ∷ []
+      → Follows (tables_of app) (chain ++ seal app chain block ∷ []) history' ids' blocks'
+  block_follows history' ids' blocks' told follows work has wrote tells made = record {
     writes = wrote ∙ ap (λ before. before ++ stamps block.number working.committed) follows.writes
         ∙ ap (λ after. history_of chain ++ after) (stamps_placed block.number working.committed)
         ∙ ap (λ sealed. history_of chain ++ stamped_of sealed) (sealed_is work) ∙ sym (history_grown chain (seal app chain block));
     known = λ id. has id ∙ ap (list_any (bytes_eq id)) (ap (λ sealed. ids_of chain ++ ids_told sealed.outcomes) (sealed_is work) ∙ sym (ids_grown chain (seal app chain block)));
-    results = made ∙ ap (λ before. before ++ record { number = block.number; time = block.time; outcomes = working.outcomes } ∷ []) follows.results
-        ∙ ap (λ sealed. map block_result chain ++ block_result sealed ∷ []) (sealed_is work) ∙ sym (map-append block_result chain (seal app chain block ∷ []));
+    results = made ∙ ap (λ last. blocks ++ last ∷ []) (tells ∙ ap (block_result (tables_of app) (last_digest blocks)) (sealed_is work))
+        ∙ ap (λ before. before ++ block_result (tables_of app) (last_digest before) (seal app chain block) ∷ []) follows.results
+        ∙ sym (results_grown (tables_of app) chain (seal app chain block));
   }
 
 -- ---- what a node needs of its store

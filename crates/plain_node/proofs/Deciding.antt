@@ -1,11 +1,10 @@
 -- What was decided of a transaction is what the definition decides.
-use Rattle.std.proofs.Common.{Bool, List, None, Option, Some, ap, map, refl, subst, sym, ◌++◌, ◌-◌, ◌∙◌, ◌≡◌, ℕ}
+use Rattle.std.proofs.Common.{Bool, List, None, Option, Some, ap, map, refl, sym, ◌++◌, ◌-◌, ◌∙◌, ◌≡◌, ℕ}
 use Rattle.std.specs.Prelude.{Err, IfOk, Ok, Result, ℤ}
 use Rattle.std.specs.List.{list_any}
 use Rattle.std.specs.Str.{bytes_eq}
 use Rattle.node_model.specs.Danger.{danger}
-use Rattle.node_model.specs.Decide.{by_run, clash, conflict_outcome, danger_outcome, decide, early, fault_outcome, late_outcome, or_committed, or_else, run_at, writes_since}
-use Rattle.node_model.specs.Fold.{join_committed}
+use Rattle.node_model.specs.Decide.{by_run, clash, conflict_outcome, danger_outcome, decide, fault_outcome, late_outcome, or_committed, or_else, run_at}
 use Rattle.node_model.specs.History.{Sealed, history_of, ids_of, ids_told}
 use Rattle.node_model.specs.declared.outcome.Outcome.{Outcome}
 use Rattle.node_model.specs.declared.result.Committed.{Committed}

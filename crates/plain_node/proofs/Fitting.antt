@@ -1,12 +1,12 @@
 -- The tables of a history that fits, and the run of a call on them.
-use Rattle.std.proofs.Common.{All, Bool, IfSome, List, None, Option, Some, [], arith, false, length, refl, subst, sym, true, ◌&&◌, ◌+◌, ◌<◌, ◌^◌, ◌≡◌, ◌∷◌, ℕ}
+use Rattle.std.proofs.Common.{Bool, IfSome, List, None, Option, Some, [], arith, false, refl, subst, sym, true, ◌&&◌, ◌≡◌, ◌∷◌, ℕ}
 use Rattle.std.proofs.lemmas.List.Elements.{All-weaker}
 use Rattle.std.specs.List.{AllPairs}
 use Rattle.std.specs.Ordering.{is_lt}
 use Rattle.std.specs.Prelude.{IsSomeAnd, IsTrue, slice_get, suc, ℤ}
 use Rattle.std.specs.declared.cmp.Ordering.TheVariants.{Less}
 use Rattle.plain_node.specs.Following.{IsFit}
-use Rattle.proc_syntax.proofs.Runs.{few_reads, reads_fit, writes_fit, writes_in_order}
+use Rattle.proc_syntax.proofs.Runs.{few_reads, few_writes, reads_fit, writes_fit, writes_in_order}
 use Rattle.proc_syntax.specs.Declaring.{tables_of}
 use Rattle.proc_syntax.specs.Run.{run}
 use Rattle.proc_syntax.specs.declared.call.Tx.{Tx}
@@ -14,7 +14,7 @@ use Rattle.proc_syntax.specs.declared.run.Ran.{Ran}
 use Rattle.proc_syntax.specs.declared.tree.App.{App}
 use Rattle.rel_base.proofs.KeyOrder.{All-tables_at}
 use Rattle.rel_base.specs.Access.{PartFits, WriteFits}
-use Rattle.rel_base.specs.Among.{ReadFitsIn, StandsIn, TablesFit, WriteFitsIn}
+use Rattle.rel_base.specs.Among.{StandsIn, TablesFit, WriteFitsIn}
 use Rattle.rel_base.specs.Schema.{RowFits, key_of_row}
 use Rattle.rel_base.specs.Tables.{HistoryFits, Stamped, Tables, ref_cmp, seen_at, tables_at, write_ref}
 use Rattle.rel_base.specs.declared.access.Seen.{Seen}
@@ -75,12 +75,13 @@ pub rising : (writes : List Write) → AllPairs Precedes writes → IsTrue (are_
 rising [] pairs = refl
 rising (write ∷ writes) pairs = rising_from write writes pairs
 
-run_is_fit : (app : App) (tx : Tx) (time : ℤ) (at_height : Tables) → TablesFit (tables_of app) at_height → IsFit (tables_of app) (run app tx time at_height)
+pub run_is_fit : (app : App) (tx : Tx) (time : ℤ) (at_height : Tables) → TablesFit (tables_of app) at_height → IsFit (tables_of app) (run app tx time at_height)
 run_is_fit app tx time at_height fit = record {
   reads = reads_fit app tx time at_height;
   writes = writes_fit app tx time at_height fit;
   rise = rising (run app tx time at_height).writes (writes_in_order app tx time at_height);
   few = omega (arith, few_reads app tx time at_height);
+  few_writes = few_writes app tx time at_height;
 }
 
 pub fits_history : (app : App) (tables : List TableDef) (tx : Tx) (time : ℤ) (height : ℕ) (history : List Stamped) (ran : Ran) → tables ≡ tables_of app → HistoryFits tables history

@@ -1,19 +1,14 @@
 -- A block in work goes on as the definition says.
-use Rattle.std.proofs.Common.{All, Bool, IfSome, List, None, Option, Some, [], ap, append_assoc, arith, length, map, refl, subst, sym, true, false, ◌||◌, ◌++◌, ◌+◌, ◌<◌, ◌∙◌, ◌≡◌, ◌≤◌, ◌∷◌, ℕ}
-use Rattle.std.proofs.lemmas.List.{length-append, map-append}
+use Rattle.std.proofs.Common.{Bool, List, [], ap, append_assoc, length, refl, sym, true, false, ◌||◌, ◌++◌, ◌+◌, ◌∙◌, ◌≡◌, ◌∷◌, ℕ}
+use Rattle.std.proofs.lemmas.List.{map-append}
 use Rattle.std.specs.List.{list_any}
-use Rattle.std.specs.Prelude.{Err, IsTrue, Ok, OnOk, Result, ℤ}
+use Rattle.std.specs.Prelude.{Err, IfOk, Ok, OnOk, Result, ℤ}
 use Rattle.std.specs.Str.{bytes_eq}
 use Rattle.node_model.specs.Decide.{decide, run_at}
 use Rattle.node_model.specs.Fold.{join_committed, work_on}
 use Rattle.node_model.specs.History.{Sealed, history_of, ids_of, ids_told}
-use Rattle.node_model.specs.declared.outcome.Outcome.{Outcome}
-use Rattle.node_model.specs.declared.outcome.Outcome.TheVariants as outcome
-use Rattle.node_model.specs.declared.result.Committed.{Committed}
 use Rattle.node_model.specs.declared.result.Told.{Told}
 use Rattle.plain_node.proofs.Deciding.{decided_is, run_is}
-use Rattle.plain_node.proofs.Grown.{committed_grown, committed_longer}
-use Rattle.plain_node.specs.Following.{AreCommitted}
 use Rattle.plain_node.specs.Ids.{AddsId, HasIds, has_key}
 use Rattle.plain_node.specs.Working.{decided_by, joined, work_of}
 use Rattle.plain_node.specs.declared.work.Decided.{Decided}
@@ -21,11 +16,7 @@ use Rattle.plain_node.specs.declared.work.Working.{Working}
 use Rattle.proc_syntax.specs.Run.{run}
 use Rattle.proc_syntax.specs.declared.call.Tx.{Tx}
 use Rattle.proc_syntax.specs.declared.tree.App.{App}
-use Rattle.proc_syntax.specs.declared.run.Ran.{Ran}
-use Rattle.rel_base.specs.Among.{WriteFitsIn}
 use Rattle.rel_base.specs.Tables.{Stamped, tables_at}
-use Rattle.rel_base.specs.declared.schema.TableDef.{TableDef}
-use Rattle.row_sets.specs.Versions.{are_rising}
 
 -- what holds anyway holds where a call succeeds
 pub on_ok : {T E : Type 0} (answer : Result T E) (P : Type 0) → P → OnOk answer P
@@ -36,6 +27,11 @@ on_ok (Err fault) P holds = tt
 pub on_ok_then : {T E : Type 0} (answer : Result T E) (Before After : Type 0) → OnOk answer Before → (Before → After) → OnOk answer After
 on_ok_then (Ok value) Before After holds follows = follows holds
 on_ok_then (Err fault) Before After holds follows = tt
+
+-- what follows of what a call gives
+pub if_ok_then : {T E : Type 0} (answer : Result T E) (Before After : T → Type 0) → IfOk answer Before → ((value : T) → Before value → After value) → IfOk answer After
+if_ok_then (Ok value) Before After holds follows = follows value holds
+if_ok_then (Err fault) Before After holds follows = tt
 
 -- ---- ids
 

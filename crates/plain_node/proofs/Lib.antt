@@ -9,3 +9,6 @@ pub mod Applied
 pub mod Started
 pub mod WholeRows
 pub mod Fitting
+pub mod Few
+pub mod Tells
+pub mod Replayed

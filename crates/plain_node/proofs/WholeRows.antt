@@ -1,18 +1,17 @@
 -- A read that covers each row of a table gets the table's rows.
-use Rattle.std.proofs.Common.{Bool, List, None, Option, Some, [], ap, false, map, refl, sym, true, ◌&&◌, ◌++◌, ◌==◌, ◌∙◌, ◌≡◌, ◌∷◌, ℕ}
-use Rattle.std.proofs.lemmas.List.{length-map}
+use Rattle.std.proofs.Common.{Bool, List, Some, [], ap, false, map, refl, true, ◌&&◌, ◌==◌, ◌∙◌, ◌≡◌, ◌∷◌, ℕ}
+use Rattle.plain_node.proofs.Grown.{results_length}
 use Rattle.std.specs.FinMap as finite
 use Rattle.std.specs.List.{filter}
 use Rattle.std.specs.Prelude.{cond, length, slice_get}
-use Rattle.node_model.specs.Fold.{all_rows, block_result, table_rows}
-use Rattle.node_model.specs.History.{Sealed, history_of, snapshot}
+use Rattle.node_model.specs.Fold.{all_rows, no_digest, results_of, table_rows}
+use Rattle.node_model.specs.History.{Sealed, snapshot}
 use Rattle.node_model.specs.declared.result.BlockResult.{BlockResult}
 use Rattle.node_model.specs.declared.result.TableRows.{TableRows}
-use Rattle.plain_node.specs.Ids.{HasIds}
 use Rattle.plain_node.specs.Following.{Follows}
 use Rattle.rel_base.specs.Access.{covers_row, read_table}
 use Rattle.rel_base.specs.Among.{rows_by, rows_in}
-use Rattle.rel_base.specs.Tables.{Stamped, Tables, is_read, rows, tables_at}
+use Rattle.rel_base.specs.Tables.{Stamped, Tables, is_read, tables_at}
 use Rattle.rel_base.specs.declared.access.Read.{Read}
 use Rattle.rel_base.specs.declared.access.Seen.{Seen}
 use Rattle.rel_base.specs.declared.schema.TableDef.{TableDef}
@@ -46,15 +45,15 @@ whole_rows tables def read number at_height declared same covers =
 
 -- ---- the report of a node
 
-pub report_is : (app : App) (chain : List Sealed) (history : List Stamped) (ids : List (List ℕ)) (blocks : List BlockResult) (made : NodeResult) → Follows chain history ids blocks
+pub report_is : (app : App) (chain : List Sealed) (history : List Stamped) (ids : List (List ℕ)) (blocks : List BlockResult) (made : NodeResult) → Follows (tables_of app) chain history ids blocks
     → made.blocks ≡ blocks → made.tables ≡ all_rows (tables_at (length blocks) history) 0 (tables_of app)
-    → made ≡ record { blocks = map block_result chain; tables = all_rows (snapshot (length chain) chain) 0 (tables_of app) }
+    → made ≡ record { blocks = results_of (tables_of app) chain; tables = all_rows (snapshot (length chain) chain) 0 (tables_of app) }
 report_is app chain history ids blocks made follows results tables =
-    let count : length blocks ≡ length chain = ap length follows.results ∙ length-map chain block_result in
+    let count : length blocks ≡ length chain = ap length follows.results ∙ results_length (tables_of app) no_digest chain in
     let listed : made.tables ≡ all_rows (snapshot (length chain) chain) 0 (tables_of app) =
     tables ∙ ap (λ height. all_rows (tables_at height history) 0 (tables_of app)) count
     ∙ ap (λ writes. all_rows (tables_at (length chain) writes) 0 (tables_of app)) follows.writes in
-    let told : made.blocks ≡ map block_result chain = results ∙ follows.results in
+    let told : made.blocks ≡ results_of (tables_of app) chain = results ∙ follows.results in
     λ i. record { blocks = told i; tables = listed i }
 
 -- rows as those of the table of a number

@@ -1,10 +1,11 @@
 -- Committed transactions of a block, and a set of the edges between them.
-use Rattle.std.proofs.Common.{All, Bool, IfSome, List, None, Option, Some, [], ap, arith, length, map, refl, subst, sym, true, false, ◌++◌, ◌+◌, ◌<◌, ◌∙◌, ◌≡◌, ◌≤◌, ◌∷◌, ℕ}
+use Rattle.std.proofs.Common.{All, Bool, IfSome, List, None, Option, Some, [], ap, arith, length, map, subst, sym, true, false, ◌++◌, ◌+◌, ◌<◌, ◌∙◌, ◌≡◌, ◌≤◌, ◌∷◌, ℕ}
 use Rattle.std.proofs.lemmas.List.Elements.{All-append, All-cons, All-map, All-nil, All-same, All-weaker, recursion_from_All}
 use Rattle.std.proofs.lemmas.List.Kept.{AllPairs-cons}
 use Rattle.std.proofs.lemmas.List.{length-append, map-append}
 use Rattle.std.specs.List.{AllByRecursion}
 use Rattle.std.specs.Prelude.{AllPairs, MatchOption}
+use Rattle.block_digest.specs.Codable.{HasFewKey}
 use Rattle.node_model.specs.Danger.{danger, danger_among}
 use Rattle.node_model.specs.Edges.{comes_from, edge_at, leads_to}
 use Rattle.node_model.specs.declared.result.Committed.{Committed}
@@ -12,7 +13,7 @@ use Rattle.node_model.specs.declared.result.Told.{Told}
 use Rattle.plain_node.proofs.Grown.{committed_grown, committed_longer}
 use Rattle.plain_node.specs.Following.{AreCommitted}
 use Rattle.plain_node.specs.InWork.{CanJoin, HasJoined, IsJoining, IsWorking, KeepsEdges}
-use Rattle.plain_node.specs.Working.{joined}
+use Rattle.plain_node.specs.Working.{joined, marked}
 use Rattle.plain_node.specs.declared.work.Joining.{Joining}
 use Rattle.plain_node.specs.declared.work.Working.{Working}
 use Rattle.proc_syntax.specs.declared.run.Ran.{Ran}
@@ -22,13 +23,15 @@ use Rattle.rw_graph.specs.Fitting.{IsMember, ReadsFit}
 use Rattle.rw_graph.specs.Graph.{has_edge, positions_of, with_position}
 use Rattle.rw_graph.specs.Held.{holds}
 use Rattle.rw_graph.specs.Laws.{places}
+use Rattle.rw_graph.specs.Marking.{marks_of}
 use Rattle.rw_graph.specs.Sets.{AreAmong, is_among}
 use Rattle.rw_graph.specs.declared.edge_set.EdgeSet.{EdgeSet}
 use Rattle.rw_graph.specs.declared.row.Edges.{Edges}
+use Rattle.rw_graph.specs.declared.touch_marks.Marks.{Marks}
 
 -- ---- positions
 
-low_below : (tables : List TableDef) (low high : ℕ) (committed : List Committed) → AreCommitted tables low committed high → low ≤ high
+pub low_below : (tables : List TableDef) (low high : ℕ) (committed : List Committed) → AreCommitted tables low committed high → low ≤ high
 low_below tables low high [] are = are
 low_below tables low high (done ∷ rest) are = let below = low_below tables done.pos high rest are.3 in omega (arith, are.0, below)
 
@@ -46,7 +49,7 @@ all_under : (tables : List TableDef) (high pos : ℕ) (committed : List Committe
 all_under tables high pos committed are above =
     All-weaker (IsBetween 0 high) (λ done. done.pos < pos) (λ done between. let within = between.1 in omega (arith, within, above)) committed (all_between tables 0 high committed are)
 
-rising : (tables : List TableDef) (low high : ℕ) (committed : List Committed) → AreCommitted tables low committed high → AllPairs (λ earlier later. earlier.pos < later.pos) committed
+pub rising : (tables : List TableDef) (low high : ℕ) (committed : List Committed) → AreCommitted tables low committed high → AllPairs (λ earlier later. earlier.pos < later.pos) committed
 rising tables low high [] are = λ i j d lt within. absurd (omega (arith, within))
 rising tables low high (done ∷ rest) are =
     AllPairs-cons (λ (earlier later : Committed). earlier.pos < later.pos) done rest
@@ -112,47 +115,72 @@ keeps_more tables before after committed high pos joining are above keeps joins 
       ∙ grown tables committed done (all_under tables high pos committed are above) from to;
 }
 
-module _ (tables : List TableDef) (old new : Working) (is : IsWorking tables old) (longer : length new.outcomes ≡ length old.outcomes + 1) where
-  after_abort : new.committed ≡ old.committed → new.edges ≡ old.edges → IsWorking tables new
-  after_abort same edges = record {
+-- the marks of committed transactions
+abbrev marks_of_all : List Committed → List Marks
+marks_of_all committed = map (λ done. marks_of done.reads done.writes) committed
+
+abbrev HasFew : Committed → Type 0
+HasFew done = length done.writes ≤ 100000
+
+module _ (tables : List TableDef) (old new : Working) (is : IsWorking tables old) (longer : length new.outcomes ≡ length old.outcomes + 1)
+    (keys : All (λ told. HasFewKey told.outcome) new.outcomes) where
+  after_abort : new.committed ≡ old.committed → new.marks ≡ old.marks → new.edges ≡ old.edges → IsWorking tables new
+  after_abort same marks edges = record {
     committed = subst (λ high. AreCommitted tables 0 new.committed high) (sym longer)
         (subst (λ done. AreCommitted tables 0 done (length old.outcomes + 1)) (sym same) (committed_longer tables 0 (length old.outcomes) (length old.outcomes + 1) old.committed is.committed (omega arith)));
     reads = All-same (λ done. ReadsFit tables done.reads) new.committed old.committed same is.reads;
+    few = All-same HasFew new.committed old.committed same is.few;
+    keys = keys;
+    marks = marks ∙ is.marks ∙ sym (ap marks_of_all same);
     edges = subst (λ set. KeepsEdges tables new.committed set) (sym edges) (subst (λ done. KeepsEdges tables done old.edges) (sym same) is.edges);
   }
 
   after_commit : (joining : Joining) → IsJoining tables old.committed joining
       → new.committed ≡ old.committed ++ record { pos = length old.outcomes + 1; reads = joining.ran.reads; writes = joining.ran.writes } ∷ []
+      → new.marks ≡ marked old.marks (Some joining)
       → HasJoined old.edges new.edges (length old.outcomes + 1) joining.edges → IsWorking tables new
-  after_commit joining joins more joined = let done : Committed = record { pos = length old.outcomes + 1; reads = joining.ran.reads; writes = joining.ran.writes } in record {
+  after_commit joining joins more marks joined = let done : Committed = record { pos = length old.outcomes + 1; reads = joining.ran.reads; writes = joining.ran.writes } in record {
     committed = subst (λ high. AreCommitted tables 0 new.committed high) (sym longer)
         (subst (λ all. AreCommitted tables 0 all (length old.outcomes + 1)) (sym more)
         (committed_grown tables 0 (length old.outcomes) old.committed done is.committed (omega arith) joins.fit.writes joins.fit.rise));
     reads = All-same (λ done. ReadsFit tables done.reads) new.committed (old.committed ++ done ∷ []) more
         (All-append (λ (done : Committed). ReadsFit tables done.reads) old.committed (done ∷ []) is.reads
         (All-cons (λ (done : Committed). ReadsFit tables done.reads) done [] joins.fit.reads (All-nil (λ (done : Committed). ReadsFit tables done.reads))));
+    few = All-same HasFew new.committed (old.committed ++ done ∷ []) more
+        (All-append HasFew old.committed (done ∷ []) is.few (All-cons HasFew done [] joins.fit.few_writes (All-nil HasFew)));
+    keys = keys;
+    marks = marks ∙ ap (λ before. marked before (Some joining)) is.marks
+        ∙ sym (map-append (λ (done : Committed). marks_of done.reads done.writes) old.committed (done ∷ [])) ∙ sym (ap marks_of_all more);
     edges = subst (λ all. KeepsEdges tables all new.edges) (sym more)
         (keeps_more tables old.edges new.edges old.committed (length old.outcomes) (length old.outcomes + 1) joining is.committed (omega arith) is.edges joins joined);
   }
 
   after_any : (found : Option Joining) → IfSome found (IsJoining tables old.committed) → new.committed ≡ joined old.committed (length old.outcomes + 1) found
+      → new.marks ≡ marked old.marks found
       → MatchOption found (new.edges ≡ old.edges) (λ joining. HasJoined old.edges new.edges (length old.outcomes + 1) joining.edges) → IsWorking tables new
-  after_any None joins more edges = after_abort more edges
-  after_any (Some joining) joins more edges = after_commit joining joins more edges
+  after_any None joins more marks edges = after_abort more marks edges
+  after_any (Some joining) joins more marks edges = after_commit joining joins more marks edges
 
-pub still_working : (tables : List TableDef) (old new : Working) (told : Told) (found : Option Joining) → IsWorking tables old → IfSome found (IsJoining tables old.committed)
+pub still_working : (tables : List TableDef) (old new : Working) (told : Told) (found : Option Joining) → IsWorking tables old → HasFewKey told.outcome → IfSome found (IsJoining tables old.committed)
     → new.outcomes ≡ old.outcomes ++ told ∷ [] → new.committed ≡ joined old.committed (length old.outcomes + 1) found
+    → new.marks ≡ marked old.marks found
     → MatchOption found (new.edges ≡ old.edges) (λ joining. HasJoined old.edges new.edges (length old.outcomes + 1) joining.edges) → IsWorking tables new
-still_working tables old new told found is joins outcomes more edges =
-    after_any tables old new is (ap length outcomes ∙ length-append old.outcomes (told ∷ [])) found joins more edges
+still_working tables old new told found is key joins outcomes more marks edges =
+    after_any tables old new is (ap length outcomes ∙ length-append old.outcomes (told ∷ []))
+    (All-same (λ (told : Told). HasFewKey told.outcome) new.outcomes (old.outcomes ++ told ∷ []) outcomes
+    (All-append (λ (told : Told). HasFewKey told.outcome) old.outcomes (told ∷ []) is.keys (All-cons (λ (told : Told). HasFewKey told.outcome) told [] key (All-nil (λ (told : Told). HasFewKey told.outcome)))))
+    found joins more marks edges
 
 -- ---- no transaction yet
 
-pub working_at_start : (tables : List TableDef) (working : Working) → working.outcomes ≡ [] → working.committed ≡ [] → positions_of working.edges ≡ []
+pub working_at_start : (tables : List TableDef) (working : Working) → working.outcomes ≡ [] → working.committed ≡ [] → working.marks ≡ [] → positions_of working.edges ≡ []
     → ((from to : ℕ) → has_edge working.edges from to ≡ false) → IsWorking tables working
-working_at_start tables working outcomes none positions edges = record {
+working_at_start tables working outcomes none unmarked positions edges = record {
   committed = subst (λ all. AreCommitted tables 0 all (length working.outcomes)) (sym none) (omega arith);
   reads = All-same (λ done. ReadsFit tables done.reads) working.committed [] none (All-nil (λ (done : Committed). ReadsFit tables done.reads));
+  few = All-same HasFew working.committed [] none (All-nil HasFew);
+  keys = All-same (λ (told : Told). HasFewKey told.outcome) working.outcomes [] outcomes (All-nil (λ (told : Told). HasFewKey told.outcome));
+  marks = unmarked ∙ sym (ap marks_of_all none);
   edges = record {
     positions = positions ∙ sym (ap places none);
     edges = λ from to. edges from to ∙ sym (ap (λ all. edge_at tables all from to) none);

@@ -1,7 +1,7 @@
 -- What a node holds of a chain of blocks.
-use Rattle.std.specs.Prelude.{All, IsTrue, List, [], length, map, ◌++◌, ◌<◌, ◌^◌, ◌≡◌, ◌≤◌, ◌∷◌, ◌⊎◌, ℕ}
-use Rattle.node_model.specs.Fold.{block_result}
-use Rattle.node_model.specs.History.{Sealed, history_of, ids_of, placed_of}
+use Rattle.std.specs.Prelude.{All, IsTrue, List, [], length, ◌++◌, ◌<◌, ◌^◌, ◌≡◌, ◌≤◌, ◌∷◌, ◌⊎◌, ℕ}
+use Rattle.node_model.specs.Fold.{results_of}
+use Rattle.node_model.specs.History.{Sealed, history_of, ids_of}
 use Rattle.node_model.specs.declared.result.BlockResult.{BlockResult}
 use Rattle.node_model.specs.declared.result.Committed.{Committed}
 use Rattle.plain_node.specs.Ids.{HasIds}
@@ -13,11 +13,11 @@ use Rattle.rel_base.specs.Tables.{HistoryFits, Stamped}
 use Rattle.rel_base.specs.declared.schema.TableDef.{TableDef}
 use Rattle.row_sets.specs.Versions.{are_rising, stamped_at}
 
--- a store, an ordered set of ids and a list of results are those of a chain
-pub record Follows (chain : List Sealed) (history : List Stamped) (ids : List (List ℕ)) (blocks : List BlockResult) : Type 0 where
+-- a store, an ordered set of ids and a list of results are those of a chain of blocks on tables
+pub record Follows (tables : List TableDef) (chain : List Sealed) (history : List Stamped) (ids : List (List ℕ)) (blocks : List BlockResult) : Type 0 where
   pub writes : history ≡ history_of chain
   pub known : HasIds ids (ids_of chain)
-  pub results : blocks ≡ map block_result chain
+  pub results : blocks ≡ results_of tables chain
 
 -- a store is of the tables of an application, and its writes fit them and are of the blocks so far
 pub record IsSound (app : App) (tables : List TableDef) (history : List Stamped) (blocks : List BlockResult) : Type 0 where
@@ -46,3 +46,4 @@ pub record IsFit (tables : List TableDef) (ran : Ran) : Type 0 where
   pub writes : All (WriteFitsIn tables) ran.writes
   pub rise : IsTrue (are_rising ran.writes)
   pub few : length ran.reads < 2 ^ 32
+  pub few_writes : length ran.writes ≤ 100000

@@ -1,4 +1,5 @@
 -- What a block in work keeps of its committed transactions and of the edges between them.
+use Rattle.block_digest.specs.Codable.{HasFewKey}
 use Rattle.node_model.specs.Edges.{comes_from, edge_at, leads_to}
 use Rattle.node_model.specs.declared.result.Committed.{Committed}
 use Rattle.plain_node.specs.Following.{AreCommitted, IsFit}
@@ -9,6 +10,7 @@ use Rattle.rw_graph.specs.Fitting.{ReadsFit}
 use Rattle.rw_graph.specs.Graph.{has_edge, positions_of, with_position}
 use Rattle.rw_graph.specs.Held.{holds}
 use Rattle.rw_graph.specs.Laws.{places}
+use Rattle.rw_graph.specs.Marking.{AreMarksOf}
 use Rattle.rw_graph.specs.Sets.{AreAmong}
 use Rattle.rw_graph.specs.declared.edge_set.EdgeSet.{EdgeSet}
 use Rattle.rw_graph.specs.declared.row.Edges.{Edges}
@@ -23,6 +25,9 @@ pub record KeepsEdges (tables : List TableDef) (committed : List Committed) (set
 pub record IsWorking (tables : List TableDef) (working : Working) : Type 0 where
   pub committed : AreCommitted tables 0 working.committed (length working.outcomes)
   pub reads : All (λ done. ReadsFit tables done.reads) working.committed
+  pub few : All (λ done. length done.writes ≤ 100000) working.committed
+  pub keys : All (λ told. HasFewKey told.outcome) working.outcomes
+  pub marks : AreMarksOf working.committed working.marks
   pub edges : KeepsEdges tables working.committed working.edges
 
 -- the run of a transaction that commits fits the tables, and its edges are those to and from the ones that committed before it

@@ -3,3 +3,4 @@ pub mod Causes
 pub mod Working
 pub mod Following
 pub mod InWork
+pub mod Telling

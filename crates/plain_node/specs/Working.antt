@@ -12,6 +12,8 @@ use Rattle.proc_syntax.specs.Declaring.{tables_of}
 use Rattle.proc_syntax.specs.Run.{run}
 use Rattle.proc_syntax.specs.declared.call.Tx.{Tx}
 use Rattle.proc_syntax.specs.declared.tree.App.{App}
+use Rattle.rw_graph.specs.Marking.{marks_of}
+use Rattle.rw_graph.specs.declared.touch_marks.Marks.{Marks}
 use Rattle.rel_base.specs.Tables.{Stamped, tables_at, writes_between}
 
 -- the block in work of the definition
@@ -26,6 +28,11 @@ early_by known app number tx = or_else (cond known (Some outcome.DuplicateId) No
 abbrev pub joined : List Committed → ℕ → Option Joining → List Committed
 joined committed pos None = committed
 joined committed pos (Some joining) = committed ++ record { pos = pos; reads = joining.ran.reads; writes = joining.ran.writes } ∷ []
+
+-- and its marks behind theirs
+abbrev pub marked : List Marks → Option Joining → List Marks
+marked marks None = marks
+marked marks (Some joining) = marks ++ marks_of joining.ran.reads joining.ran.writes ∷ []
 
 -- what is decided by the set of ids and by a run on the store
 abbrev pub decided_by : Bool → App → List Stamped → ℕ → List Committed → Tx → ℤ → Outcome

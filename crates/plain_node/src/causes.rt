@@ -20,7 +20,7 @@ use node_model::{Clash, Committed, Late, Outcome};
 use proc_syntax::run::{Ending, Ran};
 use rel_base::{List, Made, NoMemory, TableDef, Twin, Write};
 use row_sets::Versions;
-use rw_graph::{danger, edges_of};
+use rw_graph::{danger, edges_among};
 use std::alloc::Global;
 
 // The outcome of a late read, with a copy of its key.
@@ -120,7 +120,13 @@ fn judge_edges(tables: &List<TableDef>, working: &Working, ran: Ran) -> Decided
     ensures joins { (pos : _) → joined working.now.committed pos result.joins ≡ join_committed working.now.committed pos ran result.outcome }
     ensures fits { IfSome result.joins (IsJoining tables.now working.now.committed) }
 {
-    let edges = edges_of(tables, &working.committed, &ran.reads, &ran.writes);
+    let edges = edges_among(
+        tables,
+        &working.committed,
+        &working.marks,
+        &ran.reads,
+        &ran.writes,
+    );
     match danger(&working.edges, &edges) {
         Some(found) => Decided {
             outcome: Outcome::Danger(found),

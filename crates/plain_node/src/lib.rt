@@ -8,6 +8,7 @@ pub mod ids;
 pub mod listing;
 pub mod moment;
 pub mod node;
+pub mod telling;
 pub mod work;
 
 pub use node::PlainNode;

@@ -1,7 +1,7 @@
 //! The node.
 
-ghost use Rattle.std.specs.Prelude.{◌≡◌, ◌<◌, ◌≤◌, ◌+◌, ◌++◌, ◌∷◌, ◌^◌, All, IfOk, IfSome, IsTrue, List, OnOk, [], length, map};
-ghost use Rattle.node_model.specs.Fold.{all_rows, block_result, join_committed, no_work, seal, work_on, work_through};
+ghost use Rattle.std.specs.Prelude.{◌≡◌, ◌<◌, ◌≤◌, ◌+◌, ◌++◌, ◌∷◌, ◌^◌, All, IfOk, IfSome, IsTrue, List, OnOk, [], length, slice_get};
+ghost use Rattle.node_model.specs.Fold.{all_rows, fold, join_committed, no_work, results_of, seal, work_on, work_through};
 ghost use Rattle.node_model.specs.History.{Sealed, history_of, ids_of, ids_told, snapshot};
 ghost use Rattle.plain_node.specs.Following.{AreCommitted, Follows, IsSound, stamps};
 ghost use Rattle.plain_node.specs.Ids.{HasIds, has_key};
@@ -12,10 +12,15 @@ ghost use Rattle.proc_syntax.specs.Run.{run};
 ghost use Rattle.rel_base.specs.Among.{WriteFitsIn};
 ghost use Rattle.rel_base.specs.Tables.{HistoryFits, tables_at};
 ghost use Rattle.row_sets.specs.Versions.{are_rising};
+ghost use Rattle.proc_syntax.specs.declared.call.Block.{Block as BlockText};
+ghost use Rattle.serial_laws.specs.Chained.{AreNumbered, IsNext};
+ghost use Rattle.serial_laws.specs.InOrder.{EachInOrder, RunInOrder};
+ghost use Rattle.std.specs.Option.{IsSomeAnd};
 
 use crate::decide::decide;
 use crate::ids::IdSet;
 use crate::listing::list_tables;
+use crate::telling::{last_digest, tell};
 use crate::work::Working;
 use node_model::{BlockResult, Committed, NodeResult};
 use proc_check::Checked;
@@ -79,7 +84,8 @@ fn work_through<V: Versions>(
     requires few { length txs.now ≤ 1024 }
     requires tables { V.tables versions.now ≡ tables_of app.now.value.app }
     requires fits { HistoryFits (V.tables versions.now) (V.history versions.now) }
-    ensures committed { IfOk result (λ working. AreCommitted (V.tables versions.now) 0 working.committed (length txs.now)) }
+    ensures count { IfOk result (λ working. length working.outcomes ≡ length txs.now) }
+    ensures working { IfOk result (λ working. IsWorking (V.tables versions.now) working) }
     ensures work { IfOk result (λ working. (chain : List Sealed) → V.history versions.now ≡ history_of chain → HasIds ids.old (ids_of chain)
         → work_of working ≡ work_through app.now.value.app chain number no_work txs.now) }
     ensures known { IfOk result (λ working. (chain : List Sealed) → HasIds ids.old (ids_of chain) → HasIds ids.new (ids_of chain ++ ids_told working.outcomes)) }
@@ -113,9 +119,11 @@ fn apply_all<V: Versions>(
             block: number,
             pos: done.pos,
         };
-        versions.apply(place, done.writes)?;
+        versions.reserve(done.writes.len())?;
+        versions.apply(place, done.writes);
     }
-    Ok(())
+    // a store may put off its order until room is taken again, so that it is in order before the next reads
+    versions.reserve(0)
 }
 
 /// A node on one thread: a store of the committed writes, the ids of the chain and the results of its blocks.
@@ -137,7 +145,7 @@ impl<V: Versions> PlainNode<V> {
     pub fn new(alloc: Global, app: &Arc<Checked>) -> Result<PlainNode<V>, NoMemory>
         ensures app { IfOk result (λ node. node.app.value ≡ app.now.value) }
         ensures sound { IfOk result (λ node. IsSound node.app.value.app (V.tables node.versions) (V.history node.versions) node.blocks) }
-        ensures follows { IfOk result (λ node. Follows [] (V.history node.versions) node.ids node.blocks) }
+        ensures follows { IfOk result (λ node. Follows (tables_of node.app.value.app) [] (V.history node.versions) node.ids node.blocks) }
         ensures empty { IfOk result (λ node. node.blocks ≡ []) }
     {
         let versions = V::new(alloc, app.tables())?;
@@ -159,8 +167,13 @@ impl<V: Versions> PlainNode<V> {
         ensures app { self.new.app.value ≡ self.old.app.value }
         ensures count { OnOk result (length self.new.blocks ≡ length self.old.blocks + 1) }
         ensures sound { OnOk result (IsSound self.new.app.value.app (V.tables self.new.versions) (V.history self.new.versions) self.new.blocks) }
-        ensures follows { OnOk result ((chain : List Sealed) → Follows chain (V.history self.old.versions) self.old.ids self.old.blocks
-            → Follows (chain ++ seal self.old.app.value.app chain block.now ∷ []) (V.history self.new.versions) self.new.ids self.new.blocks) }
+        ensures follows { OnOk result ((chain : List Sealed) → Follows (tables_of self.old.app.value.app) chain (V.history self.old.versions) self.old.ids self.old.blocks
+            → Follows (tables_of self.old.app.value.app) (chain ++ seal self.old.app.value.app chain block.now ∷ []) (V.history self.new.versions) self.new.ids self.new.blocks) }
+        // Where the node follows the fold of some blocks, the result of the next one tells an order in which its committed
+        // transactions run again one by one.
+        ensures replays { OnOk result ((blocks : List BlockText) → IsNext blocks block.now
+            → Follows (tables_of self.old.app.value.app) (fold self.old.app.value.app blocks) (V.history self.old.versions) self.old.ids self.old.blocks
+            → IsSomeAnd (slice_get self.new.blocks (length blocks)) (λ told. RunInOrder self.old.app.value.app blocks block.now told.order)) }
     {
         let txs = block.txs.as_slice();
         let working = work_through(
@@ -175,22 +188,39 @@ impl<V: Versions> PlainNode<V> {
         let Working {
             outcomes,
             committed,
+            edges,
             ..
         } = working;
+        let previous = last_digest(&self.blocks);
+        let told = tell(self.alloc, &previous, block, outcomes, &committed, &edges)?;
         apply_all(&mut self.versions, block.number, committed)?;
-        self.blocks.push(BlockResult {
-            number: block.number,
-            time: block.time,
-            outcomes,
-        })
+        self.blocks.push(told)
+    }
+
+    /// The results of the blocks so far.
+    pub fn blocks(&self) -> &List<BlockResult>
+        ensures { result.now ≡ self.now.blocks }
+    {
+        &self.blocks
+    }
+
+    /// The store of the committed writes.
+    pub fn versions(&self) -> &V
+        ensures { result.now ≡ self.now.versions }
+    {
+        &self.versions
     }
 
     /// The results of the blocks, and the tables after the last of them.
-    #[tactic(auto, using(crate::proofs::WholeRows::report_is))]
     pub fn close(self) -> Result<NodeResult, NoMemory>
         requires sound { IsSound self.app.value.app (V.tables self.versions) (V.history self.versions) self.blocks }
-        ensures { IfOk result (λ made. (chain : List Sealed) → Follows chain (V.history self.versions) self.ids self.blocks
-            → made ≡ record { blocks = map block_result chain; tables = all_rows (snapshot (length chain) chain) 0 (tables_of self.app.value.app) }) }
+        ensures report { IfOk result (λ made. (chain : List Sealed) → Follows (tables_of self.app.value.app) chain (V.history self.versions) self.ids self.blocks
+            → made ≡ record { blocks = results_of (tables_of self.app.value.app) chain; tables = all_rows (snapshot (length chain) chain) 0 (tables_of self.app.value.app) }) }
+        // Where the node follows the fold of some blocks, the results tell for each an order in which its committed transactions run
+        // again one by one.
+        ensures replays { IfOk result (λ made. (blocks : List BlockText) → AreNumbered 1 blocks
+            → Follows (tables_of self.app.value.app) (fold self.app.value.app blocks) (V.history self.versions) self.ids self.blocks
+            → EachInOrder self.app.value.app blocks made.blocks) }
     {
         let height = self.blocks.len() as u64;
         let tables = list_tables(

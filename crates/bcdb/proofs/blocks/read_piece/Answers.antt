@@ -1,5 +1,5 @@
 use Rattle.std.specs.Prelude.{IfOk}
-use Rattle.std.proofs.Common.{rules, subst, take, ◌++◌, ◌<◌, ◌≡◌}
+use Rattle.std.proofs.Common.{rules, subst, take, ◌++◌, ◌<◌}
 use Rattle.bcdb.proofs.Taken.{goes_on, numbered, stops, within}
 use Rattle.bcdb.proofs.blocks.read_piece.Goals as goal
 use Rattle.bcdb.specs.Reading.{TakesPiece}

@@ -1,4 +1,4 @@
-use Rattle.std.proofs.Common.{IfErr, IfOk, Ok, rules, subst, sym, ◌≡◌}
+use Rattle.std.proofs.Common.{IfErr, IfOk, Ok, subst, sym, ◌≡◌}
 use Rattle.bcdb.specs.Told.{IsRefused}
 use Rattle.bcdb.proofs.Accepting.{checked_is}
 use Rattle.bcdb.proofs.files.read_short.Goals as goal

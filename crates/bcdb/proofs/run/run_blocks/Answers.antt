@@ -6,6 +6,7 @@ use Rattle.chain_file.specs.Numbered.{NumberedFrom}
 use Rattle.node_model.specs.Fold.{fold_from, seal}
 use Rattle.plain_node.specs.Following.{Follows}
 use Rattle.proc_check.specs.declared.checked.Checked.{Checked}
+use Rattle.proc_syntax.specs.Declaring.{tables_of}
 
 pub loop-block-preserved : goal.loop-block-preserved
 loop-block-preserved g c =
@@ -28,5 +29,7 @@ loop-block-preserved g c =
       done.count ∙ ap (λ n. n + 1) before.1,
       numbered.2,
       done.sound,
-      subst (λ chain. Follows chain (g.V.Versions.history c.process.new.self.versions) c.process.new.self.ids c.process.new.self.blocks) grown (done.follows chain before.4),
+      subst (λ chain. Follows (tables_of c.args.app.now.value.app) chain (g.V.Versions.history c.process.new.self.versions) c.process.new.self.ids c.process.new.self.blocks) grown
+          (subst (λ (checked : Checked). Follows (tables_of checked.app) (chain ++ seal c.loop-block.node.app.value.app chain c.block-item.result ∷ []) (g.V.Versions.history c.process.new.self.versions) c.process.new.self.ids c.process.new.self.blocks) before.0
+          (done.follows chain (subst (λ (checked : Checked). Follows (tables_of checked.app) chain (g.V.Versions.history c.loop-block.node.versions) c.loop-block.node.ids c.loop-block.node.blocks) (sym before.0) before.4))),
     )

@@ -4,17 +4,17 @@ use Rattle.plain_node.proofs.WithEdges.{danger_is, into_among, out_among}
 use Rattle.plain_node.proofs.causes.judge_edges.Goals as goal
 
 pub danger-requires-clause-out : goal.danger-requires-clause-out
-danger-requires-clause-out c = out_among c.args.tables.now c.args.working.now c.args.ran c.edges_of-edges.result c.requires.working c.edges_of-edges.ensures.out
+danger-requires-clause-out c = out_among c.args.tables.now c.args.working.now c.args.ran c.edges_among-edges.result c.requires.working c.edges_among-edges.ensures.out
 
 pub danger-requires-clause-into : goal.danger-requires-clause-into
-danger-requires-clause-into c = into_among c.args.tables.now c.args.working.now c.args.ran c.edges_of-edges.result c.requires.working c.edges_of-edges.ensures.into
+danger-requires-clause-into c = into_among c.args.tables.now c.args.working.now c.args.ran c.edges_among-edges.result c.requires.working c.edges_among-edges.ensures.into
 
 pub returns-in-Some-clause-outcome : goal.returns-in-Some-clause-outcome
 returns-in-Some-clause-outcome c =
     ap (λ found. or_committed (danger_outcome found))
-    (c.in-Some.ensures ∙ danger_is c.args.tables.now c.args.working.now c.args.ran c.edges_of-edges.result c.requires.working c.edges_of-edges.ensures.out c.edges_of-edges.ensures.into)
+    (c.in-Some.ensures ∙ danger_is c.args.tables.now c.args.working.now c.args.ran c.edges_among-edges.result c.requires.working c.edges_among-edges.ensures.out c.edges_among-edges.ensures.into)
 
 pub returns-in-None-clause-outcome : goal.returns-in-None-clause-outcome
 returns-in-None-clause-outcome c =
     ap (λ found. or_committed (danger_outcome found))
-    (c.in-None.ensures ∙ danger_is c.args.tables.now c.args.working.now c.args.ran c.edges_of-edges.result c.requires.working c.edges_of-edges.ensures.out c.edges_of-edges.ensures.into)
+    (c.in-None.ensures ∙ danger_is c.args.tables.now c.args.working.now c.args.ran c.edges_among-edges.result c.requires.working c.edges_among-edges.ensures.out c.edges_among-edges.ensures.into)

@@ -1,5 +1,4 @@
 use Rattle.std.proofs.Common.{ap, map, ◌∙◌}
-use Rattle.node_model.specs.declared.result.TableRows.{TableRows}
 use Rattle.plain_node.proofs.WholeRows.{as_table, whole_rows}
 use Rattle.plain_node.proofs.listing.list_table.Goals as goal
 use Rattle.rel_base.specs.Tables.{tables_at}

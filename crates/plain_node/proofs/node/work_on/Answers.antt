@@ -3,7 +3,10 @@ use Rattle.node_model.specs.History.{ids_of, ids_told}
 use Rattle.plain_node.proofs.Going.{goes_on, knows_more, on_ok, on_ok_then}
 use Rattle.plain_node.proofs.WithEdges.{join_if, still_working}
 use Rattle.plain_node.proofs.node.work_on.Goals as goal
-use Rattle.plain_node.specs.Ids.{AddsId, HasIds}
+use Rattle.block_digest.specs.Codable.{HasFewKey}
+use Rattle.plain_node.proofs.Few.{decided_few}
+use Rattle.plain_node.specs.Ids.{AddsId, HasIds, has_key}
+use Rattle.rel_base.specs.Tables.{HistoryFits}
 
 pub add-requires : goal.add-requires
 add-requires g c = record {
@@ -12,8 +15,12 @@ add-requires g c = record {
 
 pub returns-clause-working : goal.returns-clause-working
 returns-clause-working g c =
-    on_ok c.insert.result _ (still_working (g.V.Versions.tables c.args.versions.now) c.args.working.now c.add.new.self _ c.in_ok-decided.decided.joins
-    c.requires.working c.in_ok-decided.ensures.fits c.in_ok-add.ensures.outcomes (search rules) (search rules))
+    on_ok c.insert.result _ (still_working (g.V.Versions.tables c.args.versions.now) c.args.working.now c.add.new.self
+    (record { id = c.in_ok-copy.field-0; outcome = c.in_ok-decided.decided.outcome }) c.in_ok-decided.decided.joins c.requires.working
+    (subst HasFewKey (sym c.in_ok-decided.ensures.outcome)
+    (decided_few c.args.app.now.value.app (g.V.Versions.history c.args.versions.now) (has_key c.args.ids.now c.args.tx.now.id) c.args.number c.args.working.now.committed c.args.tx.now c.args.time
+    c.args.app.now.value.well_typed (subst (λ defs. HistoryFits defs (g.V.Versions.history c.args.versions.now)) c.requires.tables c.requires.fits)))
+    c.in_ok-decided.ensures.fits c.in_ok-add.ensures.outcomes (search rules) c.in_ok-add.ensures.marks (search rules))
 
 pub returns-clause-work : goal.returns-clause-work
 returns-clause-work g c =

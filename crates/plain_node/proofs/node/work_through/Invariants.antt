@@ -1,4 +1,4 @@
-use Rattle.std.proofs.Common.{List, drop, length, ◌++◌, ◌≡◌, ℕ}
+use Rattle.std.proofs.Common.{List, drop, length, ◌++◌, ◌≡◌}
 use Rattle.node_model.specs.Fold.{no_work, work_through}
 use Rattle.node_model.specs.History.{Sealed, history_of, ids_of, ids_told}
 use Rattle.plain_node.specs.Ids.{HasIds}
