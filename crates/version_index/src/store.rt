@@ -19,8 +19,8 @@ use std::marker::Model;
 /// and with the number of writes on the key since the height that is asked for.
 ///
 /// The maps grow only when room is taken: what was written since then is the tail of the log, which each of these looks through
-/// first. A span that is read at a height within the tail makes the map of its table anew from the whole log, in memory that it
-/// gives back; to take room for no write beforehand costs less.
+/// first, a write only as far as it was there before its transaction. A span that is read at a height within the tail makes the
+/// map of its table anew from the whole log, in memory that it gives back; to take room for no write beforehand costs less.
 #[derive(Drop)]
 pub struct IndexVersions {
     alloc: Global,
