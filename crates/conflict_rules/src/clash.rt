@@ -53,11 +53,11 @@ fn first_shared(others: &[Write], writes: &[Write]) -> Option<usize>
 
 /// The write conflict of writes with the transactions that committed earlier in their block: `None` exactly where none of
 /// these wrote a table and key of the writes. Takes no memory.
-pub fn write_conflict(committed: &List<Committed>, writes: &List<Write>) -> Option<ClashRef>
+pub fn first_conflict(committed: &[Committed], writes: &[Write]) -> Option<ClashRef>
     ensures { option_map (λ found. (found.with, found.index)) result ≡ clash committed.now writes.now }
 {
-    for done in committed.as_slice() {
-        if let Some(index) = first_shared(done.writes.as_slice(), writes.as_slice()) {
+    for done in committed {
+        if let Some(index) = first_shared(done.writes.as_slice(), writes) {
             return Some(ClashRef {
                 with: done.pos,
                 index,
@@ -65,4 +65,11 @@ pub fn write_conflict(committed: &List<Committed>, writes: &List<Write>) -> Opti
         }
     }
     None
+}
+
+/// The same of lists.
+pub fn write_conflict(committed: &List<Committed>, writes: &List<Write>) -> Option<ClashRef>
+    ensures { option_map (λ found. (found.with, found.index)) result ≡ clash committed.now writes.now }
+{
+    first_conflict(committed.as_slice(), writes.as_slice())
 }

@@ -6,7 +6,7 @@ use crate::machine::Machine;
 use crate::state::Want;
 use proc_check::check;
 use proc_syntax::{
-    App, Change, ColumnText, Ending, Expr, Fault, Named, Op, ProcDef, Ran, Stmt, TableText, Tx,
+    App, Change, ColumnText, Ending, Expr, Named, Op, ProcDef, Ran, Stmt, TableText, Tx,
 };
 use rel_base::{Boxed, Id, Kind, List, Name, NoMemory, Place, Read, Row, Seen, Str, Value, Write};
 use std::alloc::Global;
@@ -116,22 +116,6 @@ fn pay(alloc: Global) -> Result<List<Stmt>, Fail> {
     let found = three(alloc, enough, take, give)?;
     let inner = get(alloc, "b", "t", found, "no payee")?;
     one(alloc, get(alloc, "a", "f", one(alloc, inner)?, "no payer")?)
-}
-
-/// `insert acct (ID, OWNER, 0);`
-fn insert(alloc: Global, id: i64, owner: &str) -> Result<Stmt, Fail> {
-    Ok(Stmt::Insert {
-        table: named(alloc, "acct")?,
-        values: three(alloc, int(id), text(alloc, owner)?, int(0))?,
-    })
-}
-
-/// `delete acct key (ID);`
-fn delete(alloc: Global, id: i64) -> Result<Stmt, Fail> {
-    Ok(Stmt::Delete {
-        table: named(alloc, "acct")?,
-        key: one(alloc, int(id))?,
-    })
 }
 
 /// The application with the table `acct`, and one procedure `p` of `f`, `t` and `n`.
@@ -297,61 +281,6 @@ fn a_payment_between_two(rt: HostRuntime) -> Result<(), Fail> {
     assert_eq!(rt; writes.len(), 2);
     assert!(rt; leaves(&writes[0], 1, "ann", 40));
     assert!(rt; leaves(&writes[1], 2, "bob", 30));
-    Ok(())
-}
-
-#[test]
-fn a_payment_to_oneself(rt: HostRuntime) -> Result<(), Fail> {
-    let alloc = rt.alloc();
-    let tx = call(alloc, 1, 1, 10)?;
-    let mut machine = machine(alloc, pay(alloc)?, &tx)?;
-    let _ = answer(alloc, &mut machine, Some(account(alloc, 1, "ann", 50)?))?;
-    let _ = answer(alloc, &mut machine, Some(account(alloc, 1, "ann", 50)?))?;
-    let _ = answer(alloc, &mut machine, Some(account(alloc, 1, "ann", 50)?))?;
-    let _ = answer(alloc, &mut machine, Some(account(alloc, 1, "ann", 50)?))?;
-    let Some(ran) = finished(machine)? else {
-        panic!(rt; "the run has not ended");
-    };
-    assert!(rt; are_points(&ran, &[1, 1, 1, 1]));
-    let writes = ran.writes.as_slice();
-    assert_eq!(rt; writes.len(), 1);
-    assert!(rt; leaves(&writes[0], 1, "ann", 60));
-    Ok(())
-}
-
-#[test]
-fn a_fault_has_no_writes(rt: HostRuntime) -> Result<(), Fail> {
-    let alloc = rt.alloc();
-    let tx = call(alloc, 1, 1, 1)?;
-    let mut body = one(alloc, insert(alloc, 9, "z")?)?;
-    body.push(insert(alloc, 9, "z")?)?;
-    let mut machine = machine(alloc, body, &tx)?;
-    let _ = answer(alloc, &mut machine, None)?;
-    let _ = answer(alloc, &mut machine, None)?;
-    let Some(ran) = finished(machine)? else {
-        panic!(rt; "the run has not ended");
-    };
-    assert!(rt; are_points(&ran, &[9, 9]));
-    assert!(rt; matches!(ran.ending, Ending::Faulted(Fault::DuplicateKey)));
-    assert_eq!(rt; ran.writes.len(), 0);
-    Ok(())
-}
-
-#[test]
-fn an_insert_and_a_delete_are_no_write(rt: HostRuntime) -> Result<(), Fail> {
-    let alloc = rt.alloc();
-    let tx = call(alloc, 1, 1, 1)?;
-    let mut body = one(alloc, insert(alloc, 9, "z")?)?;
-    body.push(delete(alloc, 9)?)?;
-    let mut machine = machine(alloc, body, &tx)?;
-    let _ = answer(alloc, &mut machine, None)?;
-    let _ = answer(alloc, &mut machine, None)?;
-    let Some(ran) = finished(machine)? else {
-        panic!(rt; "the run has not ended");
-    };
-    assert!(rt; are_points(&ran, &[9, 9]));
-    assert!(rt; matches!(ran.ending, Ending::Good));
-    assert_eq!(rt; ran.writes.len(), 0);
     Ok(())
 }
 

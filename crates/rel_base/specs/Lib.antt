@@ -8,7 +8,6 @@ pub mod OwnWrites
 pub mod NetWrites
 pub mod Among
 pub mod Late
-pub mod Versions
 pub mod Laws
 pub mod Stories
 pub mod formers

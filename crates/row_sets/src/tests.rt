@@ -169,43 +169,6 @@ fn net_writes_stand_in_order(rt: HostRuntime) -> Result<(), Fail> {
 }
 
 #[test]
-fn the_first_row_before_counts(rt: HostRuntime) -> Result<(), Fail> {
-    let alloc = rt.alloc();
-    let mut overlay = Overlay::new(alloc);
-    put(alloc, &mut overlay, 0, 1, Some(50), None)?;
-    put(alloc, &mut overlay, 0, 1, None, Some(60))?;
-    put(alloc, &mut overlay, 0, 2, None, Some(1))?;
-    put(alloc, &mut overlay, 0, 2, Some(1), None)?;
-    let writes = overlay.net();
-    let writes = writes.as_slice();
-    assert_eq!(rt; writes.len(), 1);
-    assert!(rt; is_write(&writes[0], 0, 1, Some(50), Some(60)));
-    Ok(())
-}
-
-#[test]
-fn a_point_is_merged(rt: HostRuntime) -> Result<(), Fail> {
-    let alloc = rt.alloc();
-    let def = accounts(alloc)?;
-    let read = Read::Point {
-        table: 0,
-        key: key(alloc, 1)?,
-    };
-    let base = one(alloc, seen(alloc, 1, 50)?)?;
-    let mut overlay = Overlay::new(alloc);
-    let rows = overlay.merge(alloc, &def, &read, &base)?;
-    assert_eq!(rt; rows.len(), 1);
-    assert!(rt; is_account(&rows.as_slice()[0], 1, 50));
-    put(alloc, &mut overlay, 0, 1, Some(50), Some(60))?;
-    let rows = overlay.merge(alloc, &def, &read, &base)?;
-    assert_eq!(rt; rows.len(), 1);
-    assert!(rt; is_account(&rows.as_slice()[0], 1, 60));
-    put(alloc, &mut overlay, 0, 1, Some(50), None)?;
-    assert!(rt; overlay.merge(alloc, &def, &read, &base)?.is_empty());
-    Ok(())
-}
-
-#[test]
 fn a_span_is_merged(rt: HostRuntime) -> Result<(), Fail> {
     let alloc = rt.alloc();
     let def = accounts(alloc)?;
@@ -224,20 +187,5 @@ fn a_span_is_merged(rt: HostRuntime) -> Result<(), Fail> {
     assert!(rt; is_account(&rows[0], 1, 70));
     assert!(rt; is_account(&rows[1], 5, 50));
     assert!(rt; is_account(&rows[2], 9, 40));
-    Ok(())
-}
-
-#[test]
-fn a_span_leaves_out_what_was_changed(rt: HostRuntime) -> Result<(), Fail> {
-    let alloc = rt.alloc();
-    let def = accounts(alloc)?;
-    let base = one(alloc, seen(alloc, 5, 50)?)?;
-    let mut overlay = Overlay::new(alloc);
-    put(alloc, &mut overlay, 0, 5, Some(50), Some(30))?;
-    assert!(rt; overlay.merge(alloc, &def, &from(40), &base)?.is_empty());
-    put(alloc, &mut overlay, 0, 5, Some(50), Some(45))?;
-    assert_eq!(rt; overlay.merge(alloc, &def, &from(40), &base)?.len(), 1);
-    put(alloc, &mut overlay, 0, 5, Some(50), None)?;
-    assert!(rt; overlay.merge(alloc, &def, &from(40), &base)?.is_empty());
     Ok(())
 }

@@ -1,6 +1,6 @@
 //! The positions of a block and the edges between them.
 
-ghost use Rattle.std.specs.Prelude.{ℕ, ◌≡◌, ◌<◌, ◌≤◌, ◌++◌, ◌∷◌, ◌&&◌, [], All, AllPairs, MatchOption, OnErr, OnOk, false, true, vec_len};
+ghost use Rattle.std.specs.Prelude.{ℕ, ◌≡◌, ◌<◌, ◌≤◌, ◌++◌, ◌∷◌, ◌&&◌, [], All, AllPairs, MatchOption, OnErr, OnOk, false, true, vec_capacity, vec_len};
 ghost use Rattle.rw_graph.specs.Held.{holds};
 ghost use Rattle.rw_graph.specs.Sets.{AreAmong, IsLeastFrom, is_among};
 ghost use Rattle.rw_graph.specs.Sides.{comes_in, goes_out};
@@ -8,28 +8,28 @@ ghost use Rattle.rw_graph.specs.Sides.{comes_in, goes_out};
 use crate::bits::Bits;
 use crate::row::Edges;
 use crate::rows::{grow, join, least_out, row_at};
-use rel_base::{List, NoMemory};
+use rel_base::NoMemory;
 use std::alloc::Global;
 
 /// The positions of committed transactions of one block, and the edges between them. Each position has a row of bits for the
 /// positions to which it has an edge, and one for those that have an edge to it.
 #[derive(Drop)]
 pub struct EdgeSet {
-    positions: List<u32>,
+    positions: Vec<u32>,
     /// The same positions, so that one is found at once.
     members: Bits,
     /// The row of position p is at place p - 1. Positions that are not of the set have rows without an edge.
     rows: Vec<Edges>,
     ghost few: { vec_len rows ≤ 1024 },
-    ghost enough: { (pos : ℕ) → is_among positions pos ≡ true → pos ≤ vec_len rows },
-    ghost rising: { AllPairs (λ p q. p < q) positions },
-    ghost same_members: { (pos : ℕ) → holds members pos ≡ is_among positions pos },
+    ghost enough: { (pos : ℕ) → is_among positions.items pos ≡ true → pos ≤ vec_len rows },
+    ghost rising: { AllPairs (λ p q. p < q) positions.items },
+    ghost same_members: { (pos : ℕ) → holds members pos ≡ is_among positions.items pos },
     ghost turned: { (from to : ℕ) → comes_in rows.items to from ≡ goes_out rows.items from to },
-    ghost between: { (from to : ℕ) → goes_out rows.items from to ≡ true → (is_among positions from && is_among positions to) ≡ true },
+    ghost between: { (from to : ℕ) → goes_out rows.items from to ≡ true → (is_among positions.items from && is_among positions.items to) ≡ true },
 }
 
 impl EdgeSet {
-    ghost use Rattle.rw_graph.specs.Graph.{AreEdgesOf, has_edge, positions_of, with_position};
+    ghost use Rattle.rw_graph.specs.Graph.{AreEdgesOf, HasRoomAt, has_edge, positions_of, with_position};
 
     /// The set of no position.
     pub fn new(alloc: Global) -> Self
@@ -37,7 +37,7 @@ impl EdgeSet {
         ensures edges { (from to : ℕ) → has_edge result from to ≡ false }
     {
         EdgeSet {
-            positions: List::new(alloc),
+            positions: Vec::new(alloc),
             members: Bits::new(),
             rows: Vec::new(alloc),
         }
@@ -111,6 +111,34 @@ impl EdgeSet {
         Some(&row.into)
     }
 
+    /// Takes room for a position. The set stays as it was, with want of memory or without.
+    pub fn reserve(&mut self, pos: u32) -> Result<(), NoMemory>
+        requires { pos ≤ 1024 }
+        ensures positions { positions_of self.new ≡ positions_of self.old }
+        ensures edges { (from to : ℕ) → has_edge self.new from to ≡ has_edge self.old from to }
+        ensures room { OnOk result (HasRoomAt self.new pos) }
+    {
+        self.positions.reserve(1)?;
+        grow(&mut self.rows, pos as usize)
+    }
+
+    /// Adds a position above all others, from 1 to 1,024, for which there is room, with its edges to and from positions of the set.
+    /// Takes no memory.
+    pub fn add_reserved(&mut self, pos: u32, edges: &Edges)
+        requires room { HasRoomAt self.old pos }
+        requires counts { 1 ≤ pos }
+        requires upto { pos ≤ 1024 }
+        requires above { All (λ other. other < pos) (positions_of self.old) }
+        requires out { AreAmong (positions_of self.old) (holds edges.now.out) }
+        requires into { AreAmong (positions_of self.old) (holds edges.now.into) }
+        ensures positions { positions_of self.new ≡ positions_of self.old ++ pos ∷ [] }
+        ensures edges { (from to : ℕ) → has_edge self.new from to ≡ with_position (has_edge self.old) pos (holds edges.now.out) (holds edges.now.into) from to }
+    {
+        self.positions.push_reserved(pos);
+        self.members.add(pos);
+        join(&mut self.rows, edges, pos);
+    }
+
     /// Adds a position above all others, from 1 to 1,024, with its edges to and from positions of the set. Where memory is
     /// wanting, the set stays as it was.
     pub fn add(&mut self, pos: u32, edges: &Edges) -> Result<(), NoMemory>
@@ -124,10 +152,8 @@ impl EdgeSet {
         ensures same_positions { OnErr result (positions_of self.new ≡ positions_of self.old) }
         ensures same_edges { OnErr result ((from to : ℕ) → has_edge self.new from to ≡ has_edge self.old from to) }
     {
-        grow(&mut self.rows, pos as usize)?;
-        self.positions.push(pos)?;
-        self.members.add(pos);
-        join(&mut self.rows, edges, pos);
+        self.reserve(pos)?;
+        self.add_reserved(pos, edges);
         Ok(())
     }
 }

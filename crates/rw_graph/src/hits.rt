@@ -144,8 +144,8 @@ fn note_marked(
 /// a transaction can't touch. Takes no memory.
 pub fn edges_among(
     tables: &List<TableDef>,
-    committed: &List<Committed>,
-    marks: &List<Marks>,
+    committed: &[Committed],
+    marks: &[Marks],
     reads: &List<Made>,
     writes: &List<Write>,
 ) -> Edges
@@ -158,7 +158,7 @@ pub fn edges_among(
 {
     let own = marks_of(reads, writes);
     let mut edges = no_edges();
-    for (done, done_marks) in committed.as_slice().iter().zip(marks.as_slice()) {
+    for (done, done_marks) in committed.iter().zip(marks) {
         note_marked(
             &mut edges,
             tables.as_slice(),

@@ -99,8 +99,8 @@ impl Block {
     {
         edges_among(
             &self.samples.tables,
-            &self.committed,
-            &self.marks,
+            self.committed.as_slice(),
+            self.marks.as_slice(),
             reads,
             writes,
         )

@@ -75,7 +75,7 @@ abort_late tables (Some found) = λ e. cc
 abort_fault : (ending : Ending) → IsAbort (fault_outcome ending)
 abort_fault Good = tt
 abort_fault (Faulted fault) = λ e. cc
-abort_fault IllTyped = tt
+abort_fault IllTyped = λ e. cc
 
 abort_conflict : (writes : List Write) (found : Option (ℕ × ℕ)) → IsAbort (conflict_outcome writes found)
 abort_conflict writes None = tt

@@ -50,7 +50,7 @@ stamped_is number (done ∷ rest) =
     ∙ ap (λ front. front ++ map (λ placed. (number, placed)) (placed_of rest)) (map-map (λ placed. (number, placed)) (λ write. record { pos = done.pos; write = write }) done.writes)
     ∙ ap (λ back. stamps number done.pos done.writes ++ back) (stamped_is number rest)
 
-history_grown : (chain : List Sealed) (block : Sealed) → history_of (chain ++ block ∷ []) ≡ history_of chain ++ stamped_of block
+pub history_grown : (chain : List Sealed) (block : Sealed) → history_of (chain ++ block ∷ []) ≡ history_of chain ++ stamped_of block
 history_grown [] block = append-nil (stamped_of block)
 history_grown (first ∷ chain) block = ap (λ rest. stamped_of first ++ rest) (history_grown chain block) ∙ sym (append_assoc (stamped_of first) (history_of chain) (stamped_of block))
 

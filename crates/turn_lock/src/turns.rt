@@ -20,6 +20,9 @@ const TURN: usize = 0;
 // Word 1 of the table is the length of the story.
 const LENGTH: usize = 1;
 
+// How often a pass looks whether the turn is over before its thread sleeps.
+const LOOKS_BEFORE_SLEEP: u32 = 8;
+
 impl<S: Storied> Pass<S> {
     /// The number of the pass. The entries of that number in what the pass has seen are its own.
     pub fn number(&self) -> u32
@@ -52,7 +55,7 @@ impl<S: Storied> TurnLock<S> {
     }
 
     /// Begins a turn: the value, whose story begins with all that the pass had seen. It waits while another pass has the
-    /// turn.
+    /// turn, asleep after a few looks.
     pub fn take<R: Wait>(&self, rt: &R, pass: &mut Pass<S>) -> S
         requires lock { IsPassOf self.now pass.old }
         requires no_turn { HoldsNoTurn pass.old }
@@ -65,6 +68,7 @@ impl<S: Storied> TurnLock<S> {
         ensures own { entries_of S.actor (pass_number pass.old) (S.story result) ≡ mine pass.old }
     {
         let shared = &self.table.shared;
+        let mut tries = 0;
         for _ in rt.forever() {
             if shared.compare_exchange::<Enter>(&mut pass.seat, TURN, 0, 1) == 0 {
                 shared.load::<Look>(&mut pass.seat, LENGTH);
@@ -74,7 +78,13 @@ impl<S: Storied> TurnLock<S> {
                     None => unreachable!(),
                 }
             }
-            thread::yield_now();
+            // a turn is short, so that a look or two more mostly finds it over; after that the thread sleeps until a turn ends
+            if tries < LOOKS_BEFORE_SLEEP {
+                tries += 1;
+                thread::yield_now();
+            } else {
+                shared.park(rt, TURN, 1);
+            }
         }
         unreachable!()
     }
@@ -98,6 +108,7 @@ impl<S: Storied> TurnLock<S> {
         shared.store::<Publish>(&mut pass.seat, LENGTH, length);
         shared.load::<PutBack>(&mut pass.seat, TURN);
         shared.store::<Leave>(&mut pass.seat, TURN, 0);
+        shared.wake_one(TURN);
     }
 
     /// A new pass for another caller, which has seen what this one has. Only the pass with number 0 splits.

@@ -261,20 +261,6 @@ fn id_of(key: &Key) -> Option<i64> {
     }
 }
 
-/// The first write on an account above one height and up to another.
-fn late_on(
-    alloc: Global,
-    store: &Store,
-    after: u64,
-    upto: u64,
-    id: i64,
-) -> Result<Option<(u64, Option<i64>, bool)>, Fail>
-    requires { IsAccounts store.now.0 }
-{
-    let key = key(alloc, id)?;
-    Ok(hit_of(store.late_hit(after, upto, &Read::Point { table: 0, key })))
-}
-
 /// The first write above one height and up to another that a read of the accounts of at least an amount hits.
 fn late_from(store: &Store, after: u64, upto: u64, low: i64) -> Option<(u64, Option<i64>, bool)>
     requires { IsAccounts store.now.0 }
@@ -324,37 +310,6 @@ fn version_in(store: &Store, at: usize) -> Result<Option<(Option<i64>, u64, Opti
 }
 
 #[test]
-fn versions_of_accounts(rt: HostRuntime) -> Result<(), Fail> {
-    let alloc = rt.alloc();
-    let store = two_accounts(alloc)?;
-    assert_eq!(rt; amount_at(alloc, &store, 0, 7)?, None);
-    assert_eq!(rt; amount_at(alloc, &store, 1, 7)?, Some(10));
-    assert_eq!(rt; amount_at(alloc, &store, 3, 7)?, Some(20));
-    assert_eq!(rt; amount_at(alloc, &store, 4, 7)?, None);
-    assert_eq!(rt; rows_from(&store, 3, 5)?, (2, Some(20)));
-    assert_eq!(rt; rows_from(&store, 4, 5)?, (1, Some(5)));
-    Ok(())
-}
-
-#[test]
-fn chains_of_two_accounts(rt: HostRuntime) -> Result<(), Fail> {
-    let alloc = rt.alloc();
-    let store = two_accounts(alloc)?;
-    assert_eq!(rt;
-        version_of(alloc, &store, 7, 0)?,
-        Some((Some(10), 1, Some(3)))
-    );
-    assert_eq!(rt;
-        version_of(alloc, &store, 7, 1)?,
-        Some((Some(20), 3, Some(4)))
-    );
-    assert_eq!(rt; version_of(alloc, &store, 7, 2)?, None);
-    assert_eq!(rt; version_of(alloc, &store, 8, 0)?, Some((Some(5), 2, None)));
-    assert_eq!(rt; version_of(alloc, &store, 9, 0)?, None);
-    Ok(())
-}
-
-#[test]
 fn all_of_two_accounts(rt: HostRuntime) -> Result<(), Fail> {
     let alloc = rt.alloc();
     let store = two_accounts(alloc)?;
@@ -362,17 +317,6 @@ fn all_of_two_accounts(rt: HostRuntime) -> Result<(), Fail> {
     assert_eq!(rt; version_in(&store, 1)?, Some((Some(5), 2, None)));
     assert_eq!(rt; version_in(&store, 2)?, Some((Some(20), 3, Some(4))));
     assert_eq!(rt; version_in(&store, 3)?, None);
-    Ok(())
-}
-
-#[test]
-fn late_reads_of_an_account(rt: HostRuntime) -> Result<(), Fail> {
-    let alloc = rt.alloc();
-    let store = two_accounts(alloc)?;
-    assert_eq!(rt; late_on(alloc, &store, 1, 4, 7)?, Some((3, Some(7), true)));
-    assert_eq!(rt; late_on(alloc, &store, 1, 2, 7)?, None);
-    assert_eq!(rt; late_on(alloc, &store, 1, 2, 8)?, Some((2, Some(8), false)));
-    assert_eq!(rt; late_on(alloc, &store, 4, 4, 7)?, None);
     Ok(())
 }
 
@@ -403,17 +347,6 @@ fn versions_of_an_account_made_again(rt: HostRuntime) -> Result<(), Fail> {
 }
 
 #[test]
-fn reads_of_an_account_made_again(rt: HostRuntime) -> Result<(), Fail> {
-    let alloc = rt.alloc();
-    let store = made_again(alloc)?;
-    assert_eq!(rt; amount_at(alloc, &store, 2, 7)?, None);
-    assert_eq!(rt; amount_at(alloc, &store, 3, 7)?, Some(10));
-    assert_eq!(rt; late_on(alloc, &store, 1, 3, 7)?, Some((2, Some(7), true)));
-    assert_eq!(rt; late_on(alloc, &store, 2, 3, 7)?, Some((3, Some(7), false)));
-    Ok(())
-}
-
-#[test]
 fn reads_with_a_tail(rt: HostRuntime) -> Result<(), Fail> {
     let alloc = rt.alloc();
     let store = in_one_room(alloc)?;
@@ -422,35 +355,5 @@ fn reads_with_a_tail(rt: HostRuntime) -> Result<(), Fail> {
     assert_eq!(rt; rows_from(&store, 1, 5)?, (1, Some(5)));
     assert_eq!(rt; rows_from(&store, 2, 5)?, (2, Some(10)));
     assert_eq!(rt; rows_from(&store, 3, 15)?, (1, Some(20)));
-    Ok(())
-}
-
-#[test]
-fn late_reads_with_a_tail(rt: HostRuntime) -> Result<(), Fail> {
-    let alloc = rt.alloc();
-    let store = in_one_room(alloc)?;
-    assert_eq!(rt; late_on(alloc, &store, 2, 3, 7)?, Some((3, Some(7), true)));
-    assert_eq!(rt; late_from(&store, 1, 3, 15), Some((3, Some(7), false)));
-    assert_eq!(rt; version_of(alloc, &store, 7, 1)?, Some((Some(20), 3, None)));
-    assert_eq!(rt; version_in(&store, 1)?, Some((Some(10), 2, Some(3))));
-    Ok(())
-}
-
-#[test]
-fn reads_after_more_room_is_taken(rt: HostRuntime) -> Result<(), Fail> {
-    let alloc = rt.alloc();
-    let mut store = in_one_room(alloc)?;
-    store.reserve(0)?;
-    assert_eq!(rt; amount_at(alloc, &store, 3, 7)?, Some(20));
-    assert_eq!(rt; rows_from(&store, 3, 5)?, (2, Some(20)));
-    Ok(())
-}
-
-#[test]
-fn more_room_than_there_is(rt: HostRuntime) -> Result<(), Fail> {
-    let alloc = rt.alloc();
-    let mut store = in_one_room(alloc)?;
-    assert!(rt; store.reserve(usize::MAX).is_err());
-    assert_eq!(rt; rows_from(&store, 3, 5)?, (2, Some(20)));
     Ok(())
 }

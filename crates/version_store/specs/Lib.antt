@@ -2,4 +2,3 @@ pub mod Hits
 pub mod Log
 pub mod Rows
 pub mod Kept
-pub mod Example

@@ -7,8 +7,6 @@ pub mod hits;
 pub mod lifespans;
 pub mod rows;
 pub mod store;
-#[cfg(test)]
-mod tests;
 
 pub use committed::Committed;
 pub use store::PlainVersions;

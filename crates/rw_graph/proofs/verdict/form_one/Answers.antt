@@ -7,13 +7,13 @@ use Rattle.rw_graph.specs.Held.{holds}
 pub returns-in_err-z : goal.returns-in_err-z
 returns-in_err-z c =
     let none : c.from_residual.result ≡ None = search rules in
-    none ∙ sym (one_without_z c.args.set.now.positions c.args.set.now.rising (has_edge c.args.set.now) (holds c.args.edges.now.out) (holds c.args.edges.now.into) c.in_err-z.ensures.least)
+    none ∙ sym (one_without_z c.args.set.now.positions.items c.args.set.now.rising (has_edge c.args.set.now) (holds c.args.edges.now.out) (holds c.args.edges.now.into) c.in_err-z.ensures.least)
 
 pub returns-in_err-x : goal.returns-in_err-x
 returns-in_err-x c =
     let none : c.from_residual-in_err-x.result ≡ None = search rules in
-    none ∙ sym (one_without_x c.args.set.now.positions c.args.set.now.rising (has_edge c.args.set.now) (holds c.args.edges.now.out) (holds c.args.edges.now.into) c.in_ok-z.z c.in_ok-z.ensures.least c.in_err-x.ensures.least)
+    none ∙ sym (one_without_x c.args.set.now.positions.items c.args.set.now.rising (has_edge c.args.set.now) (holds c.args.edges.now.out) (holds c.args.edges.now.into) c.in_ok-z.z c.in_ok-z.ensures.least c.in_err-x.ensures.least)
 
 pub returns : goal.returns
 returns c =
-    sym (one_with c.args.set.now.positions c.args.set.now.rising (has_edge c.args.set.now) (holds c.args.edges.now.out) (holds c.args.edges.now.into) c.requires.out c.requires.into c.in_ok-z.z c.in_ok-x.x c.in_ok-z.ensures.least c.in_ok-x.ensures.least)
+    sym (one_with c.args.set.now.positions.items c.args.set.now.rising (has_edge c.args.set.now) (holds c.args.edges.now.out) (holds c.args.edges.now.into) c.requires.out c.requires.into c.in_ok-z.z c.in_ok-x.x c.in_ok-z.ensures.least c.in_ok-x.ensures.least)

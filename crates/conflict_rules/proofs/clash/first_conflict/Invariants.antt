@@ -1,5 +1,5 @@
 use Rattle.std.proofs.Common.{drop, ◌≡◌}
-use Rattle.conflict_rules.proofs.clash.write_conflict.Given as goal
+use Rattle.conflict_rules.proofs.clash.first_conflict.Given as goal
 use Rattle.node_model.specs.Decide.{clash}
 
 -- what is left decides the whole
