@@ -1,5 +1,5 @@
 -- Counts of failed calls, and leave to read.
-use Rattle.std.specs.Prelude.{ℕ, ◌≤◌, ◌+◌, ◌-◌, ◌^◌, min, List}
+use Rattle.std.specs.Prelude.{ℕ, ◌≡◌, ◌<◌, ◌≤◌, ◌+◌, ◌-◌, ◌^◌, min, List}
 
 -- A count raised by one. It stops at the greatest number of 64 bits.
 abbrev pub raised : ℕ → ℕ
@@ -17,6 +17,15 @@ Counts = List ℕ → ℕ
 abbrev pub NoneFell : Counts → Counts → Type 0
 NoneFell before now = (name : List ℕ) → before name ≤ now name
 
--- Each name that could be read before can still be read.
-abbrev pub Keeps : (List ℕ → Type 0) → (List ℕ → Type 0) → Type 0
-Keeps before now = (name : List ℕ) → before name → now name
+-- Which bytes may be asked for: of a name, from a place on, so many.
+abbrev pub Leave : Type 1
+Leave = List ℕ → ℕ → ℕ → Type 0
+
+-- What could be asked for before can still be asked for.
+abbrev pub Keeps : Leave → Leave → Type 0
+Keeps before now = (name : List ℕ) (at size : ℕ) → before name at size → now name at size
+
+-- The first bytes of a file, `most` of them, may be read to their end: at each place before it, all that are left, yet at most
+-- 65,536 at once.
+abbrev pub AllowsFront : Leave → List ℕ → ℕ → Type 0
+AllowsFront may_read name most = (at : ℕ) → at < most → may_read name at (min 65536 (most - at))

@@ -1,4 +1,5 @@
 pub mod Causes
+pub mod Fetched
 pub mod Shelf
 pub mod Sink
 pub mod Memory

@@ -83,7 +83,7 @@ impl<R: Files<File = File>> Shelf for DirShelf<'_, R> {
 
     ghost faults = { λ failed name. failed };
 
-    ghost may_read = { λ failed name. ⊤ };
+    ghost may_read = { λ failed name at size. ⊤ };
 
     fn read_at(&mut self, name: &str, at: u64, buf: &mut [u8]) -> Result<usize, ShelfFailed> {
         if buf.is_empty() {

@@ -1,6 +1,6 @@
 //! Shelves in memory, which tell their files.
 
-ghost use Rattle.std.specs.Prelude.{⊤, List, ℕ, ◌≡◌, ◌≤◌, ◌<◌, ◌↔◌, length, min, IfOk, OnErr, Some, IsErr, IsTrue, Ok, option_copied, nat_eq, drop, cond, is_err};
+ghost use Rattle.std.specs.Prelude.{⊤, List, ℕ, ◌≡◌, ◌≤◌, ◌<◌, ◌↔◌, length, min, IfOk, OnOk, OnErr, Some, IsErr, IsTrue, Ok, option_copied, nat_eq, drop, cond, is_err};
 ghost use Rattle.std.specs.List.{list_any};
 ghost use Rattle.edge_traits.specs.Causes.{Rose, raised};
 ghost use Rattle.edge_traits.specs.Memory.{held, files_of, is_next_listed, fresh_files, read_fails};
@@ -97,16 +97,17 @@ impl Shelf for MemShelf {
 
     ghost faults = { λ shelf name. shelf.failed };
 
-    ghost may_read = { λ shelf name. ⊤ };
+    ghost may_read = { λ shelf name at size. ⊤ };
 
     fn read_at(&mut self, name: &str, at: u64, buf: &mut [u8]) -> Result<usize, ShelfFailed>
-        ensures allowed { (name : List ℕ) → ⊤ → ⊤ }
+        ensures allowed { (name : List ℕ) (at size : ℕ) → ⊤ → ⊤ }
         ensures told { self.new.files ≡ self.old.files }
         ensures bound { IfOk result (λ count. count ≤ length buf.new) }
         ensures bytes { IfOk result (λ count. IsPiece (files_of self.old.files name.now) at count buf.new) }
         ensures empty { length buf.old ≡ 0 → result ≡ Ok 0 }
         ensures later { self.old.failed ≤ self.new.failed }
         ensures cause { OnErr result (Rose self.old.failed self.new.failed) }
+        ensures quiet { OnOk result (self.new.failed ≡ self.old.failed) }
 
         // What a shelf in memory promises beyond the trait: which calls fail, and that the others read all that fits.
         ensures fails { 0 < length buf.old → (IsErr result ↔ IsTrue (read_fails self.old name.now)) }
@@ -158,7 +159,7 @@ impl Shelf for SureShelf {
 
     ghost faults = { λ shelf name. 0 };
 
-    ghost may_read = { λ shelf name. ⊤ };
+    ghost may_read = { λ shelf name at size. ⊤ };
 
     fn read_at(&mut self, name: &str, at: u64, buf: &mut [u8]) -> Result<usize, ShelfFailed> {
         match find(self.files.as_slice(), name) {

@@ -1,6 +1,6 @@
 //! A sink in memory, which tells what it took, and one that only takes.
 
-ghost use Rattle.std.specs.Prelude.{◌≡◌, ◌≤◌, ◌<◌, ◌-◌, ◌++◌, ◌↔◌, length, take, min, IfOk, OnErr, Some, None, IsErr, IsTrue, Ok, cond, is_err};
+ghost use Rattle.std.specs.Prelude.{◌≡◌, ◌≤◌, ◌<◌, ◌-◌, ◌++◌, ◌↔◌, length, take, min, IfOk, OnOk, OnErr, Some, None, IsErr, IsTrue, Ok, cond, is_err};
 ghost use Rattle.edge_traits.specs.Causes.{Rose, raised};
 ghost use Rattle.edge_traits.specs.Memory.{fresh_bytes, write_fails};
 
@@ -70,6 +70,7 @@ impl Sink for MemSink {
         ensures unchanged { OnErr result (self.new.taken ≡ self.old.taken) }
         ensures later { self.old.failed ≤ self.new.failed }
         ensures cause { OnErr result (Rose self.old.failed self.new.failed) }
+        ensures quiet { OnOk result (self.new.failed ≡ self.old.failed) }
 
         // What a sink in memory promises beyond the trait: which calls fail, and that the others take all that there is room for.
         ensures fails { 0 < length bytes.now → (IsErr result ↔ IsTrue (write_fails self.old)) }

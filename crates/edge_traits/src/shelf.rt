@@ -1,7 +1,7 @@
 //! Files that a program reads by their names.
 
-ghost use Rattle.std.specs.Prelude.{◌≡◌, ◌≤◌, List, ℕ, length, IfOk, OnErr, IfSome, Option, Ok};
-ghost use Rattle.edge_traits.specs.Causes.{Rose, Counts, NoneFell, Keeps};
+ghost use Rattle.std.specs.Prelude.{◌≡◌, ◌≤◌, length, IfOk, OnOk, OnErr, IfSome, Option, Ok};
+ghost use Rattle.edge_traits.specs.Causes.{Rose, Counts, NoneFell, Leave, Keeps};
 ghost use Rattle.edge_traits.specs.Shelf.{Files, IsPiece};
 
 /// A read that failed.
@@ -19,19 +19,19 @@ pub trait Shelf {
     /// How often reading each name has failed. No count ever falls.
     ghost faults: { Self → Counts };
 
-    /// Which names may be read.
+    /// Which bytes may be asked for: of a name, from a place on, so many.
     ///
-    /// Every shelf of this crate lets each name be read, so whoever passes one of them has nothing to show. The leave matters
-    /// to a call that is generic in its shelf. It is proved for all shelves, among them those that let nothing be read but
-    /// what its own `requires` names; so it can read nothing else, and drop what it read, without the check refusing it. Hence
-    /// a `requires` on `may_read` at such a call, though written as a demand, is a promise: these files, in this order, and
-    /// no others are read.
-    ghost may_read: { Self → List ℕ → Type 0 };
+    /// Every shelf of this crate lets all bytes of each name be read, so whoever passes one of them has nothing to show. The
+    /// leave matters to a call that is generic in its shelf. It is proved for all shelves, among them those that let nothing be
+    /// read but what its own `requires` names; so it can read nothing else, and drop what it read, without the check refusing
+    /// it. Hence a `requires` on `may_read` at such a call, though written as a demand, is a promise: these bytes of these
+    /// files, in this order, and no others are asked for.
+    ghost may_read: { Self → Leave };
 
     /// Puts bytes of the file `name` from the byte `at` on (counted from 0) into the front of `buf`, and answers how many.
     /// For a buffer with room, `Ok(0)` is the end of the file. A buffer without room gets `Ok(0)`.
     fn read_at(&mut self, name: &str, at: u64, buf: &mut [u8]) -> Result<usize, ShelfFailed>
-        requires allowed { may_read self.old name.now }
+        requires allowed { may_read self.old name.now at (length buf.old) }
         ensures allowed { Keeps (may_read self.old) (may_read self.new) }
 
         // What is read is what the shelf tells, if it tells, and telling never changes.
@@ -40,7 +40,8 @@ pub trait Shelf {
         ensures bytes { IfOk result (λ count. IfSome (told self.old) (λ files. IsPiece (files name.now) at count buf.new)) }
         ensures empty { length buf.old ≡ 0 → result ≡ Ok 0 }
 
-        // A read fails only where the count of this name rose.
+        // A read that fails raises the count of its name, and one that does not fail leaves each count as it was.
         ensures later { NoneFell (faults self.old) (faults self.new) }
-        ensures cause { OnErr result (Rose (faults self.old name.now) (faults self.new name.now)) };
+        ensures cause { OnErr result (Rose (faults self.old name.now) (faults self.new name.now)) }
+        ensures quiet { OnOk result (faults self.new ≡ faults self.old) };
 }

@@ -1,6 +1,6 @@
 //! What a program writes to.
 
-ghost use Rattle.std.specs.Prelude.{◌≡◌, ◌≤◌, ◌<◌, List, ℕ, length, take, IfOk, OnErr, Option, Ok};
+ghost use Rattle.std.specs.Prelude.{◌≡◌, ◌≤◌, ◌<◌, List, ℕ, length, take, IfOk, OnOk, OnErr, Option, Ok};
 ghost use Rattle.edge_traits.specs.Causes.{Rose};
 ghost use Rattle.edge_traits.specs.Sink.{appended};
 
@@ -23,8 +23,9 @@ pub trait Sink {
         ensures empty { length bytes.now ≡ 0 → result ≡ Ok 0 }
         ensures appended { IfOk result (λ count. written self.new ≡ appended (written self.old) (take count bytes.now)) }
 
-        // A write fails only where the count rose.
+        // A write that fails raises the count, and one that does not fail leaves it as it was.
         ensures unchanged { OnErr result (written self.new ≡ written self.old) }
         ensures later { faults self.old ≤ faults self.new }
-        ensures cause { OnErr result (Rose (faults self.old) (faults self.new)) };
+        ensures cause { OnErr result (Rose (faults self.old) (faults self.new)) }
+        ensures quiet { OnOk result (faults self.new ≡ faults self.old) };
 }

@@ -1,5 +1,5 @@
 ghost use Rattle.std.specs.Prelude.{◌≡◌, ◌≤◌, ◌++◌, OnOk, OnErr};
-ghost use Rattle.edge_traits.specs.Causes.{Rose};
+ghost use Rattle.edge_traits.specs.Causes.{AllowsFront, Rose};
 ghost use Rattle.edge_traits.specs.Sink.{appended, WroteFront};
 
 use crate::host::{DirShelf, StdSink};
@@ -30,7 +30,7 @@ fn files(alloc: Global) -> Result<List<(Name, List<u8>)>, Fail> {
 }
 
 fn is_read<S: Shelf>(alloc: Global, shelf: &mut S, name: &str, want: &[u8]) -> bool
-    requires { S.may_read shelf.old name.now }
+    requires { AllowsFront (S.may_read shelf.old) name.now 1000001 }
 {
     match read_whole(alloc, shelf, name, 1_000_000) {
         Ok(bytes) => bytes.as_slice() == want,
@@ -111,6 +111,7 @@ fn write_both<W: Sink>(out: &mut W, first: &[u8], second: &[u8]) -> Result<(), S
     ensures err { OnErr result (WroteFront (W.written out.old) (W.written out.new) (first.now ++ second.now)) }
     ensures later { W.faults out.old ≤ W.faults out.new }
     ensures cause { OnErr result (Rose (W.faults out.old) (W.faults out.new)) }
+    ensures quiet { OnOk result (W.faults out.new ≡ W.faults out.old) }
 {
     write_whole(out, first)?;
     write_whole(out, second)

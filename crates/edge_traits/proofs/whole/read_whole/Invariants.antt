@@ -1,13 +1,14 @@
 use Rattle.std.proofs.Common.{length, ◌-◌, ◌+◌, ◌≡◌, ◌≤◌, ◌<◌, take, IfSome}
-use Rattle.edge_traits.specs.Causes.{NoneFell, Keeps}
+use Rattle.edge_traits.specs.Causes.{Keeps}
 use Rattle.edge_traits.proofs.whole.read_whole.Given as goal
 
+-- the bytes are a front of the file, and no read has failed
 abbrev pub invariant-loop-bytes : goal.invariant-loop-bytes
 invariant-loop-bytes g l = (length l.bytes.items ≤ l.limit + 1)
-    × (0 < length l.buffer.items)
+    × (length l.buffer.items ≡ 65536)
     × (g.S.Shelf.told l.shelf ≡ g.S.Shelf.told l.fn.shelf)
     × Keeps (g.S.Shelf.may_read l.fn.shelf) (g.S.Shelf.may_read l.shelf)
-    × NoneFell (g.S.Shelf.faults l.fn.shelf) (g.S.Shelf.faults l.shelf)
+    × (g.S.Shelf.faults l.shelf ≡ g.S.Shelf.faults l.fn.shelf)
     × IfSome (g.S.Shelf.told l.fn.shelf) (λ files. l.bytes.items ≡ take (length l.bytes.items) (files l.name))
 
 abbrev pub decreases-loop-bytes : goal.decreases-loop-bytes
