@@ -1,35 +1,23 @@
 -- Blocks are read back from their text.
 use Rattle.std.proofs.Common.{◌≡◌, ◌≤◌, ◌<◌, ◌+◌, ◌^◌, ℕ, pos, List, [], ◌∷◌, ◌++◌, true, cond, Option, Some, None, length, refl, sym, ◌∙◌, ap, subst, append_assoc, length-append, arith}
-use Rattle.std.specs.Prelude.{nat_lt, ◌==◌, not, codes, decimal}
-use Rattle.std.specs.List.{flat_map, AllByRecursion, onto_first}
+use Rattle.std.specs.Prelude.{nat_lt, codes, decimal}
+use Rattle.std.specs.List.{flat_map, AllByRecursion}
 use Rattle.std.specs.Option.{option_and_then, option_map}
-use Rattle.std.specs.Str.{bytes_eq}
-use Rattle.std.proofs.lemmas.Bool.{and_parts, and_from, lt-ltb, eq-eqb, not-true}
+use Rattle.std.proofs.lemmas.Bool.{and_from, lt-ltb}
 use Rattle.std.proofs.lemmas.List.{append-nil}
 use Rattle.proc_syntax.specs.declared.call.Tx.{Tx}
 use Rattle.proc_syntax.specs.declared.call.Block.{Block}
-use Rattle.tx_text.specs.Lines.{tx_text}
+use Rattle.tx_text.specs.Lines.{tx_text, HasLine}
 use Rattle.tx_text.proofs.Again.{tx_again}
 use Rattle.chain_file.specs.declared.draft.Reading.{Reading}
-use Rattle.chain_file.specs.Lines.{is_newline, parts_of}
+use Rattle.tx_text.specs.Parts.{parts_of, line_text}
 use Rattle.chain_file.specs.Numbered.{NumberedFrom}
-use Rattle.chain_file.specs.Text.{line_text, tx_line, begun_text, block_text, draft_text, HasLine, CanStand}
+use Rattle.chain_file.specs.Text.{tx_line, begun_text, block_text, draft_text, CanStand}
 use Rattle.chain_file.specs.Draft.{within_block, between_blocks, is_block_line, begin_block, take_line, read_parts, after_header, draft}
 use Rattle.chain_file.proofs.Blocks.{made_block}
 use Rattle.chain_file.proofs.Steps.{read_step}
-use Rattle.chain_file.proofs.Plain.{plain, plain-append, decimal_plain, tx_plain}
-
-pub bytes_same : (xs : List ℕ) → bytes_eq xs xs ≡ true
-bytes_same [] = refl
-bytes_same (x ∷ xs) = and_from (x == x) (bytes_eq xs xs) (eq-eqb x x refl) (bytes_same xs)
-
--- a line without a newline, before its newline
-pub parts_line : (line rest : List ℕ) → plain line ≡ true → parts_of (line ++ (10 ∷ rest)) ≡ line ∷ parts_of rest
-parts_line [] rest e = refl
-parts_line (b ∷ bs) rest e =
-    let parts = and_parts (not (is_newline b)) (plain bs) e in
-    ap (λ test. cond test ([] ∷ parts_of (bs ++ (10 ∷ rest))) (onto_first b (parts_of (bs ++ (10 ∷ rest))))) (not-true (is_newline b) parts.0)
-    ∙ ap (onto_first b) (parts_line bs rest parts.1)
+use Rattle.tx_text.proofs.Plain.{plain, plain-append, decimal_plain, tx_plain, parts_line}
+use Rattle.tx_text.proofs.Bytes.{bytes_same}
 
 -- what is read from a place on
 abbrev reads : Reading → List ℕ → Option (List Block)

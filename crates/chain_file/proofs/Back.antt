@@ -1,42 +1,40 @@
 -- Blocks are read back from their chain file.
-use Rattle.std.proofs.Common.{◌≡◌, ◌≤◌, ◌<◌, ◌+◌, ◌*◌, ◌/◌, ◌%◌, ◌^◌, ℕ, zero, suc, pos, List, [], ◌∷◌, ◌++◌, Bool, true, false, cond, Option, Some, None, length, get_or, ⊎_elim, refl, sym, ◌∙◌, ap, subst, append_assoc, length-append, arith}
-use Rattle.std.specs.Prelude.{nat_le, nat_lt, ◌==◌, ◌&&◌, ◌||◌, not, codes, decimal, Result, Ok, Err, slice_index}
+use Rattle.std.proofs.Common.{◌≡◌, ◌≤◌, ◌<◌, ◌+◌, ◌/◌, ◌%◌, ◌^◌, ℕ, zero, suc, pos, List, [], ◌∷◌, ◌++◌, Bool, true, false, cond, Option, Some, None, length, get_or, ⊎_elim, refl, sym, ◌∙◌, ap, subst, append_assoc, length-append, arith}
+use Rattle.std.specs.Prelude.{nat_le, nat_lt, ◌==◌, ◌&&◌, not, codes, decimal, Result, Ok, Err, slice_index}
 use Rattle.std.specs.Char.{is_ascii_digit}
 use Rattle.std.specs.Int.{w32, to_be_bytes}
 use Rattle.std.specs.List.{flat_map, list_all, AllByRecursion}
 use Rattle.std.specs.Str.{bytes_eq, all_ascii_digits}
-use Rattle.std.proofs.lemmas.Bool.{and_parts, and_from, lt-ltb, le-leb, eq-eqb, not-true, ne_eqb, cases_lt}
+use Rattle.std.proofs.lemmas.Bool.{and_parts, and_from, lt-ltb, le-leb, eq-eqb, ne_eqb, cases_lt}
 use Rattle.std.proofs.lemmas.Bool.Decides.{nat_tests}
 use Rattle.std.proofs.lemmas.Fmt.{digits_decimal, length-decimal-le, decimal_nonempty, decimal_digit, first_decimal}
 use Rattle.std.proofs.lemmas.List.{append-nil}
 use Rattle.sha2.specs.Sha256.{sha256, digest_bytes, final_hash, initial_hash_256}
 use Rattle.sha2.proofs.Facts256.{length-sha256}
-use Rattle.hex.specs.Hex.{encode_with, encode_lower, lower_digits}
+use Rattle.hex.specs.Hex.{encode_with, lower_digits}
 use Rattle.hex.proofs.HexLemmas.{length-encode_with}
 use Rattle.literals.specs.Number.{is_canonical}
 use Rattle.literals.proofs.Numerals.{own}
 use Rattle.proc_syntax.specs.declared.call.Tx.{Tx}
 use Rattle.proc_syntax.specs.declared.call.Block.{Block}
-use Rattle.tx_text.specs.Fields.{is_space, word, past_word}
-use Rattle.tx_text.specs.Lines.{tx_of, tx_text}
+use Rattle.tx_text.specs.Fields.{is_space, past_word}
+use Rattle.tx_text.specs.Lines.{tx_text, HasLine}
 use Rattle.tx_text.proofs.Again.{tx_again, word_again, past_again}
 use Rattle.proc_syntax.specs.declared.chain_fault.ChainKind.{ChainKind}
 use Rattle.proc_syntax.specs.declared.chain_fault.ChainKind.TheVariants as kind
 use Rattle.proc_syntax.specs.declared.chain_fault.ChainFault.{ChainFault}
-use Rattle.chain_file.specs.declared.place.FileForm.{FileForm}
 use Rattle.chain_file.specs.declared.place.FileForm.TheVariants as form
-use Rattle.chain_file.specs.declared.place.Place.{Place}
 use Rattle.chain_file.specs.declared.place.Place.TheVariants as place
 use Rattle.chain_file.specs.declared.place.Taken.{Taken}
-use Rattle.chain_file.specs.Lines.{parts_of}
+use Rattle.tx_text.specs.Parts.{parts_of, line_text, is_long}
 use Rattle.chain_file.specs.Numbered.{NumberedFrom}
-use Rattle.chain_file.specs.Text.{line_text, tx_line, HasLine, CanStand}
-use Rattle.chain_file.specs.Steps.{goes_on, is_hex, is_hash_field, is_next, is_number, has_end, has_digits, numbered, ends, add_tx, is_long, line_step, step}
-use Rattle.chain_file.specs.Chain.{Position, Walked, front, no_digits, hash_digits, position_after, told, take_line, ended_blocks, with_blocks, onward, walk, walked, fault_at_end, chain}
+use Rattle.chain_file.specs.Text.{tx_line, CanStand}
+use Rattle.chain_file.specs.Steps.{goes_on, is_hex, is_hash_field, is_next, is_number, has_end, has_digits, numbered, ends, add_tx, line_step}
+use Rattle.chain_file.specs.Chain.{Position, Walked, front, no_digits, hash_digits, position_after, told, take_line, ended_blocks, with_blocks, walk, fault_at_end, chain}
 use Rattle.chain_file.specs.ChainText.{chained_text, blocks_text, chain_text}
 use Rattle.chain_file.proofs.Blocks.{made_block}
-use Rattle.chain_file.proofs.Plain.{plain, plain-append, plain-from, decimal_plain, tx_plain}
-use Rattle.chain_file.proofs.Again.{bytes_same, parts_line}
+use Rattle.tx_text.proofs.Plain.{plain, plain-append, plain-from, decimal_plain, tx_plain, parts_line}
+use Rattle.tx_text.proofs.Bytes.{bytes_same}
 use Rattle.chain_file.proofs.Walking.{walk_split}
 
 -- the digits of a hash are 64, each a hexadecimal digit in lower case
@@ -140,7 +138,7 @@ walk_txs line count digits done (tx ∷ txs) bytes rest fine few =
     ∙ ap (λ all. walk (in_block (line + length (tx ∷ txs)) count digits (done ++ (tx ∷ txs)) all) (parts_of rest)) (append_assoc bytes (tx_line tx) (flat_map tx_line txs))
 
 -- `block N HASH`
-abbrev block_line : ℕ → List ℕ → List ℕ
+abbrev pub block_line : ℕ → List ℕ → List ℕ
 block_line number digits = codes "block " ++ (decimal number ++ (32 ∷ digits))
 
 ascii_same : (ds : List ℕ) → all_ascii_digits ds ≡ true → list_all is_ascii_digit ds ≡ true

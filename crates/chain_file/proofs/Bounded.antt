@@ -12,11 +12,11 @@ use Rattle.proc_syntax.specs.declared.call.Block.{Block}
 use Rattle.tx_text.specs.Lines.{tx_form}
 use Rattle.chain_file.specs.declared.draft.Reading.{Reading}
 use Rattle.chain_file.specs.declared.draft.Begun.{Begun}
-use Rattle.chain_file.specs.Lines.{parts_of}
+use Rattle.tx_text.specs.Parts.{parts_of}
 use Rattle.chain_file.specs.Text.{longest_draft}
 use Rattle.chain_file.specs.Draft.{block_of, within_block, between_blocks, is_block_line, end_block, add_tx, line_after, take_line, all_ended, finished, last_part, read_parts, start, after_header, draft}
 use Rattle.chain_file.proofs.Numbered.{Holds}
-use Rattle.chain_file.proofs.Spelled.{same_bytes}
+use Rattle.tx_text.proofs.Bytes.{same_bytes}
 
 -- n bytes, each newline with them, were read behind the header: a block has at most 1,026 lines of 4,097 bytes
 abbrev Within : ℕ → List Block → Option Begun → Type 0

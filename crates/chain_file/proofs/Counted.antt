@@ -1,10 +1,9 @@
 -- The blocks before the first fault are numbered from 1, and have the time 0.
-use Rattle.std.proofs.Common.{◌≡◌, ◌+◌, ℕ, pos, List, [], ◌∷◌, ◌++◌, Bool, true, false, cond, Option, Some, None, length, refl, subst, arith}
+use Rattle.std.proofs.Common.{◌≡◌, ◌+◌, ℕ, List, [], ◌∷◌, ◌++◌, Bool, true, false, cond, Option, Some, None, length, refl, subst}
 use Rattle.std.specs.Prelude.{nat_lt, ◌&&◌, codes, Result, Ok, Err}
 use Rattle.std.specs.Str.{bytes_eq}
 use Rattle.proc_syntax.specs.declared.call.Tx.{Tx}
 use Rattle.proc_syntax.specs.declared.call.Block.{Block}
-use Rattle.proc_syntax.specs.declared.chain_fault.ChainFault.{ChainFault}
 use Rattle.proc_syntax.specs.declared.chain_fault.ChainKind.{ChainKind}
 use Rattle.proc_syntax.specs.declared.chain_fault.ChainKind.TheVariants as kind
 use Rattle.chain_file.specs.declared.place.FileForm.{FileForm}
@@ -14,12 +13,11 @@ use Rattle.chain_file.specs.declared.place.Place.TheVariants as place
 use Rattle.chain_file.specs.declared.place.Taken.{Taken}
 use Rattle.tx_text.specs.Fields.{after, word, past_word}
 use Rattle.tx_text.specs.Lines.{tx_of}
-use Rattle.chain_file.specs.Lines.{parts_of}
-use Rattle.chain_file.specs.Text.{line_text}
+use Rattle.tx_text.specs.Parts.{parts_of, line_text, is_long}
 use Rattle.chain_file.specs.Numbered.{NumberedFrom}
 use Rattle.chain_file.specs.Draft.{block_of}
-use Rattle.chain_file.specs.Steps.{goes_on, is_number, has_end, is_next, has_digits, numbered, begun_by, ends, end_block, add_tx, line_step, is_long, step}
-use Rattle.chain_file.specs.Chain.{Position, Walked, chain, fault, front, onward, position_after, told, walk, walked}
+use Rattle.chain_file.specs.Steps.{goes_on, is_number, has_end, is_next, has_digits, numbered, begun_by, ends, end_block, add_tx, line_step, step}
+use Rattle.chain_file.specs.Chain.{Position, chain, front, onward, position_after, told, walk}
 use Rattle.chain_file.proofs.Numbered.{Holds, IsOf, block_is}
 
 -- how many blocks ended

@@ -4,7 +4,7 @@ use Rattle.std.specs.Prelude.{nat_le, nat_lt, ◌==◌, ◌&&◌, not, codes, de
 use Rattle.std.specs.List.{flat_map, list_all, position_or_len}
 use Rattle.std.specs.Option.{option_and_then, option_map}
 use Rattle.std.specs.Str.{bytes_eq}
-use Rattle.std.proofs.lemmas.Bool.{and_parts, and_from, lt-ltb, ltb-true, le-leb, eqb-true, ne_eqb, both_ways}
+use Rattle.std.proofs.lemmas.Bool.{and_parts, and_from, lt-ltb, ltb-true, eqb-true, ne_eqb, both_ways}
 use Rattle.std.proofs.lemmas.Bool.Decides.{nat_tests}
 use Rattle.std.proofs.lemmas.List.{append-nil, take-append-drop}
 use Rattle.proc_syntax.specs.declared.call.Tx.{Tx}
@@ -17,21 +17,20 @@ use Rattle.proc_syntax.specs.declared.chain_fault.ChainKind.TheVariants as kind
 use Rattle.proc_syntax.specs.declared.chain_fault.ChainFault.{ChainFault}
 use Rattle.chain_file.specs.declared.draft.Reading.{Reading}
 use Rattle.chain_file.specs.declared.draft.Begun.{Begun}
-use Rattle.chain_file.specs.declared.place.FileForm.{FileForm}
 use Rattle.chain_file.specs.declared.place.FileForm.TheVariants as form
-use Rattle.chain_file.specs.declared.place.Place.{Place}
 use Rattle.chain_file.specs.declared.place.Place.TheVariants as place
 use Rattle.chain_file.specs.declared.place.Taken.{Taken}
-use Rattle.chain_file.specs.Lines.{parts_of}
-use Rattle.chain_file.specs.Text.{line_text, block_text, draft_text}
+use Rattle.tx_text.specs.Parts.{parts_of, line_text, is_long}
+use Rattle.chain_file.specs.Text.{block_text, draft_text}
 use Rattle.chain_file.specs.Draft.{block_of, within_block, between_blocks, is_block_line, line_after, all_ended, last_part, read_parts, start, after_header, draft}
 use Rattle.chain_file.specs.Draft as draft_file
-use Rattle.chain_file.specs.Steps.{goes_on, is_number, has_end, is_next, has_digits, numbered, begun_by, begin, ends, add_tx, within, is_long, line_step}
-use Rattle.chain_file.specs.Chain.{Position, Walked, fault, hash_digits, position_after, told, take_line, ended_blocks, with_blocks, onward, walk, fault_at_end, chain, front}
-use Rattle.chain_file.proofs.Again.{bytes_same, parts_line}
+use Rattle.chain_file.specs.Steps.{goes_on, is_number, is_next, numbered, begun_by, begin, ends, add_tx, within, line_step}
+use Rattle.chain_file.specs.Chain.{Position, Walked, fault, hash_digits, position_after, told, take_line, ended_blocks, onward, walk, fault_at_end, chain, front}
+use Rattle.tx_text.proofs.Bytes.{bytes_same, same_bytes}
+use Rattle.tx_text.proofs.Plain.{parts_line}
 use Rattle.chain_file.proofs.Back.{decimal_number, no_space_decimal, decimal_short, judged, taken_line, walk_back}
-use Rattle.chain_file.proofs.Pieces.{parts_some}
-use Rattle.chain_file.proofs.Spelled.{same_bytes, draft_spelled}
+use Rattle.tx_text.proofs.Glued.{parts_some}
+use Rattle.chain_file.proofs.Spelled.{draft_spelled}
 
 -- the position of a draft file behind blocks
 abbrev at_of : ℕ → List Block → List ℕ → List ℕ → Option Begun → Position
@@ -50,11 +49,11 @@ Matches blocks (Some reading) taken =
     × (taken ≡ Ok (at_of line reading.blocks digits bytes reading.begun, ended)) × (reading.blocks ≡ blocks ++ ended_blocks ended) × NextIs (length reading.blocks) reading.begun
 
 -- the rest of a `block` line
-abbrev IsBehind : List ℕ → Option (List ℕ) → Type 0
+abbrev pub IsBehind : List ℕ → Option (List ℕ) → Type 0
 IsBehind line None = Unit {0}
 IsBehind line (Some rest) = line ≡ codes "block " ++ rest
 
-behind_if : (line : List ℕ) (test : Bool) → bytes_eq (take 6 line) (codes "block ") ≡ test → IsBehind line (cond test (Some (drop 6 line)) None)
+pub behind_if : (line : List ℕ) (test : Bool) → bytes_eq (take 6 line) (codes "block ") ≡ test → IsBehind line (cond test (Some (drop 6 line)) None)
 behind_if line true e = sym (take-append-drop 6 line) ∙ ap (λ first. first ++ drop 6 line) (same_bytes (take 6 line) (codes "block ") e)
 behind_if line false e = tt
 

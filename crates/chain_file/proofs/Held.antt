@@ -1,12 +1,10 @@
 -- How many bytes a reader keeps of a line that has not ended.
-use Rattle.std.proofs.Common.{Bool, List, [], ap, arith, cond, false, length, refl, sym, true, ◌<◌, ◌∙◌, ◌≡◌, ◌≤◌, ◌∷◌, ℕ}
-use Rattle.std.specs.Prelude.{Err, None, Ok, Option, Result, Some, nat_lt}
+use Rattle.std.proofs.Common.{Bool, List, [], ap, arith, cond, false, length, refl, sym, true, ◌≡◌, ◌≤◌, ◌∷◌, ℕ}
+use Rattle.std.specs.Prelude.{Err, Ok, Option, Result, nat_lt}
 use Rattle.chain_file.specs.Chain.{Position, Walked, fault, front, onward, open_length, take_line, walk, walked}
 use Rattle.chain_file.specs.Following.{Keeps}
-use Rattle.chain_file.specs.Lines.{parts_of}
-use Rattle.chain_file.specs.Steps.{is_long}
+use Rattle.tx_text.specs.Parts.{parts_of, is_long}
 use Rattle.chain_file.specs.declared.reader.State.TheVariants as state
-use Rattle.chain_file.specs.declared.reader.State.{State}
 use Rattle.chain_file.specs.declared.standing.Standing.{Standing}
 use Rattle.proc_syntax.specs.declared.call.Block.{Block}
 use Rattle.proc_syntax.specs.declared.chain_fault.ChainFault.{ChainFault}

@@ -1,5 +1,5 @@
 -- No line has the fault that the bytes end too early.
-use Rattle.std.proofs.Common.{◌≡◌, ◌+◌, ℕ, List, [], ◌∷◌, ◌++◌, Bool, true, false, cond, Option, Some, None, length, refl, sym, ◌∙◌, ap}
+use Rattle.std.proofs.Common.{◌≡◌, ◌+◌, ℕ, List, [], ◌∷◌, ◌++◌, Bool, true, false, cond, Option, Some, None, length, refl, sym, ap}
 use Rattle.std.specs.Prelude.{nat_lt, ◌==◌, ◌&&◌, codes, Result, Ok, Err}
 use Rattle.std.specs.Str.{bytes_eq}
 use Rattle.proc_syntax.specs.declared.call.Tx.{Tx}
@@ -14,10 +14,10 @@ use Rattle.chain_file.specs.declared.place.FileForm.TheVariants as form
 use Rattle.chain_file.specs.declared.place.Place.{Place}
 use Rattle.chain_file.specs.declared.place.Place.TheVariants as place
 use Rattle.chain_file.specs.declared.place.Taken.{Taken}
-use Rattle.chain_file.specs.Lines.{parts_of}
+use Rattle.tx_text.specs.Parts.{parts_of, is_long}
 use Rattle.chain_file.specs.Draft.{block_of}
-use Rattle.chain_file.specs.Steps.{goes_on, is_number, has_end, is_next, has_digits, numbered, begun_by, ends, end_block, add_tx, within, line_step, is_long, step}
-use Rattle.chain_file.specs.Chain.{Position, Walked, fault, told, take_line, with_blocks, ended_blocks, onward, walk, walked, front, is_between, fault_at_end, is_cut, lasting}
+use Rattle.chain_file.specs.Steps.{goes_on, is_number, has_end, is_next, has_digits, numbered, begun_by, ends, end_block, add_tx, line_step, step}
+use Rattle.chain_file.specs.Chain.{Position, fault, told, take_line, onward, walk, walked, front, is_between, fault_at_end, is_cut, lasting}
 
 -- any other fault
 abbrev Lasts : {A : Type 0} → Result A ChainKind → Type 0

@@ -1,9 +1,7 @@
-pub mod Parts
 pub mod Blocks
 pub mod Steps
 pub mod Numbered
 pub mod Spelled
-pub mod Plain
 pub mod Again
 pub mod Bounded
 pub mod Near
@@ -16,3 +14,4 @@ pub mod Longest
 pub mod Counted
 pub mod Stopped
 pub mod Held
+pub mod Chained

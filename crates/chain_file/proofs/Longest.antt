@@ -10,10 +10,10 @@ use Rattle.proc_syntax.specs.declared.chain_fault.ChainKind.{ChainKind}
 use Rattle.proc_syntax.specs.declared.chain_fault.ChainKind.TheVariants as kind
 use Rattle.chain_file.specs.declared.place.Place.{Place}
 use Rattle.chain_file.specs.declared.place.Taken.{Taken}
-use Rattle.chain_file.specs.Lines.{parts_of}
-use Rattle.chain_file.specs.Text.{line_text, longest_draft}
+use Rattle.tx_text.specs.Parts.{parts_of, line_text, is_long}
+use Rattle.chain_file.specs.Text.{longest_draft}
 use Rattle.chain_file.specs.Near.{is_near}
-use Rattle.chain_file.specs.Steps.{is_long, line_step, step}
+use Rattle.chain_file.specs.Steps.{line_step, step}
 use Rattle.chain_file.specs.Chain.{Position, chain, fault, front, lasting, onward, position_after, told, walk, walked}
 use Rattle.chain_file.proofs.Lasting.{fault_so_far, so_far_lasts}
 use Rattle.chain_file.proofs.Near.{near_few, near_step}

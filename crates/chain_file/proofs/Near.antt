@@ -1,5 +1,5 @@
 -- No line stands too far from the front of its file.
-use Rattle.std.proofs.Common.{◌≡◌, ◌≤◌, ◌<◌, ◌+◌, ◌*◌, ◌^◌, ℕ, List, [], ◌∷◌, ◌++◌, Bool, true, false, cond, Option, Some, None, length, refl, ap, subst, length-append, arith}
+use Rattle.std.proofs.Common.{◌≡◌, ◌≤◌, ◌<◌, ◌+◌, ◌*◌, ◌^◌, ℕ, List, [], ◌∷◌, ◌++◌, Bool, true, false, cond, Option, Some, None, length, refl, subst, length-append, arith}
 use Rattle.std.specs.Prelude.{◌&&◌, nat_le, nat_lt, Result, Ok, Err, codes, decimal}
 use Rattle.std.specs.Str.{bytes_eq}
 use Rattle.std.proofs.lemmas.Bool.{and_parts, and_from, le-leb, leb-true, lt-ltb, ltb-true}
@@ -16,7 +16,8 @@ use Rattle.chain_file.specs.declared.place.Place.TheVariants as place
 use Rattle.chain_file.specs.declared.place.Taken.{Taken}
 use Rattle.chain_file.specs.Draft.{block_of}
 use Rattle.chain_file.specs.Near.{is_near}
-use Rattle.chain_file.specs.Steps.{goes_on, header, is_number, has_end, is_next, has_digits, numbered, begun_by, begin, ends, end_block, add_tx, within, line_step, is_long, step, HasRoom}
+use Rattle.chain_file.specs.Steps.{goes_on, is_number, has_end, is_next, has_digits, numbered, begun_by, ends, end_block, add_tx, line_step, step, HasRoom}
+use Rattle.tx_text.specs.Parts.{is_long}
 
 between_near : (f : FileForm) (line count : ℕ) → count ≤ 1000000 → line ≤ count * 1026 + 2 → is_near line (place.Between f count) ≡ true
 between_near f line count few low = and_from (nat_le count 1000000) (nat_le line (count * 1026 + 2)) (le-leb count 1000000 few) (le-leb line (count * 1026 + 2) low)

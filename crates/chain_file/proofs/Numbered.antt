@@ -8,7 +8,7 @@ use Rattle.proc_syntax.specs.declared.call.Block.{Block}
 use Rattle.tx_text.specs.Lines.{tx_of}
 use Rattle.chain_file.specs.declared.draft.Reading.{Reading}
 use Rattle.chain_file.specs.declared.draft.Begun.{Begun}
-use Rattle.chain_file.specs.Lines.{parts_of}
+use Rattle.tx_text.specs.Parts.{parts_of}
 use Rattle.std.specs.Prelude.{Result, Ok, Err, IfOk}
 use Rattle.chain_file.specs.declared.fault.DraftFault.{DraftFault}
 use Rattle.chain_file.specs.Gives.{Gives}

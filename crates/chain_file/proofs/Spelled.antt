@@ -1,33 +1,26 @@
 -- A draft that is read is the text of its blocks.
 use Rattle.std.proofs.Common.{◌≡◌, ◌+◌, ℕ, List, [], ◌∷◌, ◌++◌, Bool, true, false, cond, Option, Some, None, length, refl, sym, ◌∙◌, ap, subst, append_assoc}
-use Rattle.std.specs.Prelude.{nat_le, nat_lt, ◌&&◌, ◌==◌, codes, decimal}
+use Rattle.std.specs.Prelude.{nat_le, nat_lt, ◌&&◌, codes, decimal}
 use Rattle.std.specs.List.{flat_map, join_with_byte}
 use Rattle.std.specs.Option.{option_and_then, option_map}
 use Rattle.std.specs.Str.{bytes_eq}
-use Rattle.std.proofs.lemmas.Bool.{and_parts, eqb-true, false≢true}
+use Rattle.std.proofs.lemmas.Bool.{and_parts}
 use Rattle.std.proofs.lemmas.List.{append-nil}
 use Rattle.std.proofs.lemmas.List.Concat.{flat_map-append}
 use Rattle.std.proofs.lemmas.List.Splits.{join_with_byte-slice_split}
 use Rattle.proc_syntax.specs.declared.call.Tx.{Tx}
 use Rattle.proc_syntax.specs.declared.call.Block.{Block}
 use Rattle.tx_text.specs.Lines.{tx_of, tx_text}
+use Rattle.tx_text.proofs.Bytes.{same_bytes}
 use Rattle.tx_text.proofs.Takes.{IsWhole, tx_takes}
 use Rattle.chain_file.specs.declared.draft.Reading.{Reading}
 use Rattle.chain_file.specs.declared.draft.Begun.{Begun}
-use Rattle.chain_file.specs.Lines.{parts_of}
-use Rattle.chain_file.specs.Text.{line_text, tx_line, begun_text, block_text, draft_text}
+use Rattle.tx_text.specs.Parts.{parts_of, line_text}
+use Rattle.chain_file.specs.Text.{tx_line, begun_text, block_text, draft_text}
 use Rattle.chain_file.specs.Draft.{block_if, block_of, within_block, between_blocks, is_block_line, end_block, add_tx, line_after, take_line, all_ended, last_part, read_parts, start, after_header, draft}
 
-pub same_bytes : (xs ys : List ℕ) → bytes_eq xs ys ≡ true → xs ≡ ys
-same_bytes [] [] e = refl
-same_bytes [] (y ∷ ys) e = absurd (false≢true e)
-same_bytes (x ∷ xs) [] e = absurd (false≢true e)
-same_bytes (x ∷ xs) (y ∷ ys) e =
-    let parts = and_parts (x == y) (bytes_eq xs ys) e in
-    ap (λ z. z ∷ xs) (eqb-true x y parts.0) ∙ ap (λ zs. y ∷ zs) (same_bytes xs ys parts.1)
-
 -- one more item at the end
-flat_more : {A : Type 0} (text : A → List ℕ) (xs : List A) (x : A) → flat_map text (xs ++ (x ∷ [])) ≡ flat_map text xs ++ text x
+pub flat_more : {A : Type 0} (text : A → List ℕ) (xs : List A) (x : A) → flat_map text (xs ++ (x ∷ [])) ≡ flat_map text xs ++ text x
 flat_more text xs x = flat_map-append text xs (x ∷ []) ∙ ap (λ last. flat_map text xs ++ last) (append-nil (text x))
 
 -- the text up to a place between two lines
@@ -48,7 +41,7 @@ begin_made blocks n line true e =
 begin_made blocks n line false e = tt
 
 -- a block of this number and these transactions
-abbrev IsOf : ℕ → List Tx → Option Block → Type 0
+abbrev pub IsOf : ℕ → List Tx → Option Block → Type 0
 IsOf number txs None = Unit {0}
 IsOf number txs (Some block) = (block.number ≡ number) × (block.txs ≡ txs)
 
@@ -56,7 +49,7 @@ of_if : (number : ℕ) (txs : List Tx) (few : Bool) (e : nat_le (length txs) 102
 of_if number txs true e = (refl, refl)
 of_if number txs false e = tt
 
-block_is : (number : ℕ) (txs : List Tx) → IsOf number txs (block_of number txs)
+pub block_is : (number : ℕ) (txs : List Tx) → IsOf number txs (block_of number txs)
 unfolding block_of
 block_is number txs = of_if number txs (nat_le (length txs) 1024) refl
 

@@ -3,7 +3,7 @@ use Rattle.std.proofs.Common.{◌≡◌, ◌<◌, ℕ, List, [], ◌∷◌, Some
 use Rattle.std.specs.Option.{option_and_then}
 use Rattle.std.proofs.lemmas.List.Splits.{length-slice_split}
 use Rattle.chain_file.specs.declared.draft.Reading.{Reading}
-use Rattle.chain_file.specs.Lines.{is_newline, parts_of}
+use Rattle.tx_text.specs.Parts.{is_newline, parts_of}
 use Rattle.chain_file.specs.Draft.{take_line, last_part, read_parts}
 
 -- a line before other parts

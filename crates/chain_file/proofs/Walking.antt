@@ -1,5 +1,5 @@
 -- The lines of a file, one after another, and the pieces of a file.
-use Rattle.std.proofs.Common.{◌≡◌, ℕ, List, [], ◌∷◌, ◌++◌, Option, Some, None, refl, sym, ◌∙◌, ap, subst, append_assoc}
+use Rattle.std.proofs.Common.{◌≡◌, ℕ, List, [], ◌∷◌, ◌++◌, Option, Some, refl, sym, ◌∙◌, ap, subst, append_assoc}
 use Rattle.std.specs.Prelude.{Result, Ok, Err}
 use Rattle.std.proofs.lemmas.List.{append-nil}
 use Rattle.proc_syntax.specs.declared.call.Block.{Block}
@@ -8,11 +8,12 @@ use Rattle.chain_file.specs.declared.standing.Standing.{Standing}
 use Rattle.chain_file.specs.declared.reader.State.{State}
 use Rattle.chain_file.specs.declared.reader.State.TheVariants as state
 use Rattle.chain_file.specs.declared.reader.Read.{Read}
-use Rattle.chain_file.specs.Lines.{parts_of}
+use Rattle.tx_text.specs.Parts.{parts_of, onto}
 use Rattle.chain_file.specs.Chain.{Position, Walked, take_line, ended_blocks, with_blocks, onward, walk, walked, chain, lasting}
 use Rattle.chain_file.specs.Following.{StandsAt, Keeps, Reads, fault_met}
 use Rattle.chain_file.proofs.Lasting.{fault_so_far, so_far_lasts}
-use Rattle.chain_file.proofs.Pieces.{goes_on, onto, onto_parts, parts_some, walk_line, walked_on}
+use Rattle.chain_file.proofs.Pieces.{goes_on, walk_line, walked_on}
+use Rattle.tx_text.proofs.Glued.{onto_parts, parts_some}
 
 -- a line and the lines behind it
 pub walk_split : (now : Position) (rest line after : List ℕ) (taken : Result (Position × Option Block) ChainFault) → parts_of rest ≡ line ∷ parts_of after → take_line now line ≡ taken

@@ -2,7 +2,7 @@
 use Rattle.std.specs.Prelude.{◌≡◌, ℕ, List, ◌++◌, Some, None, codes}
 use Rattle.proc_syntax.specs.declared.call.Block.{Block}
 use Rattle.chain_file.specs.Draft.{draft}
-use Rattle.chain_file.specs.Text.{line_text}
+use Rattle.tx_text.specs.Parts.{line_text}
 use Rattle.chain_file.specs.Chain.{chain}
 
 -- a whole draft has no fault, and these blocks

@@ -9,9 +9,8 @@ use Rattle.proc_syntax.specs.declared.chain_fault.ChainKind.TheVariants as kind
 use Rattle.chain_file.specs.declared.place.Place.{Place}
 use Rattle.chain_file.specs.declared.place.Place.TheVariants as place
 use Rattle.chain_file.specs.declared.place.Taken.{Taken}
-use Rattle.chain_file.specs.Lines.{parts_of}
-use Rattle.chain_file.specs.Text.{line_text}
-use Rattle.chain_file.specs.Steps.{is_long, step}
+use Rattle.tx_text.specs.Parts.{parts_of, line_text, is_long}
+use Rattle.chain_file.specs.Steps.{step}
 
 -- what is known before a line: its number, where it stands, the digits of the hash of the block before, and the bytes of the
 -- block that has begun, from its `block` line on

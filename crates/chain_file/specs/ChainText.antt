@@ -2,7 +2,8 @@
 use Rattle.std.specs.Prelude.{◌≡◌, ℕ, List, [], ◌∷◌, ◌++◌, None, codes, decimal}
 use Rattle.std.specs.List.{flat_map}
 use Rattle.proc_syntax.specs.declared.call.Block.{Block}
-use Rattle.chain_file.specs.Text.{line_text, tx_line, CanStand}
+use Rattle.chain_file.specs.Text.{tx_line, CanStand}
+use Rattle.tx_text.specs.Parts.{line_text}
 use Rattle.chain_file.specs.Chain.{no_digits, hash_digits, chain}
 
 -- `block N HASH`, the transactions and `end`
@@ -21,3 +22,7 @@ chain_text blocks = line_text (codes "chain 1") ++ blocks_text no_digits blocks
 -- blocks that can stand in a file are read back from it, with no fault
 abbrev pub ChainsComeBack : Type 0
 ChainsComeBack = (blocks : List Block) → CanStand blocks → chain (chain_text blocks) ≡ (blocks, None)
+
+-- a file without a fault that begins with the header of a chain is the text of its blocks, each byte of it
+abbrev pub ChainsHaveOneText : Type 0
+ChainsHaveOneText = (rest : List ℕ) (blocks : List Block) → chain (line_text (codes "chain 1") ++ rest) ≡ (blocks, None) → line_text (codes "chain 1") ++ rest ≡ chain_text blocks

@@ -8,7 +8,7 @@ use Rattle.proc_syntax.specs.declared.call.Block.{Block}
 use Rattle.tx_text.specs.Lines.{tx_of}
 use Rattle.chain_file.specs.declared.draft.Reading.{Reading}
 use Rattle.chain_file.specs.declared.draft.Begun.{Begun}
-use Rattle.chain_file.specs.Lines.{parts_of}
+use Rattle.tx_text.specs.Parts.{parts_of}
 
 -- a block of time 0, by whether it has at most 1,024 transactions
 abbrev pub block_if : (number : ℕ) (txs : List Tx) (few : Bool) → nat_le (length txs) 1024 ≡ few → Option Block

@@ -11,7 +11,7 @@ use Rattle.chain_file.specs.declared.reader.State.TheVariants as state
 use Rattle.chain_file.specs.declared.reader.Read.{Read}
 use Rattle.chain_file.specs.declared.reader.Fed.{Fed}
 use Rattle.chain_file.specs.declared.reader.Reader.{Reader}
-use Rattle.chain_file.specs.Lines.{parts_of}
+use Rattle.tx_text.specs.Parts.{parts_of}
 use Rattle.chain_file.specs.Chain.{Position, Walked, chain, lasting, walked}
 
 -- the code knows this before a line; of the bytes of the block that has begun it keeps the hash

@@ -1,4 +1,3 @@
-pub mod Lines
 pub mod Draft
 pub mod Gives
 pub mod Numbered

@@ -1,5 +1,5 @@
 -- The lines of a block file, one at a time, and the first fault of each.
-use Rattle.std.specs.Prelude.{◌≡◌, ◌<◌, ℕ, List, [], ◌∷◌, ◌++◌, ◌+◌, ◌==◌, length, Bool, true, false, cond, not, ◌&&◌, ◌||◌, nat_le, nat_lt, Option, Some, None, Result, Ok, Err, codes, decimal}
+use Rattle.std.specs.Prelude.{◌≡◌, ◌<◌, ℕ, List, [], ◌∷◌, ◌++◌, ◌+◌, ◌==◌, length, Bool, true, false, cond, ◌&&◌, ◌||◌, nat_le, nat_lt, Option, Some, None, Result, Ok, Err, codes, decimal}
 use Rattle.std.specs.Char.{is_ascii_digit}
 use Rattle.std.specs.List.{list_all}
 use Rattle.std.specs.Str.{bytes_eq}
@@ -8,6 +8,7 @@ use Rattle.proc_syntax.specs.declared.call.Tx.{Tx}
 use Rattle.proc_syntax.specs.declared.call.Block.{Block}
 use Rattle.tx_text.specs.Fields.{is_space, after, word, past_word}
 use Rattle.tx_text.specs.Lines.{tx_of}
+use Rattle.tx_text.specs.Parts.{is_long}
 use Rattle.proc_syntax.specs.declared.chain_fault.ChainKind.{ChainKind}
 use Rattle.proc_syntax.specs.declared.chain_fault.ChainKind.TheVariants as kind
 use Rattle.chain_file.specs.declared.place.FileForm.{FileForm}
@@ -96,10 +97,6 @@ abbrev pub line_step : Place → List ℕ → List ℕ → Result Taken ChainKin
 line_step place.Start digits line = header line
 line_step (place.Between f count) digits line = begin f count digits line
 line_step (place.Within f count txs) digits line = within f count txs line
-
--- a line has at most 4,096 bytes
-abbrev pub is_long : List ℕ → Bool
-is_long line = nat_lt 4096 (length line)
 
 -- a line
 abbrev pub step : Place → List ℕ → List ℕ → Result Taken ChainKind

@@ -1,15 +1,12 @@
 -- Draft files as they are written.
-use Rattle.std.specs.Prelude.{◌≡◌, ◌≤◌, length, ℕ, List, ◌∷◌, [], ◌++◌, Some, codes, decimal}
+use Rattle.std.specs.Prelude.{◌≡◌, ◌≤◌, length, ℕ, List, ◌++◌, Some, codes, decimal}
 use Rattle.std.specs.List.{flat_map, AllByRecursion}
 use Rattle.proc_syntax.specs.declared.call.Tx.{Tx}
 use Rattle.proc_syntax.specs.declared.call.Block.{Block}
-use Rattle.tx_text.specs.Lines.{tx_text, IsTx}
+use Rattle.tx_text.specs.Lines.{tx_text, HasLine}
+use Rattle.tx_text.specs.Parts.{line_text}
 use Rattle.chain_file.specs.Draft.{draft}
 use Rattle.chain_file.specs.Numbered.{NumberedFrom}
-
--- a line and its newline
-abbrev pub line_text : List ℕ → List ℕ
-line_text line = line ++ (10 ∷ [])
 
 -- the line of a transaction
 abbrev pub tx_line : Tx → List ℕ
@@ -38,11 +35,6 @@ longest_draft = 4203522008194
 -- a file that is read has at most so many bytes
 abbrev pub DraftsAreBounded : Type 0
 DraftsAreBounded = (bytes : List ℕ) (blocks : List Block) → draft bytes ≡ Some blocks → length bytes ≤ longest_draft
-
--- a transaction that has a line
-pub record HasLine (tx : Tx) : Type 0 where
-  pub sound : IsTx tx
-  pub short : length (tx_text tx) ≤ 4096
 
 -- blocks that can stand in a file: at most 1,000,000, numbered from 1, of time 0, each transaction with a line
 pub record CanStand (blocks : List Block) : Type 0 where

@@ -3,7 +3,7 @@
 ghost use Rattle.std.specs.Prelude.{◌≡◌, ◌<◌, ◌^◌, ◌+◌, ◌++◌, ℕ, List, [], IfOk, Ok, Err, true};
 ghost use Rattle.sha2.specs.Hashers.{Holds256};
 ghost use Rattle.chain_file.specs.Near.{is_near};
-ghost use Rattle.chain_file.specs.Text.{line_text};
+ghost use Rattle.tx_text.specs.Parts.{line_text};
 ghost use Rattle.chain_file.specs.Chain.{Position, bytes_in, front, hash_digits, position_after, take_line};
 ghost use Rattle.chain_file.specs.Following.{StandsAt, TakesLine};
 

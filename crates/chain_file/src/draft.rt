@@ -3,18 +3,17 @@
 ghost use Rattle.std.specs.Prelude.{◌≡◌, ◌+◌, ◌∷◌, ◌++◌, ◌<◌, length, cond, nat_lt, ◌^◌, Some, None, codes, IfOk};
 ghost use Rattle.chain_file.specs.Gives.{Gives};
 ghost use Rattle.chain_file.specs.Draft.{block_of, is_block_line, begin_block, end_block, add_tx, line_after, take_line, finished, read_parts, start, after_header, draft};
-ghost use Rattle.chain_file.specs.Lines.{parts_of};
+ghost use Rattle.tx_text.specs.Parts.{parts_of};
 ghost use Rattle.chain_file.specs.Numbered.{NumberedFrom};
 ghost use Rattle.tx_text.specs.Lines.{tx_of};
 
 use crate::fault::DraftFault;
-use crate::lines::split_line;
 use itoa::Buffer;
 use proc_syntax::call::MOST_TRANSACTIONS;
 use proc_syntax::{Block, Tx};
 use rel_base::List;
 use std::alloc::Global;
-use tx_text::{LineFault, read_tx};
+use tx_text::{LineFault, read_tx, split_line};
 
 /// The number of blocks that a file may have.
 pub const MOST_BLOCKS: usize = 1_000_000;

@@ -4,7 +4,7 @@ ghost use Rattle.std.specs.Prelude.{◌≡◌, ◌++◌, ℕ, List, length};
 ghost use Rattle.sha2.specs.Hashers.{Holds256};
 ghost use Rattle.hex.specs.Hex.{encode_lower};
 ghost use Rattle.chain_file.specs.Chain.{hash_digits};
-ghost use Rattle.chain_file.specs.Text.{line_text};
+ghost use Rattle.tx_text.specs.Parts.{line_text};
 
 use sha2::{Digest, Sha256};
 

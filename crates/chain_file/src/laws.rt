@@ -3,7 +3,7 @@
 ghost use Rattle.chain_file.specs.Numbered.{DraftsAreNumbered};
 ghost use Rattle.chain_file.specs.Agree.{DraftsHaveNoFault, FilesWithoutFaultAreDrafts};
 ghost use Rattle.chain_file.specs.Files.{FaultsLast, FilesAreBounded, FilesAreNumbered};
-ghost use Rattle.chain_file.specs.ChainText.{ChainsComeBack};
+ghost use Rattle.chain_file.specs.ChainText.{ChainsComeBack, ChainsHaveOneText};
 ghost use Rattle.chain_file.specs.Text.{DraftsAreBounded, DraftsComeBack, DraftsHaveOneText};
 
 /// The blocks of a draft have the numbers from 1 on, and the time 0.
@@ -29,6 +29,11 @@ pub fn drafts_are_bounded()
 /// Blocks that can stand in a file are read back from their chain file, with no fault.
 pub fn chains_come_back()
     ensures { ChainsComeBack }
+{}
+
+/// A file without a fault that begins with the header of a chain is the chain file of its blocks, each byte of it.
+pub fn chains_have_one_text()
+    ensures { ChainsHaveOneText }
 {}
 
 /// A whole draft is a file without a fault, of the same blocks.

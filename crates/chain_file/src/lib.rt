@@ -8,7 +8,6 @@ pub mod draft;
 pub mod fault;
 pub mod hash;
 pub mod laws;
-pub mod lines;
 pub mod place;
 pub mod reader;
 pub mod sealing;

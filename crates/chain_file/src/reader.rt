@@ -3,18 +3,18 @@
 ghost use Rattle.std.specs.Prelude.{◌≡◌, ◌≤◌, ◌++◌, ◌∷◌, ℕ, List, [], Some, None, Result, Ok, Err, IfOk, IfSome, OnOk, OnErr, IfErr, length};
 ghost use Rattle.std.specs.List.{flat_map};
 ghost use Rattle.std.specs.Prelude.{Option};
-ghost use Rattle.chain_file.specs.Lines.{parts_of};
+ghost use Rattle.tx_text.specs.Parts.{parts_of};
 ghost use Rattle.chain_file.specs.Chain.{Position, chain, ended_blocks, fault_at_end, is_between, open_length, walk, walked};
 ghost use Rattle.chain_file.specs.Following.{Answers, EndsAs, Follows, Keeps, Reads, StandsAt, fault_met};
 
 use crate::advance::{LineStop, take_line};
-use crate::lines::split_line;
 use crate::place::Place;
 use crate::standing::Standing;
 use proc_syntax::{Block, ChainFault, ChainKind};
 use rel_base::{List, NoMemory};
 use std::alloc::Global;
-use tx_text::MOST_LINE_BYTES;
+use tx_text::held::{copy_of, joined};
+use tx_text::{MOST_LINE_BYTES, split_line};
 
 /// What is known behind bytes: what stands before the line in which they end, and the bytes of that line; or the first fault.
 #[derive(Drop)]
@@ -47,13 +47,6 @@ fn push_ended(given: &mut List<Block>, ended: Option<Block>) -> Result<(), NoMem
         given.push(block)?;
     }
     Ok(())
-}
-
-/// A copy of bytes.
-fn copy_of(alloc: Global, bytes: &[u8]) -> Result<List<u8>, NoMemory>
-    ensures { IfOk result (λ copy. copy ≡ bytes.now) }
-{
-    Ok(List::from_vec(Vec::from_slice(alloc, bytes)?))
 }
 
 /// What the bytes after the last newline leave.
@@ -99,15 +92,6 @@ fn read_lines(alloc: Global, standing: Standing, bytes: &[u8]) -> Result<Read, N
         blocks: given,
         state,
     })
-}
-
-/// Bytes behind others.
-fn joined(alloc: Global, front: &[u8], back: &[u8]) -> Result<Vec<u8>, NoMemory>
-    ensures { IfOk result (λ both. both.items ≡ front.now ++ back.now) }
-{
-    let mut both = Vec::from_slice(alloc, front)?;
-    both.extend_from_slice(back)?;
-    Ok(both)
 }
 
 /// Reads a piece that follows bytes after the last newline.

@@ -2,7 +2,8 @@
 
 ghost use Rattle.std.specs.Prelude.{◌≡◌, ◌++◌, ◌∷◌, codes, decimal, IfOk, OnOk, None};
 ghost use Rattle.std.specs.List.{flat_map};
-ghost use Rattle.chain_file.specs.Text.{CanStand, line_text, tx_line};
+ghost use Rattle.chain_file.specs.Text.{CanStand, tx_line};
+ghost use Rattle.tx_text.specs.Parts.{line_text};
 ghost use Rattle.chain_file.specs.Chain.{chain};
 ghost use Rattle.chain_file.specs.ChainText.{chain_text, chained_text};
 

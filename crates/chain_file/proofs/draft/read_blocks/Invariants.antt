@@ -1,5 +1,5 @@
 use Rattle.std.proofs.Common.{◌≡◌, length}
-use Rattle.chain_file.specs.Lines.{parts_of}
+use Rattle.tx_text.specs.Parts.{parts_of}
 use Rattle.chain_file.specs.Draft.{read_parts, start}
 use Rattle.chain_file.proofs.draft.read_blocks.Given as goal
 

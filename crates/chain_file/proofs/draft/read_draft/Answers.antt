@@ -1,5 +1,5 @@
 use Rattle.std.proofs.Common.{◌∷◌}
-use Rattle.chain_file.specs.Lines.{parts_of}
+use Rattle.tx_text.specs.Parts.{parts_of}
 use Rattle.chain_file.proofs.Numbered.{parts_numbered}
 use Rattle.chain_file.proofs.draft.read_draft.Goals as goal
 

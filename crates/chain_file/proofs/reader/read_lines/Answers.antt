@@ -1,4 +1,4 @@
-use Rattle.std.proofs.Common.{◌≡◌, sym, ◌∙◌, ap, subst}
+use Rattle.std.proofs.Common.{sym, ◌∙◌, ap, subst}
 use Rattle.std.specs.Prelude.{Err}
 use Rattle.chain_file.specs.declared.advance.LineStop.{LineStop}
 use Rattle.chain_file.specs.declared.advance.LineStop.TheVariants as stop

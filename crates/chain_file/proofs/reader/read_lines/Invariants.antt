@@ -1,5 +1,5 @@
 use Rattle.std.proofs.Common.{◌≡◌, length}
-use Rattle.chain_file.specs.Lines.{parts_of}
+use Rattle.tx_text.specs.Parts.{parts_of}
 use Rattle.chain_file.specs.Chain.{Position, walk, with_blocks}
 use Rattle.chain_file.specs.Following.{StandsAt}
 use Rattle.chain_file.proofs.reader.read_lines.Given as goal

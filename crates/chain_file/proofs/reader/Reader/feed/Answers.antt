@@ -1,6 +1,6 @@
-use Rattle.std.proofs.Common.{◌≡◌, ℕ, List, ◌++◌, ◌∙◌, sym, ap, subst}
+use Rattle.std.proofs.Common.{ℕ, List, ◌++◌, ◌∙◌, subst}
 use Rattle.chain_file.specs.declared.reader.State.{State}
-use Rattle.chain_file.specs.Lines.{parts_of}
+use Rattle.tx_text.specs.Parts.{parts_of}
 use Rattle.chain_file.specs.Chain.{Position, walk, walked}
 use Rattle.chain_file.specs.Following.{Follows, Keeps, Reads, StandsAt}
 use Rattle.chain_file.proofs.Walking.{FedOn, fed_open, gives_no_more, stays_stopped}

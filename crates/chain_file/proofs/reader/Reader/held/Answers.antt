@@ -1,4 +1,4 @@
-use Rattle.std.proofs.Common.{arith, subst, ◌∙◌, ◌≡◌}
+use Rattle.std.proofs.Common.{arith, subst}
 use Rattle.chain_file.proofs.Held.{few_held}
 use Rattle.chain_file.proofs.reader.Reader.held.Goals as goal
 use Rattle.chain_file.specs.Chain.{walked}
