@@ -66,11 +66,12 @@ late_outcome tables (Some found) = Some (outcome.Late (record {
   key = found.write.1.write.key;
 }))
 
--- the fault in which the run ended
+-- the fault in which the run ended; one that ended ill typed, as none does of an application that passed the check, is refused as
+-- one with bad arguments
 abbrev pub fault_outcome : Ending → Option Outcome
 fault_outcome Good = None
 fault_outcome (Faulted fault) = Some (outcome.Fault fault)
-fault_outcome IllTyped = None
+fault_outcome IllTyped = Some outcome.BadArguments
 
 -- whether a write is of the same table and key as one of some writes
 abbrev pub is_shared : List Write → Write → Bool
@@ -118,8 +119,12 @@ abbrev pub or_committed : Option Outcome → Outcome
 or_committed None = outcome.Committed
 or_committed (Some cause) = cause
 
--- the outcome of a transaction of the block of a number, on the results of the blocks before, and on the outcomes and
--- the committed transactions of its block so far
+-- the outcome of a transaction of the block of a number, on the results of the blocks before, on the outcomes and the
+-- committed transactions of its block so far, and by a run
+abbrev pub decide_by : App → List Sealed → ℕ → List Told → List Committed → Tx → Ran → Outcome
+decide_by app chain number outcomes committed tx ran = or_committed (or_else (early app (ids_of chain ++ ids_told outcomes) number tx)
+    (by_run (tables_of app) (writes_since chain number tx) committed ran))
+
+-- by its run on the tables of its height
 abbrev pub decide : App → List Sealed → ℕ → List Told → List Committed → Tx → Outcome
-decide app chain number outcomes committed tx = or_committed (or_else (early app (ids_of chain ++ ids_told outcomes) number tx)
-    (by_run (tables_of app) (writes_since chain number tx) committed (run_at app chain tx)))
+decide app chain number outcomes committed tx = decide_by app chain number outcomes committed tx (run_at app chain tx)

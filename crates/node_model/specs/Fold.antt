@@ -1,6 +1,6 @@
 -- The fold of a chain of blocks: each transaction is decided on what the ones before it made.
 use Rattle.node_model.specs.BlockCode.{digest_of}
-use Rattle.node_model.specs.Decide.{decide, run_at}
+use Rattle.node_model.specs.Decide.{decide_by, run_at}
 use Rattle.node_model.specs.History.{Sealed, placed_of, snapshot}
 use Rattle.node_model.specs.Order.{serial_order}
 use Rattle.node_model.specs.declared.outcome.Outcome.{Outcome}
@@ -34,12 +34,16 @@ abbrev pub join_committed : List Committed → ℕ → Ran → Outcome → List 
 join_committed committed pos ran outcome.Committed = committed ++ record { pos = pos; reads = ran.reads; writes = ran.writes } ∷ []
 join_committed committed pos ran _ = committed
 
--- the next transaction of the block of a number is decided
-abbrev pub work_on : App → List Sealed → ℕ → Work → Tx → Work
-work_on app chain number work tx = let found : Outcome = decide app chain number work.outcomes work.committed tx in record {
+-- the next transaction of the block of a number is decided, by a run
+abbrev pub work_by : App → List Sealed → ℕ → Work → Tx → Ran → Work
+work_by app chain number work tx ran = let found : Outcome = decide_by app chain number work.outcomes work.committed tx ran in record {
   outcomes = work.outcomes ++ record { id = tx.id; outcome = found } ∷ [];
-  committed = join_committed work.committed (length work.outcomes + 1) (run_at app chain tx) found;
+  committed = join_committed work.committed (length work.outcomes + 1) ran found;
 }
+
+-- by its run on the tables of its height
+abbrev pub work_on : App → List Sealed → ℕ → Work → Tx → Work
+work_on app chain number work tx = work_by app chain number work tx (run_at app chain tx)
 
 -- the transactions of a block are decided in order
 abbrev pub work_through : App → List Sealed → ℕ → Work → List Tx → Work
@@ -92,6 +96,15 @@ results_from tables previous (block ∷ rest) = block_result tables previous blo
 abbrev pub results_of : List TableDef → List Sealed → List BlockResult
 results_of tables chain = results_from tables no_digest chain
 
+-- the digest of the last of some results, where the block before them has one
+abbrev pub digest_after : List ℕ → List BlockResult → List ℕ
+digest_after previous [] = previous
+digest_after previous (block ∷ rest) = digest_after block.digest rest
+
+-- the digest of the last block of a chain, or the one before the first block
+abbrev pub last_digest : List TableDef → List Sealed → List ℕ
+last_digest tables chain = digest_after no_digest (results_of tables chain)
+
 -- the rows of a table in key order
 abbrev pub table_rows : Tables → ℕ → TableRows
 table_rows tables number = record { table = number; rows = map (λ entry. entry.1.row) (filter (λ entry. number == entry.0.0) (finite.entries tables)) }
@@ -101,9 +114,10 @@ abbrev pub all_rows : Tables → ℕ → List TableDef → List TableRows
 all_rows tables number [] = []
 all_rows tables number (declared ∷ rest) = table_rows tables number ∷ all_rows tables (number + 1) rest
 
--- the report of a node on a chain of blocks: the result of each, and the tables after the last
+-- the report of a node of one thread on a chain of blocks: the result of each, and the tables after the last
 abbrev pub node_result : App → List Block → NodeResult
 node_result app blocks = record {
   blocks = results_of (tables_of app) (fold app blocks);
   tables = all_rows (snapshot (length (fold app blocks)) (fold app blocks)) 0 (tables_of app);
+  journal = [];
 }

@@ -5,3 +5,7 @@ pub mod Danger
 pub mod Order
 pub mod BlockCode
 pub mod Fold
+pub mod World
+pub mod Events
+pub mod Steps
+pub mod Journals

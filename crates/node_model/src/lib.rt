@@ -2,9 +2,13 @@
 #![tactic(auto)]
 
 pub mod dangerous;
+pub mod journal;
 pub mod outcome;
 pub mod result;
+pub mod version;
 
 pub use dangerous::Danger;
+pub use journal::{Entry, Event, Pick};
 pub use outcome::{Clash, Late, Outcome};
 pub use result::{BlockResult, Committed, NO_DIGEST, NodeResult, TableRows, Told};
+pub use version::Version;

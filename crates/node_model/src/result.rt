@@ -1,5 +1,6 @@
 //! Results of blocks, and of a node.
 
+use crate::journal::Entry;
 use crate::outcome::Outcome;
 use rel_base::{Id, List, Made, NoMemory, Placed, Row, Twin, Write};
 use std::alloc::Global;
@@ -46,11 +47,13 @@ pub struct TableRows {
     pub rows: List<Row>,
 }
 
-/// What a node reports: the results of its blocks, and its tables after the last block, in declaration order.
+/// What a node reports: the results of its blocks, its tables after the last block, in declaration order, and the journal of its events,
+/// which is empty where a node has one thread and no events.
 #[derive(Drop)]
 pub struct NodeResult {
     pub blocks: List<BlockResult>,
     pub tables: List<TableRows>,
+    pub journal: List<Entry>,
 }
 
 impl Twin for Told {

@@ -1,0 +1,5 @@
+pub mod Finding
+pub mod Positions
+pub mod Conflicting
+pub mod Dangerous
+pub mod Deciding

@@ -1,0 +1,4 @@
+pub mod Least
+pub mod Conflicts
+pub mod Dangers
+pub mod Laws

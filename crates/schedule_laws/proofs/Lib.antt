@@ -1,0 +1,13 @@
+pub mod Lists
+pub mod Chains
+pub mod Cutting
+pub mod Choosing
+pub mod Allowing
+pub mod Fitting
+pub mod Staying
+pub mod Facts
+pub mod Waiting
+pub mod Folding
+pub mod Agreeing
+pub mod Lasting
+pub mod Asking
