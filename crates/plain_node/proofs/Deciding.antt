@@ -1,61 +1,124 @@
--- What was decided of a transaction is what the definition decides.
-use Rattle.std.proofs.Common.{Bool, List, None, Option, Some, ap, map, refl, sym, ◌++◌, ◌-◌, ◌∙◌, ◌≡◌, ℕ}
-use Rattle.std.specs.Prelude.{Err, IfOk, Ok, Result, ℤ}
+-- What is decided of a transaction is what the definition decides.
+use Rattle.std.proofs.Common.{Bool, List, None, Some, [], ap, arith, length, refl, subst, sym, ◌++◌, ◌+◌, ◌-◌, ◌∙◌, ◌≡◌, ◌∷◌, ℕ}
 use Rattle.std.specs.List.{list_any}
+use Rattle.std.specs.Prelude.{ℤ}
 use Rattle.std.specs.Str.{bytes_eq}
-use Rattle.node_model.specs.Danger.{danger}
-use Rattle.node_model.specs.Decide.{by_run, clash, conflict_outcome, danger_outcome, decide, fault_outcome, late_outcome, or_committed, or_else, run_at}
-use Rattle.node_model.specs.History.{Sealed, history_of, ids_of, ids_told}
+use Rattle.block_work.proofs.Causing.{join_abort}
+use Rattle.block_work.proofs.Places.{one_added, places_more}
+use Rattle.block_work.specs.Block.{IsConsistent, IsSameWork, work_of, work_with}
+use Rattle.block_work.specs.Causes.{AreOwnEdges, IsCause, early_by}
+use Rattle.block_work.specs.Ids.{AddsAmong, AddsPlace, HasFirstPlaces}
+use Rattle.block_work.specs.declared.block.BlockInWork.{BlockInWork}
+use Rattle.block_work.specs.declared.ids.IdIndex.{IdIndex}
+use Rattle.node_model.specs.Decide.{by_run, or_committed, or_else, run_at, writes_since}
+use Rattle.node_model.specs.Fold.{Work, work_on}
+use Rattle.node_model.specs.History.{Sealed, history_of, ids_of, ids_told, time_at}
+use Rattle.node_model.specs.declared.outcome.Outcome.TheVariants as outcome
 use Rattle.node_model.specs.declared.outcome.Outcome.{Outcome}
-use Rattle.node_model.specs.declared.result.Committed.{Committed}
 use Rattle.node_model.specs.declared.result.Told.{Told}
-use Rattle.plain_node.specs.Causes.{before_edges}
-use Rattle.plain_node.specs.Ids.{HasIds, has_key}
-use Rattle.plain_node.specs.Working.{decided_by, early_by}
-use Rattle.plain_node.specs.declared.work.Decided.{Decided}
+use Rattle.plain_node.specs.Deciding.{IsDecision, with_decided}
+use Rattle.plain_node.specs.declared.decide.Decided.TheVariants.{Aborts, Commits}
+use Rattle.plain_node.specs.declared.decide.Decided.{Decided}
 use Rattle.proc_syntax.specs.Declaring.{tables_of}
-use Rattle.proc_syntax.specs.Run.{run}
+use Rattle.proc_syntax.specs.Run.{no_run, run}
 use Rattle.proc_syntax.specs.declared.call.Tx.{Tx}
 use Rattle.proc_syntax.specs.declared.run.Ran.{Ran}
 use Rattle.proc_syntax.specs.declared.tree.App.{App}
-use Rattle.rel_base.specs.Late.{late}
+use Rattle.rel_base.specs.declared.access.Place.{Place}
 use Rattle.rel_base.specs.Tables.{Stamped, tables_at, writes_between}
 use Rattle.rel_base.specs.declared.schema.TableDef.{TableDef}
 
-pub decided_is : (app : App) (chain : List Sealed) (history : List Stamped) (keys : List (List ℕ)) (number : ℕ) (outcomes : List Told) (committed : List Committed) (tx : Tx) (time : ℤ)
-    → history ≡ history_of chain → HasIds keys (ids_of chain ++ ids_told outcomes)
-    → decided_by (has_key keys tx.id) app history number committed tx time ≡ decide app chain number outcomes committed tx
-decided_is app chain history keys number outcomes committed tx time is has =
-    ap (λ known. decided_by known app history number committed tx time) (has tx.id)
-    ∙ ap (λ writes. decided_by (list_any (bytes_eq tx.id) (ids_of chain ++ ids_told outcomes)) app writes number committed tx time) is
+-- an abort leaves the same, whatever its run was
+pub same_abort : (work : Work) (id : List ℕ) (ran other : Ran) (cause : Outcome) → IsCause cause → work_with work id ran cause ≡ work_with work id other cause
+same_abort work id ran other cause is = λ i. record {
+  outcomes = (work_with work id ran cause).outcomes;
+  committed = (join_abort work.committed (length work.outcomes + 1) ran cause is.0 ∙ sym (join_abort work.committed (length work.outcomes + 1) other cause is.0)) i;
+}
 
-pub run_is : (app : App) (chain : List Sealed) (history : List Stamped) (tx : Tx) (time : ℤ) → history ≡ history_of chain → run app tx time (tables_at tx.height history) ≡ run_at app chain tx
-run_is app chain history tx time is = ap (λ writes. run app tx time (tables_at tx.height writes)) is
+-- where a cause is known without a run, it decides
+pub early_decides : (app : App) (sealed : List Sealed) (number : ℕ) (work : Work) (tx : Tx) (known : Bool) (cause : Outcome) → Some cause ≡ early_by known app number tx → IsCause cause
+    → known ≡ list_any (bytes_eq tx.id) (ids_of sealed ++ ids_told work.outcomes) → work_with work tx.id no_run cause ≡ work_on app sealed number work tx
+early_decides app sealed number work tx known cause is aborts stands =
+    same_abort work tx.id no_run (run_at app sealed tx) cause aborts
+    ∙ ap (λ found. work_with work tx.id (run_at app sealed tx) (or_committed (or_else found (by_run (tables_of app) (writes_since sealed number tx) work.committed (run_at app sealed tx)))))
+    (is ∙ ap (λ known. early_by known app number tx) stands)
 
--- ---- the causes of a run
+-- else its run does
+pub run_decides : (app : App) (sealed : List Sealed) (number : ℕ) (work : Work) (tx : Tx) (known : Bool) → None ≡ early_by known app number tx
+    → known ≡ list_any (bytes_eq tx.id) (ids_of sealed ++ ids_told work.outcomes)
+    → work_with work tx.id (run_at app sealed tx) (or_committed (by_run (tables_of app) (writes_since sealed number tx) work.committed (run_at app sealed tx))) ≡ work_on app sealed number work tx
+run_decides app sealed number work tx known none stands =
+    ap (λ found. work_with work tx.id (run_at app sealed tx) (or_committed (or_else found (by_run (tables_of app) (writes_since sealed number tx) work.committed (run_at app sealed tx)))))
+    (none ∙ ap (λ known. early_by known app number tx) stands)
 
-or_last : (a b c d : Option Outcome) → or_else a (or_else b (or_else c d)) ≡ or_else (or_else a (or_else b c)) d
-or_last None None c d = refl
-or_last None (Some b) c d = refl
-or_last (Some a) b c d = refl
+-- what a verdict on a run comes to is what the definition decides
+module _ (app : App) (sealed : List Sealed) (history : List Stamped) (number : ℕ) (work : Work) (tx : Tx) (ran : Ran) (own : ran ≡ run_at app sealed tx) (writes : history ≡ history_of sealed) where
+  pub commit_judged : (found : Outcome) → found ≡ or_committed (by_run (tables_of app) (writes_between tx.height (number - 1) history) work.committed ran)
+      → work_with work tx.id ran found
+      ≡ work_with work tx.id (run_at app sealed tx) (or_committed (by_run (tables_of app) (writes_since sealed number tx) work.committed (run_at app sealed tx)))
+  commit_judged found is =
+      ap (work_with work tx.id ran) is
+      ∙ (λ i. work_with work tx.id (own i) (or_committed (by_run (tables_of app) (writes_between tx.height (number - 1) (writes i)) work.committed (own i))))
 
--- where nothing else aborts a transaction, its danger decides
-pub danger_decides : (tables : List TableDef) (since : List Stamped) (committed : List Committed) (ran : Ran) → before_edges tables since committed ran ≡ None
-    → or_committed (danger_outcome (danger tables committed ran.reads ran.writes)) ≡ or_committed (by_run tables since committed ran)
-danger_decides tables since committed ran none =
-    ap (λ first. or_committed (or_else first (danger_outcome (danger tables committed ran.reads ran.writes)))) (sym none)
-    ∙ ap or_committed (sym (or_last (late_outcome tables (late tables (map (λ made. made.read) ran.reads) since)) (fault_outcome ran.ending) (conflict_outcome ran.writes (clash committed ran.writes))
-    (danger_outcome (danger tables committed ran.reads ran.writes))))
+  pub abort_judged : (cause : Outcome) → IsCause cause → cause ≡ or_committed (by_run (tables_of app) (writes_between tx.height (number - 1) history) work.committed ran)
+      → work_with work tx.id no_run cause
+      ≡ work_with work tx.id (run_at app sealed tx) (or_committed (by_run (tables_of app) (writes_since sealed number tx) work.committed (run_at app sealed tx)))
+  abort_judged cause aborts is = same_abort work tx.id no_run ran cause aborts ∙ commit_judged cause is
 
--- where no cause is known without a run, its run decides
-pub run_decides : (app : App) (tables : List TableDef) (history : List Stamped) (known : Bool) (number : ℕ) (committed : List Committed) (tx : Tx) (time : ℤ) (ran : Ran)
-    → tables ≡ tables_of app → ran ≡ run app tx time (tables_at tx.height history) → early_by known app number tx ≡ None
-    → or_committed (by_run tables (writes_between tx.height (number - 1) history) committed ran) ≡ decided_by known app history number committed tx time
-run_decides app tables history known number committed tx time ran same is none =
-    ap (λ defs. or_committed (by_run defs (writes_between tx.height (number - 1) history) committed ran)) same
-    ∙ ap (λ made. or_committed (by_run (tables_of app) (writes_between tx.height (number - 1) history) committed made)) is
-    ∙ ap (λ first. or_committed (or_else first (by_run (tables_of app) (writes_between tx.height (number - 1) history) committed (run app tx time (tables_at tx.height history))))) (sym none)
+-- ---- the block in work
 
-pub if_decided : {E : Type 0} (answer : Result Decided E) (found wanted : Outcome) → IfOk answer (λ decided. decided.outcome ≡ found) → found ≡ wanted → IfOk answer (λ decided. decided.outcome ≡ wanted)
-if_decided (Ok decided) found wanted is same = is ∙ same
-if_decided (Err fault) found wanted is same = tt
+-- a decision stays one where the block in work gets room
+pub decision_stays : (tables : List TableDef) (old new : BlockInWork) (decided : Decided) → IsSameWork old new → IsConsistent tables new → IsDecision tables old decided → IsDecision tables new decided
+decision_stays tables old new (Commits ran edges) same consistent can = record {
+  consistent = consistent;
+  fits = can.fits;
+  own = subst (λ all. AreOwnEdges tables all ran edges) (sym same.committed) can.own;
+}
+decision_stays tables old new (Aborts cause) same consistent is = is
+
+same_work : (old new : BlockInWork) → IsSameWork old new → work_of new ≡ work_of old
+same_work old new same = λ i. record { outcomes = same.outcomes i; committed = same.committed i }
+
+-- the outcome that was decided
+abbrev pub found_by : Decided → Outcome
+found_by (Commits ran edges) = outcome.Committed
+found_by (Aborts cause) = cause
+
+outcomes_with : (work : Work) (id : List ℕ) (decided : Decided) → (with_decided work id decided).outcomes ≡ work.outcomes ++ record { id = id; outcome = found_by decided } ∷ []
+outcomes_with work id (Commits ran edges) = refl
+outcomes_with work id (Aborts cause) = refl
+
+-- with what was decided, the block in work has one outcome more
+pub one_more : (old reserved new : BlockInWork) (id : List ℕ) (decided : Decided) → IsSameWork old reserved → work_of new ≡ with_decided (work_of reserved) id decided
+    → new.outcomes.items ≡ old.outcomes.items ++ record { id = id; outcome = found_by decided } ∷ []
+one_more old reserved new id decided same is =
+    ap (λ (work : Work). work.outcomes) is ∙ outcomes_with (work_of reserved) id decided ∙ ap (λ outcomes. outcomes ++ record { id = id; outcome = found_by decided } ∷ []) same.outcomes
+
+-- and it is the block in work of the definition
+pub goes_on : (old reserved new : BlockInWork) (id own : List ℕ) (decided : Decided) (whole : Work) → IsSameWork old reserved → id ≡ own → work_of new ≡ with_decided (work_of reserved) id decided
+    → with_decided (work_of old) own decided ≡ whole → work_of new ≡ whole
+goes_on old reserved new id own decided whole same named is decides = is ∙ (λ i. with_decided (same_work old reserved same i) (named i) decided) ∙ decides
+
+-- ---- the ids
+
+module _ (old new : IdIndex) (number : ℕ) (outcomes outcomes' : List Told) (id key own : List ℕ) (found : Outcome) (place : Place) (named : id ≡ own) (keyed : key ≡ own)
+    (more : outcomes' ≡ outcomes ++ record { id = id; outcome = found } ∷ []) (block : place.block ≡ number) (position : place.pos ≡ length outcomes + 1) (adds : AddsPlace old new key place) where
+  abbrev told : Told
+  told = record { id = id; outcome = found }
+
+  here : place ≡ record { block = number; pos = 1 + length outcomes }
+  here = let counted : length outcomes + 1 ≡ 1 + length outcomes = omega arith in λ i. record { block = block i; pos = (position ∙ counted) i }
+
+  of_told : AddsPlace old new told.id place
+  of_told = subst (λ id. AddsPlace old new id place) (keyed ∙ sym named) adds
+
+  pub next_added : (before : IdIndex) → AddsAmong before old number outcomes → AddsAmong before new number outcomes'
+  next_added before added = subst (AddsAmong before new number) (sym more) (one_added before old new number outcomes told place added here of_told)
+
+  pub next_places : (sealed : List Sealed) → HasFirstPlaces old sealed number outcomes → HasFirstPlaces new sealed number outcomes'
+  next_places sealed has = subst (HasFirstPlaces new sealed number) (sym more) (places_more old new sealed number outcomes told place has here of_told)
+
+-- the run of a transaction on the tables of its height, at the time of the block of its height
+pub run_is : (app : App) (sealed : List Sealed) (history : List Stamped) (tx : Tx) (time : ℤ) (ran : Ran) → history ≡ history_of sealed → time ≡ time_at tx.height sealed
+    → ran ≡ run app tx time (tables_at tx.height history) → ran ≡ run_at app sealed tx
+run_is app sealed history tx time ran writes then is = is ∙ (λ i. run app tx (then i) (tables_at tx.height (writes i)))

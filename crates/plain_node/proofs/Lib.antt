@@ -1,14 +1,2 @@
-pub mod Inserted
-pub mod Told
-pub mod Aborts
-pub mod Grown
-pub mod WithEdges
-pub mod Deciding
-pub mod Going
-pub mod Applied
-pub mod Started
-pub mod WholeRows
-pub mod Fitting
-pub mod Few
-pub mod Tells
-pub mod Replayed
+mod Deciding
+mod Holding

@@ -1,6 +1,2 @@
-pub mod Ids
-pub mod Causes
-pub mod Working
-pub mod Following
-pub mod InWork
-pub mod Telling
+pub mod Deciding
+pub mod Holding

@@ -1,108 +1,125 @@
 //! What becomes of a transaction.
 
-ghost use Rattle.std.specs.Prelude.{◌≡◌, ◌<◌, ◌^◌, ◌++◌, All, IfOk, IfSome, List, MatchOption, Some, None, length};
-ghost use Rattle.node_model.specs.Decide.{decide, run_at};
-ghost use Rattle.node_model.specs.Fold.{join_committed};
-ghost use Rattle.node_model.specs.History.{Sealed, history_of, ids_of, ids_told};
-ghost use Rattle.node_model.specs.declared.result.Told.{Told};
-ghost use Rattle.plain_node.specs.Following.{IsFit};
-ghost use Rattle.plain_node.specs.Ids.{HasIds, has_key};
-ghost use Rattle.plain_node.specs.InWork.{IsJoining, IsWorking};
-ghost use Rattle.plain_node.specs.Working.{decided_by, joined};
+ghost use Rattle.std.specs.Prelude.{◌≡◌, ◌<◌, ◌++◌, IfOk, List, length};
+ghost use Rattle.std.specs.List.{list_any};
+ghost use Rattle.std.specs.Str.{bytes_eq};
+ghost use Rattle.block_work.specs.Block.{HasRoom, IsConsistent, work_of, work_with};
+ghost use Rattle.block_work.specs.Causes.{RunFits};
+ghost use Rattle.block_work.specs.Chain.{HoldsChain, StoreFits};
+ghost use Rattle.node_model.specs.Decide.{by_run, or_committed, run_at, writes_since};
+ghost use Rattle.node_model.specs.Fold.{work_on};
+ghost use Rattle.node_model.specs.History.{Sealed, ids_of, ids_told};
+ghost use Rattle.plain_node.specs.Deciding.{IsDecision, with_decided};
 ghost use Rattle.proc_syntax.specs.Declaring.{tables_of};
 ghost use Rattle.proc_syntax.specs.Run.{run};
-ghost use Rattle.rel_base.specs.Tables.{HistoryFits, tables_at};
+ghost use Rattle.rel_base.specs.Tables.{tables_at};
+ghost use Rattle.rel_base.specs.declared.schema.TableDef.{TableDef};
 
-use crate::causes::judge;
-use crate::early::find_early;
-use crate::ids::IdSet;
 use crate::moment::Moment;
-use crate::work::{Decided, Working};
-use proc_check::Checked;
+use block_work::{BlockInWork, Chain, Verdict, early_cause};
+use node_model::Outcome;
 use proc_run::run_on;
 use proc_syntax::Tx;
 use proc_syntax::run::Ran;
-use rel_base::NoMemory;
+use rel_base::{Id, NoMemory};
 use row_sets::Versions;
+use rw_graph::Edges;
 use std::alloc::Global;
-use std::sync::Arc;
 
-// The run of a transaction on the tables of its height.
-#[tactic(auto, using(crate::proofs::Fitting::tables_fit))]
-fn run_at_height<V: Versions>(
-    alloc: Global,
-    app: &Arc<Checked>,
-    versions: &V,
-    tx: &Tx,
-    time: i64,
-) -> Result<Ran, NoMemory>
-    requires tables { V.tables versions.now ≡ tables_of app.now.value.app }
-    requires fits { HistoryFits (V.tables versions.now) (V.history versions.now) }
-    ensures { IfOk result (λ ran. ran ≡ run app.now.value.app tx.now time (tables_at tx.now.height (V.history versions.now))) }
-{
-    let moment = Moment {
-        versions,
-        height: tx.height,
-    };
-    run_on(alloc, app, tx, time, &moment)
+/// What is decided of a transaction: that it commits, with its run and its edges, or that it is aborted for a cause.
+#[derive(Drop)]
+pub enum Decided {
+    Commits { ran: Ran, edges: Edges },
+    Aborts(Outcome),
 }
 
-// The same, with what is needed of a run.
-fn run_tx<V: Versions>(
+// The run of a transaction on the tables of its height, at a time.
+fn run_at_time<V: Versions>(
     alloc: Global,
-    app: &Arc<Checked>,
-    versions: &V,
+    chain: &Chain<V>,
     tx: &Tx,
     time: i64,
 ) -> Result<Ran, NoMemory>
-    requires tables { V.tables versions.now ≡ tables_of app.now.value.app }
-    requires fits { HistoryFits (V.tables versions.now) (V.history versions.now) }
-    ensures ran { IfOk result (λ ran. ran ≡ run app.now.value.app tx.now time (tables_at tx.now.height (V.history versions.now))) }
-    ensures fit { IfOk result (λ ran. IsFit (V.tables versions.now) ran) }
+    requires store { StoreFits chain.now.app.value.app (V.tables chain.now.versions) (V.history chain.now.versions) chain.now.blocks }
+    ensures { IfOk result (λ ran. ran ≡ run chain.now.app.value.app tx.now time (tables_at tx.now.height (V.history chain.now.versions))) }
 {
-    let ran = run_at_height(alloc, app, versions, tx, time)?;
+    let moment = Moment {
+        versions: &chain.versions,
+        height: tx.height,
+    };
+    run_on(alloc, &chain.app, tx, time, &moment)
+}
+
+// The run of a transaction, at the time of the block of its height.
+fn run_tx<V: Versions>(alloc: Global, chain: &Chain<V>, tx: &Tx) -> Result<Ran, NoMemory>
+    requires store { StoreFits chain.now.app.value.app (V.tables chain.now.versions) (V.history chain.now.versions) chain.now.blocks }
+    ensures run { IfOk result (λ ran. (sealed : List Sealed) → HoldsChain (tables_of chain.now.app.value.app) sealed (V.history chain.now.versions) chain.now.blocks
+        → ran ≡ run_at chain.now.app.value.app sealed tx.now) }
+    ensures fits { IfOk result (λ ran. RunFits (tables_of chain.now.app.value.app) ran) }
+{
+    let time = chain.time_of(tx.height);
+    let ran = run_at_time(alloc, chain, tx, time)?;
     Ok(ran)
 }
 
-/// Decides a transaction of the block of a number, on a store of the writes of the blocks before, the ids of the chain so far and the
-/// block in work. A transaction with an early cause does not run.
-#[tactic(auto, using(crate::proofs::Aborts::early_leaves))]
-pub fn decide<V: Versions>(
+// What is decided of a transaction by its run, where nothing aborts it without one.
+fn decide_run<V: Versions>(
     alloc: Global,
-    app: &Arc<Checked>,
-    versions: &V,
-    ids: &IdSet,
-    working: &Working,
-    number: u64,
-    time: i64,
+    chain: &Chain<V>,
+    work: &BlockInWork,
     tx: &Tx,
 ) -> Result<Decided, NoMemory>
-    requires number { 0 < number }
-    requires tables { V.tables versions.now ≡ tables_of app.now.value.app }
-    requires fits { HistoryFits (V.tables versions.now) (V.history versions.now) }
-    requires working { IsWorking (V.tables versions.now) working.now }
-    requires few { length working.now.outcomes < 1024 }
-    ensures outcome { IfOk result (λ decided. decided.outcome ≡ decided_by (has_key ids.now tx.now.id) app.now.value.app (V.history versions.now) number working.now.committed tx.now time) }
-    ensures joins { IfOk result (λ decided. (pos : _) → joined working.now.committed pos decided.joins
-        ≡ join_committed working.now.committed pos (run app.now.value.app tx.now time (tables_at tx.now.height (V.history versions.now))) decided.outcome) }
-    ensures fits { IfOk result (λ decided. IfSome decided.joins (IsJoining (V.tables versions.now) working.now.committed)) }
+    requires store { StoreFits chain.now.app.value.app (V.tables chain.now.versions) (V.history chain.now.versions) chain.now.blocks }
+    requires number { 0 < work.now.number }
+    requires few { length work.now.outcomes.items < 1024 }
+    requires consistent { IsConsistent (tables_of chain.now.app.value.app) work.now }
+    ensures work { IfOk result (λ decided. (sealed : List Sealed) → HoldsChain (tables_of chain.now.app.value.app) sealed (V.history chain.now.versions) chain.now.blocks
+        → with_decided (work_of work.now) tx.now.id decided ≡ work_with (work_of work.now) tx.now.id (run_at chain.now.app.value.app sealed tx.now)
+        (or_committed (by_run (tables_of chain.now.app.value.app) (writes_since sealed work.now.number tx.now) work.now.committed.items (run_at chain.now.app.value.app sealed tx.now)))) }
+    ensures decision { IfOk result (λ decided. IsDecision (tables_of chain.now.app.value.app) work.now decided) }
 {
-    match find_early(app, ids, number, tx) {
-        Some(outcome) => Ok(Decided {
-            outcome,
-            joins: None,
-        }),
-        None => {
-            let ran = run_tx(alloc, app, versions, tx, time)?;
-            judge(
-                alloc,
-                app.tables(),
-                versions,
-                working,
-                ran,
-                tx.height,
-                number - 1,
-            )
-        }
+    let ran = run_tx(alloc, chain, tx)?;
+    match chain.judge(work, &ran, tx.height)? {
+        Verdict::Aborts(cause) => Ok(Decided::Aborts(cause)),
+        Verdict::Commits(edges) => Ok(Decided::Commits { ran, edges }),
+    }
+}
+
+/// Decides a transaction of a block in work, where it is known whether its id stands earlier in the chain.
+pub fn decide<V: Versions>(
+    alloc: Global,
+    chain: &Chain<V>,
+    known: bool,
+    work: &BlockInWork,
+    tx: &Tx,
+) -> Result<Decided, NoMemory>
+    requires store { StoreFits chain.now.app.value.app (V.tables chain.now.versions) (V.history chain.now.versions) chain.now.blocks }
+    requires number { 0 < work.now.number }
+    requires few { length work.now.outcomes.items < 1024 }
+    requires consistent { IsConsistent (tables_of chain.now.app.value.app) work.now }
+    ensures work { IfOk result (λ decided. (sealed : List Sealed) → HoldsChain (tables_of chain.now.app.value.app) sealed (V.history chain.now.versions) chain.now.blocks
+        → known ≡ list_any (bytes_eq tx.now.id) (ids_of sealed ++ ids_told work.now.outcomes.items)
+        → with_decided (work_of work.now) tx.now.id decided ≡ work_on chain.now.app.value.app sealed work.now.number (work_of work.now) tx.now) }
+    ensures decision { IfOk result (λ decided. IsDecision (tables_of chain.now.app.value.app) work.now decided) }
+{
+    match early_cause(&chain.app, known, work.number, tx) {
+        Some(cause) => Ok(Decided::Aborts(cause)),
+        None => decide_run(alloc, chain, work, tx),
+    }
+}
+
+/// Adds what is decided of a transaction. Takes no memory.
+pub fn add(work: &mut BlockInWork, id: Id, decided: Decided)
+    requires few { length work.old.outcomes.items < 1024 }
+    requires room { HasRoom work.old }
+    requires decision { (tables : List TableDef) × IsDecision tables work.old decided }
+    ensures number { work.new.number ≡ work.old.number }
+    ensures time { work.new.time ≡ work.old.time }
+    ensures work { work_of work.new ≡ with_decided (work_of work.old) id decided }
+    ensures consistent { (tables : List TableDef) → IsConsistent tables work.old → IsDecision tables work.old decided → IsConsistent tables work.new }
+{
+    match decided {
+        Decided::Commits { ran, edges } => work.commit(id, ran, &edges),
+        Decided::Aborts(cause) => work.abort(id, cause),
     }
 }

@@ -1,0 +1,13 @@
+pub mod Answering
+pub mod Applied
+pub mod Causing
+pub mod Consistent
+pub mod Few
+pub mod Fitting
+pub mod Grown
+pub mod Outcomes
+pub mod Places
+pub mod Replayed
+pub mod Resulting
+pub mod Times
+pub mod WholeRows

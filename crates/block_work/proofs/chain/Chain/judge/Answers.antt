@@ -1,0 +1,32 @@
+use Rattle.std.proofs.Common.{IfSome, None, ap, rules, subst, sym, ◌-◌, ◌∙◌, ◌≡◌}
+use Rattle.block_work.proofs.Causing.{danger_decides, shown_cause}
+use Rattle.block_work.proofs.Fitting.{store_fits}
+use Rattle.block_work.proofs.chain.Chain.judge.Goals as goal
+use Rattle.block_work.specs.Causes.{IsCause, before_edges}
+use Rattle.node_model.specs.Danger.{danger}
+use Rattle.node_model.specs.Decide.{danger_outcome, or_committed}
+use Rattle.proc_check.proofs.Few.{small_tables}
+use Rattle.proc_syntax.specs.Declaring.{tables_of}
+use Rattle.rel_base.specs.Tables.{writes_between}
+
+pub returns-in-Some-clause-verdict : goal.returns-in-Some-clause-verdict
+returns-in-Some-clause-verdict g c =
+    let app = c.args.self.now.app.value in
+    let history = g.V.Versions.history c.args.self.now.versions in
+    let low = c.args.height in
+    let high = c.args.work.now.number - 1 in
+    let shown : c.in_ok-cause.field-0 ≡ before_edges (tables_of app.app) (writes_between low high history) c.args.work.now.committed.items c.args.ran.now =
+    c.in_ok-cause.ensures ∙ ap (λ tables. before_edges tables (writes_between low high history) c.args.work.now.committed.items c.args.ran.now) c.requires.store.declared in
+    subst (λ found. IfSome found IsCause) (sym shown ∙ c.in-Some.is)
+    (shown_cause (tables_of app.app) (small_tables app.app app.well_typed) low high history c.args.work.now.committed.items c.args.ran.now
+    (store_fits app.app (g.V.Versions.tables c.args.self.now.versions) history c.args.self.now.blocks c.requires.store) c.requires.fits.writes)
+
+pub returns-in-None-clause-outcome : goal.returns-in-None-clause-outcome
+returns-in-None-clause-outcome g c =
+    let tables = tables_of c.args.self.now.app.value.app in
+    let since = writes_between c.args.height (c.args.work.now.number - 1) (g.V.Versions.history c.args.self.now.versions) in
+    let none : before_edges (g.V.Versions.tables c.args.self.now.versions) since c.args.work.now.committed.items c.args.ran.now ≡ None = search rules in
+    c.judge_edges.ensures.outcome
+    ∙ ap (λ defs. or_committed (danger_outcome (danger defs c.args.work.now.committed.items c.args.ran.now.reads c.args.ran.now.writes))) (c.tables.ensures.tables ∙ ap (λ checked. tables_of checked.app) c.deref.ensures)
+    ∙ danger_decides tables since c.args.work.now.committed.items c.args.ran.now
+    (subst (λ defs. before_edges defs since c.args.work.now.committed.items c.args.ran.now ≡ None) c.requires.store.declared none)

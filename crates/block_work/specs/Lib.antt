@@ -1,0 +1,6 @@
+pub mod Ids
+pub mod Causes
+pub mod Block
+pub mod Chain
+pub mod Results
+pub mod Laws

@@ -1,0 +1,35 @@
+-- The result of a block that was decided.
+use Rattle.block_digest.specs.Codable.{HasFewKey, IsFewWrite}
+use Rattle.node_model.specs.Fold.{no_digest}
+use Rattle.node_model.specs.declared.result.BlockResult.{BlockResult}
+use Rattle.node_model.specs.declared.result.Committed.{Committed}
+use Rattle.node_model.specs.declared.result.Told.{Told}
+use Rattle.rel_base.specs.declared.access.Placed.{Placed}
+use Rattle.rel_base.specs.declared.access.Write.{Write}
+use Rattle.rw_graph.specs.Laws.{AreRising}
+use Rattle.std.specs.Prelude.{All, List, [], length, ◌≤◌, ◌∷◌, ℕ}
+
+-- a write at a position
+abbrev pub placed_at : ℕ → Write → Placed
+placed_at pos write = record { pos = pos; write = write }
+
+-- the digest of the last of some results, where the block before them has one
+abbrev pub digest_after : List ℕ → List BlockResult → List ℕ
+digest_after previous [] = previous
+digest_after previous (block ∷ rest) = digest_after block.digest rest
+
+-- the digest of the last of some blocks, or the one before the first block
+abbrev pub last_digest : List BlockResult → List ℕ
+last_digest blocks = digest_after no_digest blocks
+
+-- a committed transaction has few writes, of few values each
+abbrev pub HasFewWrites : Committed → Type 0
+HasFewWrites done = (length done.writes ≤ 100000) × All (λ write. IsFewWrite (placed_at done.pos write)) done.writes
+
+-- a block is within the limits: there are at most 1,024 transactions, and all parts have a code
+pub record IsWithinLimits (outcomes : List Told) (committed : List Committed) : Type 0 where
+  pub few_outcomes : length outcomes ≤ 1024
+  pub few_committed : length committed ≤ 1024
+  pub rise : AreRising committed
+  pub keys : All (λ told. HasFewKey told.outcome) outcomes
+  pub writes : All HasFewWrites committed

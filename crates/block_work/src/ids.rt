@@ -1,0 +1,66 @@
+//! The ids of a chain.
+
+ghost use Rattle.std.specs.Prelude.{◌≡◌, List, None, OnErr, OnOk, ℕ};
+ghost use Rattle.block_work.specs.Ids.{AddsPlace, Forgets, SamePlaces, place_of, without};
+
+use node_model::Told;
+use rel_base::{Id, NoMemory, Place};
+use std::alloc::Global;
+use std::collections::BTreeMap;
+
+/// The ids of a chain, each with the place where it first stands: an ordered map, so that an id is found in a number of steps that
+/// grows as the logarithm.
+#[derive(Drop)]
+pub struct IdIndex {
+    places: BTreeMap<Id, Place>,
+}
+
+impl IdIndex {
+    /// No ids.
+    pub fn new(alloc: Global) -> IdIndex
+        ensures { (id : List ℕ) → place_of result id ≡ None }
+    {
+        IdIndex {
+            places: BTreeMap::new(alloc),
+        }
+    }
+
+    /// Where an id first stands; nothing for an id that does not stand in the chain.
+    pub fn find(&self, id: &Id) -> Option<Place>
+        ensures { result ≡ place_of self.now id.now }
+    {
+        self.places.get(id).copied()
+    }
+
+    /// Notes the place of an id, unless it has one. Where memory is wanting, each id has the place that it had.
+    pub fn insert(&mut self, id: Id, place: Place) -> Result<(), NoMemory>
+        ensures added { OnOk result (AddsPlace self.old self.new id place) }
+        ensures same { OnErr result (SamePlaces self.old self.new) }
+    {
+        if self.places.contains_key(&id) {
+            return Ok(());
+        }
+        self.places.insert(id, place)?;
+        Ok(())
+    }
+
+    // Takes an id out where it first stands in the block of a number.
+    fn forget_id(&mut self, number: u64, id: &Id)
+        ensures { (other : List ℕ) → place_of self.new other ≡ without number id.now (place_of self.old) other }
+    {
+        if let Some(place) = self.find(id) {
+            if place.block == number {
+                let _ = self.places.remove(id);
+            }
+        }
+    }
+
+    /// Takes the ids of some outcomes out, where they first stand in the block of a number. Takes no memory.
+    pub fn forget(&mut self, number: u64, outcomes: &[Told])
+        ensures { Forgets self.old self.new number outcomes.now }
+    {
+        for told in outcomes {
+            self.forget_id(number, &told.id);
+        }
+    }
+}
