@@ -1,0 +1,13 @@
+pub mod Table
+pub mod Hand
+pub mod Rowed
+pub mod Journal
+pub mod Settled
+pub mod Arrivals
+pub mod Claims
+pub mod Held_works
+pub mod Ending
+pub mod Answering
+pub mod Telling
+pub mod Fresh_jobs
+pub mod Deliveries

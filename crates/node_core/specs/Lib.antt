@@ -1,0 +1,11 @@
+pub mod Rows
+pub mod InHand
+pub mod Answers
+pub mod Hands
+pub mod Core
+pub mod Kept
+pub mod Known
+pub mod Choosing
+pub mod Ends
+pub mod Looking
+pub mod Fresh

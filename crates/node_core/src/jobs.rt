@@ -1,0 +1,199 @@
+//! What a node keeps of its jobs.
+
+ghost use Rattle.std.specs.Prelude.{◌≡◌, ◌<◌, ◌≤◌, ◌+◌, ◌%◌, ◌^◌, ◌++◌, ◌∷◌, IsSome, IsSomeAnd, OnErr, OnOk, Some, [], length, map, slice_get, true};
+ghost use Rattle.std.specs.Option.{option_copied, option_map};
+ghost use Rattle.node_model.specs.World.{eligible, is_held, is_waiting, number_of};
+
+use crate::rows::{
+    change_stage, count_eligible, find_eligible, find_number, is_waiting, one_held, push_rows,
+};
+use proc_syntax::Tx;
+use proc_syntax::run::Ran;
+use rel_base::NoMemory;
+use std::alloc::Global;
+use std::marker::Model;
+use std::sync::Arc;
+
+/// What is recorded of the run of a done job.
+#[derive(Drop)]
+pub struct Record {
+    pub ran: Ran,
+    /// Whether the run was cut short, after a read that is late.
+    pub cut: bool,
+}
+
+/// How far a job is.
+#[derive(Drop)]
+pub enum Stage {
+    /// It waits for an actor.
+    Waiting,
+    /// This actor holds it, with what is recorded of its run.
+    Held(u32),
+    /// It is done.
+    Done(Record),
+    /// It is done, and what was recorded of its run was taken to decide its transaction.
+    Taken,
+    /// It is over.
+    Dropped,
+}
+
+/// A job: its transaction, and how far it is.
+#[derive(Drop)]
+pub struct Row {
+    pub tx: Arc<Tx>,
+    pub stage: Stage,
+}
+
+/// The jobs of a node, numbered from 1 in the order in which they came about. Contracts see the list of their rows.
+#[derive(Drop)]
+pub struct Jobs {
+    rows: Vec<Row>,
+    held: usize,
+}
+
+impl Model for Jobs {
+    ghost use Rattle.std.specs.Prelude.{◌≡◌, List};
+    ghost use Rattle.node_core.specs.declared.jobs.Row.{Row};
+
+    ghost Value = { List Row };
+
+    ghost use Rattle.node_core.specs.Rows.{count_held};
+
+    ghost view = { λ jobs. jobs.rows.items };
+
+    ghost invariant = { λ jobs. jobs.held ≡ count_held jobs.rows.items };
+}
+
+impl Jobs {
+    ghost use Rattle.node_core.specs.Rows.{count_held, new_row, put_row, row_waits, row_at, shown_all, status_of};
+    ghost use Rattle.node_core.specs.declared.jobs.Stage.TheVariants.{Done, Dropped, Held, Waiting};
+
+    /// No jobs.
+    pub fn new(alloc: Global) -> Jobs
+        ensures { result ≡ [] }
+    {
+        Jobs {
+            rows: Vec::new(alloc),
+            held: 0,
+        }
+    }
+
+    /// How many jobs there are, those that are over among them.
+    pub fn len(&self) -> u64
+        ensures len { result ≡ length self.now }
+        ensures few { result < 2 ^ 63 }
+    {
+        self.rows.len() as u64
+    }
+
+    /// How many jobs are held.
+    pub fn held(&self) -> usize
+        ensures { result ≡ count_held self.now }
+    {
+        self.held
+    }
+
+    /// The number of a transaction's job that is not dropped.
+    pub fn find(&self, tx: &Tx) -> Option<u64>
+        ensures { result ≡ number_of tx.now (shown_all self.now) }
+    {
+        find_number(self.rows.as_slice(), tx)
+    }
+
+    /// Of the jobs that wait and whose height is at most the given one, in order of number, the one at `n` modulo their count.
+    pub fn find_nth(&self, height: u64, n: u64) -> Option<u64>
+        ensures { result ≡ slice_get (eligible height (shown_all self.now)) (n % length (eligible height (shown_all self.now))) }
+    {
+        let count = count_eligible(self.rows.as_slice(), height);
+        if count == 0 {
+            return None;
+        }
+        find_eligible(self.rows.as_slice(), height, (n % count as u64) as usize)
+    }
+
+    /// The job of a number.
+    pub fn get(&self, number: u64) -> Option<&Row>
+        ensures { option_copied result ≡ row_at self.now number }
+    {
+        match number.checked_sub(1) {
+            None => None,
+            Some(place) => self.rows.as_slice().get(place as usize),
+        }
+    }
+
+    /// Whether the job of a number is there and waits.
+    pub fn waits(&self, number: u64) -> bool
+        ensures { result ≡ row_waits (row_at self.now number) }
+    {
+        match self.get(number) {
+            None => false,
+            Some(row) => is_waiting(&row.stage),
+        }
+    }
+
+    /// Adds a job that waits. Where memory is wanting, the jobs are as before.
+    pub fn add(&mut self, tx: Arc<Tx>) -> Result<(), NoMemory>
+        ensures ok { OnOk result (self.new ≡ self.old ++ new_row tx ∷ []) }
+        ensures err { OnErr result (self.new ≡ self.old) }
+    {
+        self.rows.push(Row {
+            tx,
+            stage: Stage::Waiting,
+        })?;
+        Ok(())
+    }
+
+    /// Adds jobs that wait, or none where memory is wanting.
+    pub fn add_all(&mut self, txs: Vec<Arc<Tx>>) -> Result<(), NoMemory>
+        ensures ok { OnOk result (self.new ≡ self.old ++ map new_row txs.items) }
+        ensures err { OnErr result (self.new ≡ self.old) }
+    {
+        self.rows.reserve(txs.len())?;
+        push_rows(&mut self.rows, txs);
+        Ok(())
+    }
+
+    // Gives a job another stage, and answers the one that it had.
+    fn set(&mut self, number: u64, stage: Stage) -> Stage
+        requires { IsSome (row_at self.old number) }
+        ensures was { option_map (λ row. row.stage) (row_at self.old number) ≡ Some result }
+        ensures now { self.new ≡ put_row self.old number stage }
+    {
+        let more = one_held(&stage);
+        let was = change_stage(&mut self.rows, (number - 1) as usize, stage);
+        self.held = self.held - one_held(&was) + more;
+        was
+    }
+
+    /// Gives a job that waits to an actor. Takes no memory.
+    pub fn hold(&mut self, number: u64, actor: u32)
+        requires { IsSomeAnd (row_at self.old number) (λ row. is_waiting (status_of row.stage) ≡ true) }
+        ensures { self.new ≡ put_row self.old number (Held actor) }
+    {
+        let _ = self.set(number, Stage::Held(actor));
+    }
+
+    /// Ends a held job, with what is recorded of its run. Takes no memory.
+    pub fn finish(&mut self, number: u64, recorded: Record)
+        requires { IsSomeAnd (row_at self.old number) (λ row. is_held (status_of row.stage) ≡ true) }
+        ensures { self.new ≡ put_row self.old number (Done recorded) }
+    {
+        let _ = self.set(number, Stage::Done(recorded));
+    }
+
+    /// Lets a held job wait again. Takes no memory.
+    pub fn release(&mut self, number: u64)
+        requires { IsSomeAnd (row_at self.old number) (λ row. is_held (status_of row.stage) ≡ true) }
+        ensures { self.new ≡ put_row self.old number Waiting }
+    {
+        let _ = self.set(number, Stage::Waiting);
+    }
+
+    /// Drops a held job. Takes no memory.
+    pub fn drop_held(&mut self, number: u64)
+        requires { IsSomeAnd (row_at self.old number) (λ row. is_held (status_of row.stage) ≡ true) }
+        ensures { self.new ≡ put_row self.old number Dropped }
+    {
+        let _ = self.set(number, Stage::Dropped);
+    }
+}

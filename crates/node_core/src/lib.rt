@@ -1,0 +1,20 @@
+//! The node as a value: jobs that run before their block is known, and blocks whose transactions are decided in order.
+#![tactic(auto)]
+
+pub mod answers;
+pub mod arriving;
+pub mod claiming;
+pub mod delivering;
+pub mod jobs;
+pub mod known;
+pub mod looking;
+pub mod node;
+pub mod reading;
+pub mod room;
+pub mod rows;
+pub mod work;
+pub mod working;
+
+pub use answers::{Arrived, Decided, Delivered, Finished, Got, Looked, Next, Sealed};
+pub use node::NodeCore;
+pub use work::Work;
