@@ -1,6 +1,7 @@
 -- The lines of a report, and the report of nodes.
 use Rattle.std.specs.Prelude.{ℕ, ◌+◌, List, [], ◌∷◌, ◌++◌, Bool, cond, Option, flat_map, length, codes, decimal}
 use Rattle.hex.specs.Hex.{encode_lower}
+use Rattle.node_model.specs.declared.journal.Entry.{Entry}
 use Rattle.node_model.specs.declared.result.BlockResult.{BlockResult}
 use Rattle.node_model.specs.declared.result.NodeResult.{NodeResult}
 use Rattle.node_model.specs.declared.result.TableRows.{TableRows}
@@ -9,6 +10,7 @@ use Rattle.proc_syntax.specs.declared.chain_fault.ChainFault.{ChainFault}
 use Rattle.rel_base.specs.declared.schema.TableDef.{TableDef}
 use Rattle.rel_base.specs.declared.value.Value.{Value}
 use Rattle.report_text.specs.Ending.{end_line}
+use Rattle.report_text.specs.Journal.{event_text}
 use Rattle.report_text.specs.declared.look.Look.{Look}
 use Rattle.report_text.specs.Outcome.{outcome_text, values_text, table_name}
 
@@ -77,6 +79,20 @@ node_lines look tables number node =
     node_line number ++ flat_map (block_lines look tables) node.blocks ++ flat_map (table_lines tables) node.tables
     ++ height_line node.blocks
 
--- a report: the nodes numbered from 1, and the line that ends it, by where the block file stopped
+-- an entry of a journal: the actor, and what it did
+abbrev pub entry_line : Entry → List ℕ
+entry_line entry = line (decimal entry.actor ++ codes " " ++ event_text entry.event)
+
+-- the line that begins the journal of a node
+abbrev pub journal_line : ℕ → List ℕ
+journal_line number = line (codes "journal " ++ decimal number)
+
+-- the journal of a node: its entries in order
+abbrev pub journal_lines : ℕ → NodeResult → List ℕ
+journal_lines number node = journal_line number ++ flat_map entry_line node.journal
+
+-- a report: the nodes numbered from 1, and the line that ends it, by where the block file stopped; and then the journal of each node,
+-- if it is asked for
 abbrev pub report_text : Look → List TableDef → List NodeResult → Option ChainFault → List ℕ
-report_text look tables nodes stop = numbered (node_lines look tables) 1 nodes ++ end_line stop
+report_text look tables nodes stop =
+    numbered (node_lines look tables) 1 nodes ++ end_line stop ++ shown_if look.trace (numbered journal_lines 1 nodes)

@@ -4,6 +4,9 @@
 mod block;
 mod buffer;
 mod ending;
+mod journal_lines;
+#[cfg(test)]
+mod journal_tests;
 mod look;
 mod node;
 mod outcome;
@@ -11,7 +14,11 @@ mod table;
 #[cfg(test)]
 mod tests;
 mod value;
+mod version;
+#[cfg(test)]
+mod version_tests;
 
 pub use ending::stopped_line;
 pub use look::Look;
 pub use node::report;
+pub use version::versions;

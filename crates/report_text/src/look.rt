@@ -1,7 +1,7 @@
 //! What a report shows.
 
-/// The lines of a block that a report shows only where they are asked for. They stand behind the block's transactions, in
-/// the order of these fields.
+/// The lines that a report shows only where they are asked for. Those of a block stand behind its transactions, in the order of
+/// these fields; the journals stand behind the report.
 #[derive(Clone, Copy, Debug, PartialEq, Eq)]
 pub struct Look {
     /// The line `order`, and in it, each after a space, the positions of the block's committed transactions, from 1, in their
@@ -9,4 +9,6 @@ pub struct Look {
     pub orders: bool,
     /// The line `digest`, and in it, after a space, the 64 lower-case hexadecimal digits of the block's digest.
     pub digests: bool,
+    /// For each node the line `journal` with its number, and behind it a line for each entry of its journal: the actor and what it did.
+    pub trace: bool,
 }

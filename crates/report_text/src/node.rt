@@ -7,6 +7,7 @@ ghost use Rattle.report_text.specs.Report.{numbered, height_line, node_line, nod
 use crate::block::push_blocks;
 use crate::buffer::push;
 use crate::ending::push_end;
+use crate::journal_lines::push_journals;
 use crate::look::Look;
 use crate::table::push_tables;
 use literals::push_number;
@@ -65,8 +66,8 @@ fn push_nodes(
 }
 
 /// The report of the nodes: for each in turn its blocks with the outcome of every transaction and the lines that the look asks
-/// for, its tables with their rows, and its height; after the last node the line `done`, or `stopped LINE KIND` where the block file stopped at a fault.
-/// Every line ends with a newline.
+/// for, its tables with their rows, and its height; after the last node the line `done`, or `stopped LINE KIND` where the block file stopped at a fault;
+/// and behind it the journals, if the look asks for them. Every line ends with a newline.
 ///
 /// A table is shown by its name in the declarations; a number that none of them has is shown as an empty name. The only
 /// error is want of memory.
@@ -82,5 +83,6 @@ pub fn report(
     let mut out = Vec::new(alloc);
     push_nodes(&mut out, look, tables.as_slice(), nodes.as_slice())?;
     push_end(&mut out, stop)?;
+    push_journals(&mut out, look, nodes.as_slice())?;
     Ok(List::from_vec(out))
 }

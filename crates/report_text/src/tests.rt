@@ -1,7 +1,7 @@
-use crate::{Look, report, stopped_line};
-use node_model::{BlockResult, Clash, Late, NO_DIGEST, NodeResult, Outcome, TableRows, Told};
+use crate::{Look, report};
+use node_model::{BlockResult, Late, NO_DIGEST, NodeResult, Outcome, TableRows, Told};
 use proc_syntax::{ChainFault, ChainKind, Fault};
-use rel_base::{Blob, Id, Key, List, Name, Place, Row, Str, TableDef, Value};
+use rel_base::{Blob, Id, List, Name, Place, Row, Str, TableDef, Value};
 use std::alloc::Global;
 use std::test::Fail;
 
@@ -25,10 +25,6 @@ fn text(alloc: Global, text: &str) -> Result<Value, Fail> {
 
 fn account(alloc: Global, id: i64, owner: &str, balance: i64) -> Result<Row, Fail> {
     Ok(List::from_vec(vec![in alloc; Value::Int(id), text(alloc, owner)?, Value::Int(balance)]?))
-}
-
-fn account_key(alloc: Global, id: i64) -> Result<Key, Fail> {
-    Ok(List::from_vec(vec![in alloc; Value::Int(id)]?))
 }
 
 fn told(alloc: Global, id: &str, outcome: Outcome) -> Result<Told, Fail> {
@@ -58,12 +54,14 @@ fn node(alloc: Global, blocks: Vec<BlockResult>, rows: Vec<Row>) -> Result<NodeR
     Ok(NodeResult {
         blocks: List::from_vec(blocks),
         tables: accounts(alloc, rows)?,
+        journal: List::new(alloc),
     })
 }
 
 const BARE: Look = Look {
     orders: false,
     digests: false,
+    trace: false,
 };
 
 fn shows(alloc: Global, node: NodeResult, want: &str) -> Result<bool, Fail> {
@@ -75,101 +73,6 @@ fn shows(alloc: Global, node: NodeResult, want: &str) -> Result<bool, Fail> {
 fn committed(alloc: Global, number: u64, id: &str) -> Result<BlockResult, Fail> {
     let outcomes = vec![in alloc; told(alloc, id, Outcome::Committed)?]?;
     Ok(block(alloc, number, outcomes))
-}
-
-// The report after an insert that committed in block 1, and a transaction alone in block 2.
-fn after_insert(alloc: Global, outcome: Outcome) -> Result<NodeResult, Fail> {
-    let second = vec![in alloc; told(alloc, "b1", outcome)?]?;
-    let blocks = vec![in alloc; committed(alloc, 1, "a1")?, block(alloc, 2, second)]?;
-    node(
-        alloc,
-        blocks,
-        vec![in alloc; account(alloc, 1, "ann", 50)?]?,
-    )
-}
-
-#[test]
-fn no_blocks(rt: HostRuntime) -> Result<(), Fail> {
-    let alloc = rt.alloc();
-    let empty = node(alloc, Vec::new(alloc), Vec::new(alloc))?;
-    assert!(rt; shows(alloc, empty, "node 1\ntable acct\nheight 0\ndone\n")?);
-    Ok(())
-}
-
-#[test]
-fn one_insert(rt: HostRuntime) -> Result<(), Fail> {
-    let alloc = rt.alloc();
-    let blocks = vec![in alloc; committed(alloc, 1, "a1")?]?;
-    let rows = vec![in alloc; account(alloc, 1, "ann", 50)?]?;
-    let want = "node 1\nblock 1\ntx 1 a1 committed\ntable acct\nrow 1 \"ann\" 50\nheight 1\ndone\n";
-    assert!(rt; shows(alloc, node(alloc, blocks, rows)?, want)?);
-    Ok(())
-}
-
-#[test]
-fn early_outcomes(rt: HostRuntime) -> Result<(), Fail> {
-    let alloc = rt.alloc();
-    let first = vec![in alloc;
-        told(alloc, "a1", Outcome::Committed)?,
-        told(alloc, "a1", Outcome::DuplicateId)?,
-        told(alloc, "n1", Outcome::UnknownProcedure)?,
-        told(alloc, "b1", Outcome::BadArguments)?,
-    ]?;
-    let second = vec![in alloc; told(alloc, "n1", Outcome::DuplicateId)?]?;
-    let blocks = vec![in alloc; block(alloc, 1, first), block(alloc, 2, second)]?;
-    let rows = vec![in alloc; account(alloc, 1, "ann", 50)?]?;
-    let want = "node 1\nblock 1\ntx 1 a1 committed\ntx 2 a1 aborted duplicate-id\n\
-        tx 3 n1 aborted unknown-procedure\ntx 4 b1 aborted bad-arguments\n\
-        block 2\ntx 1 n1 aborted duplicate-id\ntable acct\nrow 1 \"ann\" 50\nheight 2\ndone\n";
-    assert!(rt; shows(alloc, node(alloc, blocks, rows)?, want)?);
-    Ok(())
-}
-
-#[test]
-fn late_insert_and_duplicate_key(rt: HostRuntime) -> Result<(), Fail> {
-    let alloc = rt.alloc();
-    let late = Outcome::Late(Late {
-        stale: false,
-        read: 1,
-        place: Place { block: 1, pos: 1 },
-        table: 0,
-        key: account_key(alloc, 1)?,
-    });
-    let want =
-        "node 1\nblock 1\ntx 1 a1 committed\nblock 2\ntx 1 b1 aborted phantom 1 by 1 1 acct 1\n\
-        table acct\nrow 1 \"ann\" 50\nheight 2\ndone\n";
-    assert!(rt; shows(alloc, after_insert(alloc, late)?, want)?);
-
-    let want = "node 1\nblock 1\ntx 1 a1 committed\nblock 2\ntx 1 b1 aborted fault duplicate-key\n\
-        table acct\nrow 1 \"ann\" 50\nheight 2\ndone\n";
-    assert!(rt;
-        shows(
-            alloc,
-            after_insert(alloc, Outcome::Fault(Fault::DuplicateKey))?,
-            want
-        )?
-    );
-    Ok(())
-}
-
-#[test]
-fn same_key_in_block(rt: HostRuntime) -> Result<(), Fail> {
-    let alloc = rt.alloc();
-    let clash = Outcome::WriteConflict(Clash {
-        with: 1,
-        table: 0,
-        key: account_key(alloc, 1)?,
-    });
-    let outcomes = vec![in alloc;
-        told(alloc, "a1", Outcome::Committed)?,
-        told(alloc, "a2", clash)?,
-    ]?;
-    let blocks = vec![in alloc; block(alloc, 1, outcomes)]?;
-    let rows = vec![in alloc; account(alloc, 1, "ann", 50)?]?;
-    let want = "node 1\nblock 1\ntx 1 a1 committed\ntx 2 a2 aborted write-conflict with 1 acct 1\n\
-        table acct\nrow 1 \"ann\" 50\nheight 1\ndone\n";
-    assert!(rt; shows(alloc, node(alloc, blocks, rows)?, want)?);
-    Ok(())
 }
 
 // The causes that the rows above do not show, the first with a key of two columns.
@@ -231,6 +134,7 @@ fn two_nodes_and_values_of_each_kind(rt: HostRuntime) -> Result<(), Fail> {
     let second = NodeResult {
         blocks: List::new(alloc),
         tables: List::from_vec(vec![in alloc; TableRows { table: 1, rows }]?),
+        journal: List::new(alloc),
     };
     let first = node(alloc, Vec::new(alloc), Vec::new(alloc))?;
     let nodes = List::from_vec(vec![in alloc; first, second]?);
@@ -290,7 +194,11 @@ fn looks(alloc: Global, orders: bool, digests: bool, want: &str) -> Result<bool,
         &tables(alloc)?,
         &nodes,
         None,
-        &Look { orders, digests },
+        &Look {
+            orders,
+            digests,
+            trace: false,
+        },
     )?;
     Ok(bytes.as_slice() == want.as_bytes())
 }
@@ -318,44 +226,6 @@ fn a_file_that_stopped(rt: HostRuntime) -> Result<(), Fail> {
     let want = "node 1\nblock 1\ntx 1 a1 committed\ntable acct\nheight 1\nstopped 7 Truncated\n";
     assert!(rt;
         report(alloc, &tables(alloc)?, &nodes, Some(&stop), &BARE)?.as_slice() == want.as_bytes()
-    );
-    Ok(())
-}
-
-fn stops(alloc: Global, line: u64, kind: ChainKind, want: &[u8]) -> Result<bool, Fail> {
-    Ok(stopped_line(alloc, &ChainFault { line, kind })?.as_slice() == want)
-}
-
-#[test]
-fn every_stop(rt: HostRuntime) -> Result<(), Fail> {
-    let alloc = rt.alloc();
-    assert!(rt; stops(alloc, 1, ChainKind::BadHeader, b"stopped 1 BadHeader\n")?);
-    assert!(rt; stops(alloc, 2, ChainKind::BadLine, b"stopped 2 BadLine\n")?);
-    assert!(rt;
-        stops(
-            alloc,
-            10,
-            ChainKind::WrongNumber,
-            b"stopped 10 WrongNumber\n"
-        )?
-    );
-    assert!(rt; stops(alloc, 8, ChainKind::WrongPrev, b"stopped 8 WrongPrev\n")?);
-    assert!(rt;
-        stops(
-            alloc,
-            1027,
-            ChainKind::TooManyTx,
-            b"stopped 1027 TooManyTx\n"
-        )?
-    );
-    assert!(rt; stops(alloc, 3, ChainKind::LineTooLong, b"stopped 3 LineTooLong\n")?);
-    assert!(rt;
-        stops(
-            alloc,
-            u64::MAX,
-            ChainKind::Truncated,
-            b"stopped 18446744073709551615 Truncated\n"
-        )?
     );
     Ok(())
 }

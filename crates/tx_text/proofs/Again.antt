@@ -25,7 +25,7 @@ use Rattle.tx_text.specs.Values.{as_kind, plain_int, minus_int, int_of, minus, v
 use Rattle.tx_text.specs.Lines.{first_and_more, args_within, args_of, call_of, height_and_call, tx_form, tx_of, arg_text, tx_text, IsTx}
 
 -- a front that is there
-front_digit : (ds : List ℕ) → 0 < length ds → all_ascii_digits ds ≡ true → (d : ℕ) × (rest : List ℕ) × (ds ≡ d ∷ rest) × (is_ascii_digit d ≡ true)
+pub front_digit : (ds : List ℕ) → 0 < length ds → all_ascii_digits ds ≡ true → (d : ℕ) × (rest : List ℕ) × (ds ≡ d ∷ rest) × (is_ascii_digit d ≡ true)
 front_digit [] some all = absurd (omega (arith, some))
 front_digit (d ∷ ds) some all = (d, ds, refl, (and_parts (is_ascii_digit d) (all_ascii_digits ds) all).0)
 
@@ -109,6 +109,9 @@ id_byte_no_space b = λ e. grind (arith, nat_tests)
 name_byte_no_space : (b : ℕ) → is_name_byte b ≡ true → not (is_space b) ≡ true
 name_byte_no_space b = λ e. grind (arith, nat_tests)
 
+digit_no_space : (b : ℕ) → is_ascii_digit b ≡ true → not (is_space b) ≡ true
+digit_no_space b = λ e. grind (arith, nat_tests)
+
 lower_no_space : (b : ℕ) → is_lower_case b ≡ true → not (is_space b) ≡ true
 lower_no_space b = λ e. grind (arith, nat_tests)
 
@@ -120,6 +123,15 @@ name_no_space [] e = refl
 name_no_space (b ∷ bs) e =
     let parts = and_parts (is_lower_case b) (list_all is_name_byte bs) (and_parts (is_lower_case b && list_all is_name_byte bs) (nat_lt (length bs) 32) e).0 in
     and_from (not (is_space b)) (list_all (λ b. not (is_space b)) bs) (lower_no_space b parts.0) (all_from is_name_byte (λ b. not (is_space b)) name_byte_no_space bs parts.1)
+
+digits_no_space : (ds : List ℕ) → all_ascii_digits ds ≡ true → list_all (λ b. not (is_space b)) ds ≡ true
+digits_no_space [] all = refl
+digits_no_space (d ∷ ds) all =
+    let parts = and_parts (is_ascii_digit d) (all_ascii_digits ds) all in
+    and_from (not (is_space d)) (list_all (λ b. not (is_space b)) ds) (digit_no_space d parts.0) (digits_no_space ds parts.1)
+
+pub decimal_no_space : (n : ℕ) → n < 2 ^ 64 → list_all (λ b. not (is_space b)) (decimal n) ≡ true
+decimal_no_space n low = digits_no_space (decimal n) (digits_decimal own n low)
 
 id_again : (id rest : List ℕ) → has_id_form id ≡ true → begins_field rest ≡ true → id_at (id ++ rest) ≡ Some (id, rest)
 id_again id rest fine e =

@@ -1,3 +1,10 @@
+pub mod Bytes
+pub mod Parts
+pub mod Glued
+pub mod Listed
+pub mod Arriving
+pub mod Fed
+pub mod Longest
 pub mod Ascii
 pub mod Shrinks
 pub mod Args
@@ -5,3 +12,7 @@ pub mod Made
 pub mod Again
 pub mod Sound
 pub mod Takes
+pub mod Plain
+pub mod ListedText
+pub mod ListedItems
+pub mod Written

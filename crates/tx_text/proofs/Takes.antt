@@ -5,7 +5,7 @@ use Rattle.std.specs.Fmt.{signed_decimal}
 use Rattle.std.specs.List.{flat_map, position_or_len}
 use Rattle.std.specs.Option.{option_and_then, option_map, option_or}
 use Rattle.std.specs.Str.{bytes_eq}
-use Rattle.std.proofs.lemmas.Bool.{eqb-true, ltb-true, and_parts, false≢true}
+use Rattle.std.proofs.lemmas.Bool.{eqb-true, ltb-true, and_parts}
 use Rattle.std.proofs.lemmas.List.{take-append-drop, append-nil}
 use Rattle.rel_base.specs.declared.value.Value.{Value}
 use Rattle.rel_base.specs.declared.value.Value.TheVariants as value
@@ -15,6 +15,7 @@ use Rattle.literals.specs.Text.{quote, text_at, text_literal}
 use Rattle.literals.specs.Bytes.{letter_x, bytes_at, bytes_literal}
 use Rattle.literals.specs.Number.{u64_at}
 use Rattle.literals.proofs.Takes.{IsLiteral, IsText, IsShort, IsU64, text_takes, bytes_takes, u64_takes}
+use Rattle.tx_text.proofs.Bytes.{same_bytes}
 use Rattle.tx_text.specs.Fields.{is_space, after, word, past_word, id_at, name_at}
 use Rattle.tx_text.specs.Values.{as_kind, plain_int, minus_int, int_of, minus, int_at, flag, bool_at, value_at, value_of, alone, value_text}
 use Rattle.tx_text.specs.Lines.{arg_at, first_and_more, args_within, args_of, call_of, height_and_call, tx_form, tx_of, arg_text, call_text, tx_text}
@@ -62,17 +63,8 @@ int_takes : (bs : List ℕ) → Spelled signed_decimal bs (int_at bs)
 int_takes [] = tt
 int_takes (b ∷ bs) = int_begins b bs (b == minus) refl
 
--- bytes that stand in front
-same_bytes : (xs ys : List ℕ) → bytes_eq xs ys ≡ true → xs ≡ ys
-same_bytes [] [] e = refl
-same_bytes [] (y ∷ ys) e = absurd (false≢true e)
-same_bytes (x ∷ xs) [] e = absurd (false≢true e)
-same_bytes (x ∷ xs) (y ∷ ys) e =
-    let parts = and_parts (x == y) (bytes_eq xs ys) e in
-    ap (λ z. z ∷ xs) (eqb-true x y parts.0) ∙ ap (λ zs. y ∷ zs) (same_bytes xs ys parts.1)
-
 -- what follows some bytes that stand in front
-abbrev Follows : List ℕ → List ℕ → Option (List ℕ) → Type 0
+abbrev pub Follows : List ℕ → List ℕ → Option (List ℕ) → Type 0
 Follows front bytes None = Unit {0}
 Follows front bytes (Some rest) = bytes ≡ front ++ rest
 
@@ -80,7 +72,7 @@ follows_if : (front bytes : List ℕ) (test : Bool) → bytes_eq (take (length f
 follows_if front bytes true e = sym (take-append-drop (length front) bytes) ∙ ap (λ xs. xs ++ drop (length front) bytes) (same_bytes (take (length front) bytes) front e)
 follows_if front bytes false e = tt
 
-after_takes : (front bytes : List ℕ) → Follows front bytes (after front bytes)
+pub after_takes : (front bytes : List ℕ) → Follows front bytes (after front bytes)
 after_takes front bytes = follows_if front bytes (bytes_eq (take (length front) bytes) front) refl
 
 abbrev flag_text : Bool → List ℕ

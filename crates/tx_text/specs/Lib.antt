@@ -1,4 +1,9 @@
 pub mod Fields
 pub mod Values
 pub mod Lines
+pub mod Parts
+pub mod Listing
+pub mod Arrivals
+pub mod Taking
+pub mod Feeding
 pub mod Laws

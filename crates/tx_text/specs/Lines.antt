@@ -1,5 +1,5 @@
 -- Transaction lines.
-use Rattle.std.specs.Prelude.{◌≡◌, ◌<◌, ◌^◌, true, ℕ, zero, suc, List, [], ◌∷◌, ◌++◌, length, cond, nat_le, Option, Some, None, codes, decimal}
+use Rattle.std.specs.Prelude.{◌≡◌, ◌<◌, ◌≤◌, ◌^◌, true, ℕ, zero, suc, List, [], ◌∷◌, ◌++◌, length, cond, nat_le, Option, Some, None, codes, decimal}
 use Rattle.std.specs.List.{flat_map, AllByRecursion}
 use Rattle.std.specs.Option.{option_and_then, option_map}
 use Rattle.rel_base.specs.Text.{has_id_form, has_name_form}
@@ -67,3 +67,8 @@ pub record IsTx (tx : Tx) : Type 0 where
   pub height : tx.height < 2 ^ 64
   pub procedure : has_name_form tx.procedure ≡ true
   pub args : AllByRecursion IsValue tx.args
+
+-- a transaction that has a line
+pub record HasLine (tx : Tx) : Type 0 where
+  pub sound : IsTx tx
+  pub short : length (tx_text tx) ≤ 4096

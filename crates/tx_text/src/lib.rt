@@ -1,13 +1,22 @@
 //! Values and transactions as lines of text, read and written.
 #![tactic(auto)]
 
+pub mod arrival_reader;
+#[cfg(test)]
+mod arrival_tests;
+pub mod arrivals;
 pub mod field;
+pub mod held;
 pub mod laws;
 pub mod line;
+pub mod split;
 #[cfg(test)]
 mod tests;
 pub mod value;
 
+pub use arrival_reader::{ArrivalReader, read_arrivals};
+pub use arrivals::{ArrivalFault, MOST_ARRIVALS};
 pub use line::{MOST_LINE_BYTES, push_tx, read_tx, write_tx};
 pub use literals::LiteralFault as LineFault;
+pub use split::split_line;
 pub use value::{push_value, read_value, write_value};

@@ -31,7 +31,7 @@ fn read_arg(alloc: Global, bytes: &[u8]) -> Result<(Value, &[u8]), LiteralFault>
 
 /// Reads the arguments that the bytes spell, each after a space.
 #[tactic(auto, using(crate::proofs::Args::args_step, crate::proofs::Args::arg_shorter, crate::proofs::Args::args_stop))]
-fn read_args(alloc: Global, bytes: &[u8]) -> Result<List<Value>, LiteralFault>
+pub fn read_args(alloc: Global, bytes: &[u8]) -> Result<List<Value>, LiteralFault>
     ensures { Gives result (args_of bytes.now) }
 {
     let mut args = List::new(alloc);

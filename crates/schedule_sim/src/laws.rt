@@ -1,0 +1,23 @@
+//! What holds of every schedule: each the contract of a function that does nothing.
+
+ghost use Rattle.schedule_sim.specs.Schedules.{LongSchedulesAreBad, SchedulesComeBack, SchedulesHaveActors, SchedulesHaveOneText};
+
+/// A text that is read is that of its steps, each byte of it.
+pub fn schedules_have_one_text()
+    ensures { SchedulesHaveOneText }
+{}
+
+/// Steps are read back from their text.
+pub fn schedules_come_back()
+    ensures { SchedulesComeBack }
+{}
+
+/// The actors of a schedule that is read are 1 to 16.
+pub fn schedules_have_actors()
+    ensures { SchedulesHaveActors }
+{}
+
+/// A text that is longer than the longest schedule has its bad line in the bytes that are too many, or before them.
+pub fn long_schedules_are_bad()
+    ensures { LongSchedulesAreBad }
+{}
