@@ -1,0 +1,6 @@
+pub mod Grammar
+pub mod Versions
+pub mod Answer
+pub mod Asked
+pub mod Chosen
+pub mod Laws
