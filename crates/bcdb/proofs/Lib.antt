@@ -1,6 +1,5 @@
 pub mod Accepting
 pub mod Ends
 pub mod Turns
-pub mod Folded
 pub mod Taken
 pub mod Orders

@@ -23,6 +23,11 @@ at_size : (told : Option Files) (name bytes : List ℕ) (n : ℕ) → length byt
 at_size None name bytes n size front = tt
 at_size (Some files) name bytes n size front = front ∙ ap (λ n. take n (files name)) size
 
+-- what was read so far has no fault, so the file may be read from there on
+pub may_go_on : (told : Option Files) (name : List ℕ) (at : ℕ) (reader : Reader) (blocks : List Block) → IsRead told name at reader blocks → IfSome told (λ files. lasting (chain (take at (files name))).1 ≡ None)
+may_go_on None name at reader blocks read = tt
+may_go_on (Some files) name at reader blocks read = ap (λ bytes. lasting (chain bytes).1) (sym read.front) ∙ read.clear
+
 module _ (told : Option Files) (name buffer : List ℕ) (at count : ℕ) (old : Reader) (before : List Block) (read : IsRead told name at old before) (le : count ≤ length buffer)
     (piece : IfSome told (λ files. IsPiece (files name) at count buffer)) where
   abbrev both : List ℕ
@@ -35,8 +40,8 @@ module _ (told : Option Files) (name buffer : List ℕ) (at count : ℕ) (old : 
   front = front_by told name read.bytes buffer at count read.size le piece read.front
 
   -- the reading goes on behind a piece without a fault
-  pub goes_on : (new : Reader) (blocks : List Block) (fault : Option ChainFault) → TakesPiece both new blocks fault → IsRead told name (at + count) new blocks
-  goes_on new blocks fault takes = record { bytes = both; size = size; follows = takes.follows; blocks_are = takes.blocks_are; front = at_size told name both (at + count) size front }
+  pub goes_on : (new : Reader) (blocks : List Block) (fault : Option ChainFault) → TakesPiece both new blocks fault → fault ≡ None → IsRead told name (at + count) new blocks
+  goes_on new blocks fault takes none = record { bytes = both; size = size; follows = takes.follows; blocks_are = takes.blocks_are; clear = sym takes.fault_is ∙ none; front = at_size told name both (at + count) size front }
 
   -- and has not gone past the longest file
   pub within : FilesAreBounded → (new : Reader) (blocks : List Block) (fault : Option ChainFault) → TakesPiece both new blocks fault → fault ≡ None → at + count ≤ longest_draft

@@ -35,25 +35,9 @@ pub too_long_told : (told : Option Files) (name : List ℕ) → IfSome told (λ 
 too_long_told None name long = tt
 too_long_told (Some files) name long = refused (nat_le (length (files name)) 1048576) (typed (application (tokens_of (files name)))) (not_short 1048576 (length (files name)) long)
 
--- what holds of what a call gives
-pub if_ok_then : {T E : Type 0} (answer : Result T E) (Before After : T → Type 0) → IfOk answer Before → ((value : T) → Before value → After value) → IfOk answer After
-if_ok_then (Ok value) Before After holds follows = follows value holds
-if_ok_then (Err fault) Before After holds follows = tt
-
--- the reply over an accepted application is the reply over its bytes
-pub accepted_told : (look : Look) (told : Option Files) (app_name name bytes : List ℕ) (app : App) (Rose : Type 0) (reply : Reply) → IfSome told (λ files. bytes ≡ files app_name) → accepted bytes ≡ Ok app
-    → IfSome told (λ files. Means (over_app look (Ok app) (files name)) reply ⊎ (Means read_refused reply × Rose))
-    → IfSome told (λ files. Means (over_app look (accepted (files app_name)) (files name)) reply ⊎ (Means read_refused reply × IsOk (accepted (files app_name)) × Rose))
-accepted_told look None app_name name bytes app Rose reply same is means = tt
-accepted_told look (Some files) app_name name bytes app Rose reply same is (inl means) =
-    inl (subst (λ found. Means (over_app look found (files name)) reply) (sym (ap accepted (sym same) ∙ is)) means)
-accepted_told look (Some files) app_name name bytes app Rose reply same is (inr failed) =
-    inr (failed.0, subst (λ found. IsOk found) (sym (ap accepted (sym same) ∙ is)) refl, failed.1)
-
--- and so is the refusal of bytes that are none
-pub refused_told : (look : Look) (told : Option Files) (app_name name bytes : List ℕ) (refusal : Refusal) (Rose : Type 0) (reply : Reply) → IfSome told (λ files. bytes ≡ files app_name) → accepted bytes ≡ Err refusal
-    → Means (says AppRefused (refusal_line refusal)) reply
-    → IfSome told (λ files. Means (over_app look (accepted (files app_name)) (files name)) reply ⊎ (Means read_refused reply × IsOk (accepted (files app_name)) × Rose))
-refused_told look None app_name name bytes refusal Rose reply same is means = tt
-refused_told look (Some files) app_name name bytes refusal Rose reply same is means =
-    inl (subst (λ found. Means (over_app look found (files name)) reply) (sym (ap accepted (sym same) ∙ is)) means)
+-- bytes that are no application are refused
+pub refused_told : (look : Look) (told : Option Files) (app_name name bytes : List ℕ) (refusal : Refusal) (reply : Reply) → IfSome told (λ files. bytes ≡ files app_name) → accepted bytes ≡ Err refusal
+    → Means (says AppRefused (refusal_line refusal)) reply → IfSome told (λ files. Means (over_app look (accepted (files app_name)) (files name)) reply)
+refused_told look None app_name name bytes refusal reply same is means = tt
+refused_told look (Some files) app_name name bytes refusal reply same is means =
+    subst (λ found. Means (over_app look found (files name)) reply) (sym (ap accepted (sym same) ∙ is)) means

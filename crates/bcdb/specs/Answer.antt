@@ -1,5 +1,5 @@
 -- What the program means to answer, over whole files: the report of the fold of the blocks on the application, or the blocks as a chain.
-use Rattle.std.specs.Prelude.{Err, List, None, Ok, Option, Result, Some, [], codes, ◌≡◌, ◌∷◌, ℕ}
+use Rattle.std.specs.Prelude.{Err, List, None, Ok, Option, Result, Some, [], codes, false, ◌≡◌, ◌∷◌, ℕ}
 use Rattle.bcdb.specs.Accepted.{accepted}
 use Rattle.bcdb.specs.Refusals.{refusal_line}
 use Rattle.bcdb.specs.declared.refusal.Refusal.{Refusal}
@@ -37,7 +37,7 @@ status_of (Some fault) = ChainRefused
 
 -- what the flags of a run ask the report to show
 abbrev pub look_of : Flags → Look
-look_of flags = record { orders = flags.orders; digests = flags.digests }
+look_of flags = record { orders = flags.orders; digests = flags.digests; trace = false }
 
 -- the blocks decide last: the report of those before the first fault, and where the file stopped
 abbrev pub over_blocks : Look → App → List Block → Option ChainFault → Answer
@@ -53,9 +53,13 @@ abbrev pub sealed : List Block → Option ChainFault → Answer
 sealed blocks None = says Done (chain_text blocks)
 sealed blocks (Some fault) = says ChainRefused (stopped_line fault)
 
+-- words that are not in the language
+abbrev pub usage_refused : Answer
+usage_refused = says Usage (codes "refused usage\n")
+
 -- the words decide first
 abbrev pub over_settings : Option Settings → Files → Answer
-over_settings None files = says Usage (codes "refused usage\n")
+over_settings None files = usage_refused
 over_settings (Some (Run app blocks flags)) files = over_app (look_of flags) (accepted (files app)) (files blocks)
 over_settings (Some (Seal blocks)) files = sealed (chain (files blocks)).0 (chain (files blocks)).1
 
@@ -66,8 +70,12 @@ answer words files = over_settings (settings_of words) files
 abbrev pub read_refused : Answer
 read_refused = says ReadFault (codes "refused read\n")
 
--- The call ends as it was meant to: with its status and all of its bytes, or short of a write or of memory with a front of them.
+-- What was meant is written: with its status and all of its bytes, or short of a write with a front of them.
+abbrev pub Writes : Answer → Status → Option (List ℕ) → Option (List ℕ) → Type 0
+Writes meant WriteFault before now = WroteFront before now meant.bytes
+Writes meant status before now = (status ≡ meant.status) × (now ≡ appended before meant.bytes)
+
+-- The call ends as it was meant to, or short of memory with a front of the bytes.
 abbrev pub Ends : Answer → Status → Option (List ℕ) → Option (List ℕ) → Type 0
-Ends meant WriteFault before now = WroteFront before now meant.bytes
 Ends meant NoMemory before now = WroteFront before now meant.bytes
-Ends meant status before now = (status ≡ meant.status) × (now ≡ appended before meant.bytes)
+Ends meant status before now = Writes meant status before now

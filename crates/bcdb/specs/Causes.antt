@@ -1,10 +1,13 @@
--- The files that the words name: which may be read, and whether reading one of them failed.
-use Rattle.std.specs.Prelude.{IfSome, List, None, Option, Some, ℕ, ◌⊎◌}
+-- The files that the words name: which of their bytes may be asked for, and whether reading one of them failed.
+use Rattle.std.specs.Prelude.{Err, IfSome, List, None, Ok, Option, Result, Some, take, ℕ, ◌≡◌, ◌⊎◌}
 use Rattle.std.specs.Result.{IsOk}
 use Rattle.bcdb.specs.Accepted.{accepted}
+use Rattle.bcdb.specs.declared.fault.FilesFault.{FilesFault}
+use Rattle.bcdb.specs.declared.fault.FilesFault.TheVariants as fault
+use Rattle.chain_file.specs.Chain.{chain, lasting}
 use Rattle.cli_words.specs.declared.settings.Settings.TheVariants.{Run, Seal}
 use Rattle.cli_words.specs.declared.settings.Settings.{Settings}
-use Rattle.edge_traits.specs.Causes.{Counts, Rose}
+use Rattle.edge_traits.specs.Causes.{AllowsFront, Counts, Leave, Rose}
 use Rattle.edge_traits.specs.Shelf.{Files}
 
 -- a read of one of the named files failed
@@ -20,9 +23,20 @@ RoseInTurn (Some (Run app blocks flags)) files before now =
     Rose (before app) (now app) ⊎ (IsOk (accepted (files app)) × Rose (before blocks) (now blocks))
 RoseInTurn (Some (Seal blocks)) files before now = Rose (before blocks) (now blocks)
 
--- the application that the words name may be read, and the blocks once it is accepted; for a seal the blocks, and no application
-abbrev pub AllowsNamed : Option Settings → Option Files → (List ℕ → Type 0) → Type 0
+-- what is answered tells of a failed read where the counts rose so, and else each count is as it was
+abbrev pub Counted : {T : Type 0} → Result T FilesFault → (rose : Type 0) → Counts → Counts → Type 0
+Counted (Err fault.Failed) rose before now = rose
+Counted (Err fault.NoMemory) rose before now = now ≡ before
+Counted (Ok value) rose before now = now ≡ before
+
+-- a block file may be asked for 65,536 bytes behind each of its fronts that has no fault but that it ends too early
+abbrev pub AllowsBlocks : Option Files → Leave → List ℕ → Type 0
+AllowsBlocks told may_read name = (at : ℕ) → IfSome told (λ files. lasting (chain (take at (files name))).1 ≡ None) → may_read name at 65536
+
+-- the application that the words name may be read as far as it can be accepted and one byte more, and the blocks once it is
+-- accepted; for a seal the blocks, and no application
+abbrev pub AllowsNamed : Option Settings → Option Files → Leave → Type 0
 AllowsNamed None told may_read = Unit {0}
 AllowsNamed (Some (Run app blocks flags)) told may_read =
-    may_read app × (IfSome told (λ files. IsOk (accepted (files app))) → may_read blocks)
-AllowsNamed (Some (Seal blocks)) told may_read = may_read blocks
+    AllowsFront may_read app 1048577 × (IfSome told (λ files. IsOk (accepted (files app))) → AllowsBlocks told may_read blocks)
+AllowsNamed (Some (Seal blocks)) told may_read = AllowsBlocks told may_read blocks

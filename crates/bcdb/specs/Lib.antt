@@ -6,3 +6,5 @@ pub mod Causes
 pub mod Reply
 pub mod Reading
 pub mod InOrder
+pub mod Numbers
+pub mod Collecting

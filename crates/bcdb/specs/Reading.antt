@@ -1,5 +1,5 @@
 -- A block file that is read piece by piece.
-use Rattle.std.specs.Prelude.{◌≡◌, ◌<◌, ◌≤◌, ◌+◌, ℕ, List, Option, Some, IfSome, length, take}
+use Rattle.std.specs.Prelude.{◌≡◌, ◌<◌, ◌≤◌, ◌+◌, ℕ, List, Option, Some, None, IfSome, length, take}
 use Rattle.bcdb.specs.declared.blocks.Step.{Step}
 use Rattle.bcdb.specs.declared.blocks.Step.TheVariants as step
 use Rattle.chain_file.specs.Chain.{chain, lasting}
@@ -17,12 +17,13 @@ pub record TakesPiece (bytes : List ℕ) (reader : Reader) (blocks : List Block)
   pub blocks_are : (chain bytes).0 ≡ blocks
   pub fault_is : fault ≡ lasting (chain bytes).1
 
--- so many bytes of a file were read, which are its front if the shelf tells its files
+-- so many bytes of a file were read, with no fault yet; they are its front if the shelf tells its files
 pub record IsRead (told : Option Files) (name : List ℕ) (count : ℕ) (reader : Reader) (blocks : List Block) : Type 0 where
   pub bytes : List ℕ
   pub size : length bytes ≡ count
   pub follows : Follows reader bytes
   pub blocks_are : (chain bytes).0 ≡ blocks
+  pub clear : lasting (chain bytes).1 ≡ None
   pub front : IfSome told (λ files. bytes ≡ take count (files name))
 
 -- the whole file was read

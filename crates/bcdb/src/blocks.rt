@@ -1,50 +1,21 @@
 //! The block file, read piece by piece to its end or to its first fault.
 
-ghost use Rattle.std.specs.Prelude.{◌≡◌, ◌≤◌, ◌<◌, ◌++◌, List, ℕ, IfOk, IfSome, IsErrOf, Option, length};
+ghost use Rattle.std.specs.Prelude.{◌≡◌, ◌≤◌, ◌<◌, ◌++◌, List, ℕ, IfOk, IfSome, Option, length};
+ghost use Rattle.bcdb.specs.Causes.{AllowsBlocks, Counted};
 ghost use Rattle.bcdb.specs.Reading.{Goes, IsRead, TakesPiece};
 ghost use Rattle.chain_file.specs.Chain.{chain};
 ghost use Rattle.chain_file.specs.Files.{FaultsLast, FilesAreBounded, FilesAreNumbered};
 ghost use Rattle.chain_file.specs.Following.{EndsAs, Follows};
 ghost use Rattle.chain_file.specs.Numbered.{NumberedFrom};
-ghost use Rattle.edge_traits.specs.Causes.{Keeps, NoneFell, Rose};
+ghost use Rattle.edge_traits.specs.Causes.{Keeps, Rose};
 
+use crate::fault::FilesFault;
 use chain_file::laws::{faults_last, files_are_bounded, files_are_numbered};
 use chain_file::{Fed, Reader};
 use edge_traits::Shelf;
 use proc_syntax::{Block, ChainFault};
 use rel_base::{List, NoMemory};
 use std::alloc::{AllocError, Global};
-
-/// Why there are no blocks.
-#[derive(Clone, Copy, Debug, PartialEq, Eq)]
-pub enum BlocksFault {
-    /// Memory ran out.
-    NoMemory,
-    /// A read failed.
-    Failed,
-}
-
-impl From<NoMemory> for BlocksFault {
-    ghost use Rattle.std.specs.Prelude.{◌≡◌};
-    ghost use Rattle.bcdb.specs.declared.blocks.BlocksFault.TheVariants as fault;
-
-    ghost from_gives = { λ _ e. e ≡ fault.NoMemory };
-
-    fn from(_error: NoMemory) -> BlocksFault {
-        BlocksFault::NoMemory
-    }
-}
-
-impl From<AllocError> for BlocksFault {
-    ghost use Rattle.std.specs.Prelude.{◌≡◌};
-    ghost use Rattle.bcdb.specs.declared.blocks.BlocksFault.TheVariants as fault;
-
-    ghost from_gives = { λ _ e. e ≡ fault.NoMemory };
-
-    fn from(_error: AllocError) -> BlocksFault {
-        BlocksFault::NoMemory
-    }
-}
 
 // How many bytes are asked for at once.
 const PIECE: usize = 65536;
@@ -95,7 +66,7 @@ pub enum Step {
 }
 
 // Reads one more piece of a file, of which so many bytes were read.
-#[tactic(auto, using(crate::proofs::Taken::goes_on, crate::proofs::Taken::within, crate::proofs::Taken::stops, crate::proofs::Taken::ends, crate::proofs::Taken::numbered))]
+#[tactic(auto, using(crate::proofs::Taken::goes_on, crate::proofs::Taken::within, crate::proofs::Taken::stops, crate::proofs::Taken::ends, crate::proofs::Taken::numbered, crate::proofs::Taken::may_go_on))]
 fn read_piece<S: Shelf>(
     shelf: &mut S,
     name: &str,
@@ -103,9 +74,9 @@ fn read_piece<S: Shelf>(
     buffer: &mut [u8],
     reader: &mut Reader,
     blocks: &mut List<Block>,
-) -> Result<Step, BlocksFault>
-    requires allowed { S.may_read shelf.old name.now }
-    requires room { 0 < length buffer.old }
+) -> Result<Step, FilesFault>
+    requires allowed { AllowsBlocks (S.told shelf.old) (S.may_read shelf.old) name.now }
+    requires room { length buffer.old ≡ 65536 }
     requires bounded { FilesAreBounded }
     requires numbered { FilesAreNumbered }
     requires lasting { FaultsLast }
@@ -113,11 +84,10 @@ fn read_piece<S: Shelf>(
     ensures goes { IfOk result (λ step. Goes step (S.told shelf.old) name.now at reader.new blocks.new) }
     ensures told { S.told shelf.new ≡ S.told shelf.old }
     ensures allowed { Keeps (S.may_read shelf.old) (S.may_read shelf.new) }
-    ensures later { NoneFell (S.faults shelf.old) (S.faults shelf.new) }
-    ensures failed { IsErrOf result BlocksFault.Failed → Rose (S.faults shelf.old name.now) (S.faults shelf.new name.now) }
+    ensures counted { Counted result (Rose (S.faults shelf.old name.now) (S.faults shelf.new name.now)) (S.faults shelf.old) (S.faults shelf.new) }
 {
     let Ok(count) = shelf.read_at(name, at, buffer) else {
-        return Err(BlocksFault::Failed);
+        return Err(FilesFault::Failed);
     };
     if count == 0 {
         return Ok(Step::End);
@@ -134,13 +104,12 @@ fn read_through<S: Shelf>(
     shelf: &mut S,
     name: &str,
     buffer: &mut [u8],
-) -> Result<Fed, BlocksFault>
-    requires allowed { S.may_read shelf.old name.now }
-    requires room { 0 < length buffer.old }
-    ensures later { NoneFell (S.faults shelf.old) (S.faults shelf.new) }
+) -> Result<Fed, FilesFault>
+    requires allowed { AllowsBlocks (S.told shelf.old) (S.may_read shelf.old) name.now }
+    requires room { length buffer.old ≡ 65536 }
     ensures told { IfOk result (λ read. IfSome (S.told shelf.old) (λ files. chain (files name.now) ≡ (read.blocks, read.fault))) }
     ensures numbered { IfOk result (λ read. NumberedFrom 1 read.blocks) }
-    ensures failed { IsErrOf result BlocksFault.Failed → Rose (S.faults shelf.old name.now) (S.faults shelf.new name.now) }
+    ensures counted { Counted result (Rose (S.faults shelf.old name.now) (S.faults shelf.new name.now)) (S.faults shelf.old) (S.faults shelf.new) }
 {
     files_are_bounded();
     files_are_numbered();
@@ -165,13 +134,15 @@ fn read_through<S: Shelf>(
     }
 }
 
-/// The blocks of a file up to its first fault, and that fault. The file is read no further.
-pub fn read_blocks<S: Shelf>(alloc: Global, shelf: &mut S, name: &str) -> Result<Fed, BlocksFault>
-    requires allowed { S.may_read shelf.old name.now }
-    ensures later { NoneFell (S.faults shelf.old) (S.faults shelf.new) }
+/// The blocks of a file up to its first fault, and that fault.
+///
+/// Each call to the shelf asks for 65,536 bytes, and none is made once the fault is met: a file is asked for no byte behind the
+/// piece that has its fault. A read that fails is not tried again.
+pub fn read_blocks<S: Shelf>(alloc: Global, shelf: &mut S, name: &str) -> Result<Fed, FilesFault>
+    requires allowed { AllowsBlocks (S.told shelf.old) (S.may_read shelf.old) name.now }
     ensures told { IfOk result (λ read. IfSome (S.told shelf.old) (λ files. chain (files name.now) ≡ (read.blocks, read.fault))) }
     ensures numbered { IfOk result (λ read. NumberedFrom 1 read.blocks) }
-    ensures failed { IsErrOf result BlocksFault.Failed → Rose (S.faults shelf.old name.now) (S.faults shelf.new name.now) }
+    ensures counted { Counted result (Rose (S.faults shelf.old name.now) (S.faults shelf.new name.now)) (S.faults shelf.old) (S.faults shelf.new) }
 {
     let mut buffer = make_buffer(alloc)?;
     read_through(alloc, shelf, name, &mut buffer)

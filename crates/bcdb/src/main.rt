@@ -4,6 +4,7 @@
 
 pub mod blocks;
 pub mod decide;
+pub mod fault;
 pub mod files;
 pub mod refusal;
 pub mod run;
@@ -11,34 +12,33 @@ pub mod status;
 #[cfg(test)]
 mod tests;
 pub mod top;
+pub mod words;
 
 use edge_traits::{DirShelf, StdSink};
-use status::Status;
+use status::{Status, exit_code};
+use std::alloc::AllocError;
 use std::process::ExitCode;
-use std::{env, io};
+use top::{bcdb, refuse_words};
+use words::collect_words;
 
-fn answer_words(rt: &HostRuntime) -> io::Result<Status> {
-    let texts: Vec<String> = env::args(rt)?.skip(1).collect(rt.alloc())?;
+// Answers the words over real files and standard output.
+fn answer_words(rt: &HostRuntime, texts: &[String]) -> Result<Status, AllocError> {
     let mut words = Vec::new(rt.alloc());
-    for text in &texts {
+    for text in texts {
         words.push(text.as_str())?;
     }
     let mut shelf = DirShelf::new(rt.alloc(), rt);
     let mut out = StdSink::new(rt);
-    Ok(top::bcdb(rt.alloc(), &words, &mut shelf, &mut out))
+    Ok(bcdb(rt.alloc(), &words, &mut shelf, &mut out))
 }
 
-// Words that are no texts are in no language.
-fn answer_no_words(rt: &HostRuntime) -> Status {
-    let mut shelf = DirShelf::new(rt.alloc(), rt);
-    let mut out = StdSink::new(rt);
-    top::bcdb(rt.alloc(), &[], &mut shelf, &mut out)
+fn end(rt: &HostRuntime) -> Status {
+    match collect_words(rt) {
+        Ok(texts) => answer_words(rt, &texts).unwrap_or(Status::NoMemory),
+        Err(fault) => refuse_words(&mut StdSink::new(rt), fault),
+    }
 }
 
 fn main(rt: HostRuntime) -> ExitCode {
-    let status = match answer_words(&rt) {
-        Ok(status) => status,
-        Err(_) => answer_no_words(&rt),
-    };
-    ExitCode::from(status as u8)
+    exit_code(end(&rt))
 }

@@ -2,7 +2,7 @@
 
 ghost use Rattle.std.specs.Prelude.{◌≡◌, IfOk, [], true};
 ghost use Rattle.bcdb.specs.Answer.{over_blocks, sealed, status_of};
-ghost use Rattle.bcdb.specs.Reply.{Means, is_of_files};
+ghost use Rattle.bcdb.specs.Reply.{Means, is_answer};
 ghost use Rattle.chain_file.specs.Numbered.{NumberedFrom};
 ghost use Rattle.node_model.specs.Fold.{node_result};
 
@@ -66,8 +66,7 @@ fn status_of(fault: Option<ChainFault>) -> Status
 pub fn answer_blocks(alloc: Global, look: Look, app: Checked, read: &Fed) -> Result<Reply, NoMemory>
     requires { NumberedFrom 1 read.now.blocks }
     ensures means { IfOk result (λ reply. Means (over_blocks look app.app read.now.blocks read.now.fault) reply) }
-    ensures kind { IfOk result (λ reply. is_of_files reply.status ≡ true) }
-    ensures read { IfOk result (λ reply. reply.status ≡ Status.ReadFault → ⊥) }
+    ensures kind { IfOk result (λ reply. is_answer reply.status ≡ true) }
 {
     let app = Arc::new(alloc, app)?;
     let bytes = report_blocks(alloc, &look, &app, read)?;
@@ -80,8 +79,7 @@ pub fn answer_blocks(alloc: Global, look: Look, app: Checked, read: &Fed) -> Res
 /// The reply to a seal: the chain file of the blocks of a file without a fault, and else where the file stopped.
 pub fn answer_seal(alloc: Global, read: &Fed) -> Result<Reply, NoMemory>
     ensures means { IfOk result (λ reply. Means (sealed read.now.blocks read.now.fault) reply) }
-    ensures kind { IfOk result (λ reply. is_of_files reply.status ≡ true) }
-    ensures read { IfOk result (λ reply. reply.status ≡ Status.ReadFault → ⊥) }
+    ensures kind { IfOk result (λ reply. is_answer reply.status ≡ true) }
 {
     let bytes = match &read.fault {
         None => seal(alloc, &read.blocks)?,

@@ -1,5 +1,11 @@
 //! How the program ends.
 
+ghost use Rattle.std.specs.Prelude.{◌≡◌};
+ghost use Rattle.std.specs.Process.{exit_status};
+ghost use Rattle.bcdb.specs.Numbers.{number_of};
+
+use std::process::ExitCode;
+
 /// The status with which the program ends.
 #[derive(Clone, Copy, Debug, PartialEq, Eq)]
 pub enum Status {
@@ -17,4 +23,11 @@ pub enum Status {
     WriteFault = 7,
     /// Memory ran out.
     NoMemory = 8,
+}
+
+/// What the process ends with: the number of the status.
+pub fn exit_code(status: Status) -> ExitCode
+    ensures { exit_status result ≡ number_of status }
+{
+    ExitCode::from(status as u8)
 }

@@ -70,6 +70,22 @@ fn a_full_sink(rt: HostRuntime) -> Result<(), Fail> {
     Ok(())
 }
 
+// Calls 1 and 2 read the application, and call 3 the piece with the fault. The later ones would fail.
+#[test]
+fn no_read_behind_the_fault(rt: HostRuntime) -> Result<(), Fail> {
+    let alloc = rt.alloc();
+    let mut blocks = vec![in alloc; b'x'; 2_097_165]?;
+    blocks[..13].copy_from_slice(b"draft 1\nnope\n");
+    let fails: Vec<u64> = (4..=40).collect(alloc)?;
+    let mut files = shelf(alloc, &blocks, &fails)?;
+    let mut out = sink(alloc, 100, &[])?;
+    let status = bcdb(alloc, &WORDS, &mut files, &mut out);
+    assert_eq!(rt; status, Status::ChainRefused);
+    let want = b"node 1\ntable acct\nheight 0\nstopped 2 BadLine\n";
+    assert!(rt; out.bytes() == want.as_slice());
+    Ok(())
+}
+
 #[test]
 fn refusals(rt: HostRuntime) -> Result<(), Fail> {
     let alloc = rt.alloc();

@@ -14,7 +14,7 @@ returns-in-None-clause-goes g c =
     (c.take_piece.ensures read.bytes read.follows read.blocks_are) in (
       some,
       within told c.args.name.now c.read_at.new.buf c.args.at c.in-Ok.count c.args.reader.now c.args.blocks.now read c.in-Ok.ensures.bound c.in-Ok.ensures.bytes c.requires.bounded _ _ _ takes c.in-None.is,
-      goes_on told c.args.name.now c.read_at.new.buf c.args.at c.in-Ok.count c.args.reader.now c.args.blocks.now read c.in-Ok.ensures.bound c.in-Ok.ensures.bytes _ _ _ takes,
+      goes_on told c.args.name.now c.read_at.new.buf c.args.at c.in-Ok.count c.args.reader.now c.args.blocks.now read c.in-Ok.ensures.bound c.in-Ok.ensures.bytes _ _ _ takes c.in-None.is,
     )
 
 pub returns-in-Some-clause-goes : goal.returns-in-Some-clause-goes

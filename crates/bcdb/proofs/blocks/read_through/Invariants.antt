@@ -1,16 +1,16 @@
-use Rattle.std.proofs.Common.{length, ◌-◌, ◌<◌, ◌≡◌, ◌≤◌}
+use Rattle.std.proofs.Common.{length, ◌-◌, ◌≡◌, ◌≤◌}
+use Rattle.bcdb.specs.Causes.{AllowsBlocks}
 use Rattle.bcdb.specs.Reading.{IsRead}
 use Rattle.chain_file.specs.Text.{longest_draft}
-use Rattle.edge_traits.specs.Causes.{NoneFell, Keeps}
 use Rattle.bcdb.proofs.blocks.read_through.Given as goal
 
--- so many bytes of the file were read, and the shelf stands as at first
+-- so many bytes of the file were read, no read has failed, and the shelf stands as at first
 abbrev pub invariant-loop-blocks : goal.invariant-loop-blocks
 invariant-loop-blocks g l = (l.at ≤ longest_draft)
-    × (0 < length l.buffer)
+    × (length l.buffer ≡ 65536)
     × (g.S.Shelf.told l.shelf ≡ g.S.Shelf.told l.fn.shelf)
-    × Keeps (g.S.Shelf.may_read l.fn.shelf) (g.S.Shelf.may_read l.shelf)
-    × NoneFell (g.S.Shelf.faults l.fn.shelf) (g.S.Shelf.faults l.shelf)
+    × AllowsBlocks (g.S.Shelf.told l.shelf) (g.S.Shelf.may_read l.shelf) l.name
+    × (g.S.Shelf.faults l.shelf ≡ g.S.Shelf.faults l.fn.shelf)
     × IsRead (g.S.Shelf.told l.fn.shelf) l.name l.at l.reader l.blocks
 
 abbrev pub decreases-loop-blocks : goal.decreases-loop-blocks
