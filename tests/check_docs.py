@@ -1,0 +1,238 @@
+#!/usr/bin/env python3
+"""Checks that the pages say what is there. It needs no built program and takes about a second.
+
+Examples: in README.md, docs/GUIDE.md and docs/ABORTS.md each fenced example has a comment before it for each file of tests/cases that it
+is, `<!-- case: NAME FILE -->`, or `<!-- case: NAME FILE 5-9 -->` for some lines of one, and is those bytes. Where FILE is `words`, the
+example is the command line, `bcdb` and the words. A fence of the language `sh` without a comment is a command and no example.
+Outcomes: each row of the table of docs/ABORTS.md has the report's words, a case whose report has them, and a definition, a function and
+a clause that stand in the files to which they are linked.
+Crates: crates.txt has each crate under the comment of its level, docs/DESIGN.md has a row for each crate in the order of levels,
+docs/PROVED.md has one too, and docs/crates.svg is what docs/draw_crates.py draws.
+Names: each name in code in a row of docs/PROVED.md stands in that row's crate, and in the argument of that page in some crate; each definition of
+docs/DEFINITIONS.md stands in the crates that its heading or its file names.
+Links: each file that a page links to is there.
+Usage: tests/check_docs.py
+"""
+import difflib
+import functools
+import os
+import re
+import sys
+
+ROOT = os.path.dirname(os.path.dirname(os.path.abspath(__file__)))
+CASES = os.path.join(ROOT, "tests", "cases")
+sys.dont_write_bytecode = True
+sys.path.insert(0, os.path.join(ROOT, "docs"))
+
+import draw_crates
+
+WITH_EXAMPLES = ["README.md", "docs/GUIDE.md", "docs/ABORTS.md"]
+FENCE = "`" * 3
+NAMED = re.compile(r"<!-- case: (\S+) (\S+)(?: (\d+)-(\d+))? -->")
+
+
+class Tally:
+    def __init__(self):
+        self.passed = 0
+        self.failed = 0
+
+    def note(self, is_right, what):
+        if is_right:
+            self.passed += 1
+        else:
+            self.failed += 1
+            print(what)
+
+
+def read(name):
+    with open(os.path.join(ROOT, name), encoding="utf-8") as file:
+        return file.read()
+
+
+def examples_of(page):
+    """The line of each fence of a page, its language, the cases that are named before it and its text."""
+    lines = read(page).split("\n")
+    named, start = [], None
+    for number, line in enumerate(lines, 1):
+        if start is not None:
+            if line == FENCE:
+                yield start, lines[start - 1][len(FENCE) :], named, "".join(text + "\n" for text in lines[start : number - 1])
+                named, start = [], None
+        elif line.startswith(FENCE):
+            start = number
+        elif NAMED.fullmatch(line):
+            named.append(NAMED.fullmatch(line).groups())
+        elif line.strip():
+            named = []
+
+
+def text_of_case(name, file, first, last):
+    """The bytes of a file of a case, or the lines of it from the first to the last, or the command line of its words."""
+    path = os.path.join(CASES, name, file)
+    if not os.path.isfile(path):
+        return f"(no file {name}/{file} in tests/cases)"
+    text = read(path)
+    if file == "words":
+        return "bcdb " + " ".join(text.split("\n")[:-1]) + "\n"
+    if first is None:
+        return text
+    return "".join(line + "\n" for line in text.split("\n")[int(first) - 1 : int(last)])
+
+
+def difference(text, wanted):
+    lines = difflib.unified_diff(text.split("\n"), wanted.split("\n"), "the page", "the case", lineterm="", n=1)
+    return "\n".join(list(lines)[:20])
+
+
+def check_examples(tally):
+    for page in WITH_EXAMPLES:
+        for line, language, named, text in examples_of(page):
+            if not named:
+                tally.note(language == "sh", f"{page}:{line}: this example names no case")
+            for name, file, first, last in named:
+                wanted = text_of_case(name, file, first, last)
+                tally.note(text == wanted, f"{page}:{line}: the example is not {name}/{file}:\n{difference(text, wanted)}")
+
+
+def section_of(page, heading):
+    return read(page).partition(f"\n{heading}\n")[2].split("\n## ")[0]
+
+
+def rows_of(page, heading):
+    """The cells of each row of the tables below a heading."""
+    rows = [line for line in section_of(page, heading).split("\n") if line.startswith("|")]
+    return [[cell.strip() for cell in re.split(r"(?<!\\)\|", row)[1:-1]] for row in rows[2:]]
+
+
+def linked(cell):
+    """The name and the path of each link of a cell whose text is code."""
+    return [(name, os.path.normpath(os.path.join("docs", path))) for name, path in re.findall(r"\[`([^`]+)`\]\(([^)#]+)\)", cell)]
+
+
+def has_words(words, report):
+    """Whether a report has a line with these words, where each word in capitals stands for what a run fills in."""
+    parts = [r".+" if word in ("KEY", '"TEXT"') else r"\S+" if word.isupper() else re.escape(word) for word in words.split(" ")]
+    return re.search("^tx .* " + " ".join(parts) + "$", report, re.MULTILINE) is not None
+
+
+def stands_in(path, *patterns):
+    if not os.path.isfile(os.path.join(ROOT, path)):
+        return False
+    text = read(path)
+    return all(re.search(pattern, text, re.MULTILINE) for pattern in patterns)
+
+
+def clause_stands(path, function, clause):
+    """Whether a clause stands between the head of a function and its body; a clause without a name is written `ensures`."""
+    text = read(path) if os.path.isfile(os.path.join(ROOT, path)) else ""
+    head = re.search(rf"\bfn {function}\b.*?\n\s*{{\n", text, re.DOTALL)
+    wanted = r"ensures \{" if clause == "ensures" else rf"ensures {clause} \{{"
+    return head is not None and re.search(wanted, head.group()) is not None
+
+
+def check_outcomes(tally):
+    rows = rows_of("docs/ABORTS.md", "## The outcomes")
+    tally.note(len(rows) > 0, "docs/ABORTS.md: no table of outcomes")
+    for words, _, example, definition, function, clause in rows:
+        words = words.strip("`")
+        for name, path in linked(example):
+            report = os.path.join(path, "stdout")
+            tally.note(stands_in(report) and has_words(words, read(report)), f"docs/ABORTS.md: {name} has no `{words}`")
+        for name, path in linked(definition):
+            tally.note(stands_in(path, rf"^\s*abbrev pub {name} :"), f"docs/ABORTS.md: no {name} in {path}")
+        for name, path in linked(function):
+            is_there = clause_stands(path, name, clause.strip("`"))
+            tally.note(is_there, f"docs/ABORTS.md: no {name} in {path} with the clause {clause}")
+        full = linked(example) and linked(definition) and linked(function)
+        tally.note(full, f"docs/ABORTS.md: `{words}` has no example, definition or function")
+
+
+def levels_by_comment():
+    """The level of each crate by the comment that it stands under in crates.txt."""
+    level, levels = 0, {}
+    for line in read("crates.txt").split("\n"):
+        if line.startswith("# level "):
+            level = int(line.split()[2].strip(":,."))
+        elif ":" in line and not line.startswith("#"):
+            levels[line.split(":")[0].split()[0]] = level
+    return levels
+
+
+def check_crates(tally):
+    crates = draw_crates.read_crates()
+    levels = draw_crates.levels_of(crates)
+    commented = levels_by_comment()
+    for name in crates:
+        tally.note(commented[name] == levels[name], f"crates.txt: {name} is of level {levels[name]}, and stands under level {commented[name]}")
+    rows = [(name.strip("`"), int(level)) for level, name, *_ in rows_of("docs/DESIGN.md", "## The crates and their layers")]
+    listed = dict(rows)
+    for name in crates:
+        tally.note(listed.get(name) == levels[name], f"docs/DESIGN.md: {name} is of level {levels[name]}, and its row has {listed.get(name)}")
+    in_order = all(before <= after for (_, before), (_, after) in zip(rows, rows[1:]))
+    tally.note(in_order and len(rows) == len(crates), "docs/DESIGN.md: the table of crates is not in the order of levels, or has other rows")
+    proved = re.findall(r"`(\w+)`", " ".join(row[0] for row in rows_of("docs/PROVED.md", "## Crate by crate")))
+    for name in crates:
+        tally.note(name in proved, f"docs/PROVED.md: no row for {name}")
+    for name in proved:
+        tally.note(name in crates, f"docs/PROVED.md: a row for {name}, which is no crate")
+    tally.note(read("docs/crates.svg") == draw_crates.picture(crates), "docs/crates.svg is not what docs/draw_crates.py draws")
+
+
+@functools.lru_cache(None)
+def words_of(crate):
+    """All words of the files of a crate, and the names of these files."""
+    found = set()
+    for folder, inner, files in os.walk(os.path.join(ROOT, "crates", crate)):
+        inner[:] = [name for name in inner if name != "out"]
+        for file in files:
+            found.update(re.findall(r"\w+", file + " " + read(os.path.join(folder, file))))
+    return found
+
+
+def check_names(tally):
+    crates = set(draw_crates.read_crates())
+    for cells in rows_of("docs/PROVED.md", "## Crate by crate"):
+        known = crates.union(*(words_of(crate) for crate in re.findall(r"`(\w+)`", cells[0])))
+        for name in re.findall(r"`([^`]+)`", " ".join(cells[1:])):
+            is_there = os.path.exists(os.path.join(ROOT, name)) or known.issuperset(re.findall(r"\w+", name))
+            tally.note(is_there, f"docs/PROVED.md: {name} does not stand in {cells[0]}")
+    known = crates.union(*(words_of(crate) for crate in crates))
+    for name in re.findall(r"`([^`]+)`", section_of("docs/PROVED.md", "## How the claim reaches real files")):
+        tally.note(known.issuperset(re.findall(r"\w+", name)), f"docs/PROVED.md: {name} stands in no crate")
+    for section in read("docs/DEFINITIONS.md").split("\n## ")[1:]:
+        heading = section.split("\n")[0]
+        for line in section.split("\n"):
+            cells = line.split("|")
+            if len(cells) == 5 and "`" in line:
+                homes = crates.intersection(re.findall(r"\w+", heading + " " + cells[3]))
+                known = set().union(*(words_of(crate) for crate in homes))
+                for name in re.findall(r"`(\w+)`", cells[2]):
+                    tally.note(name in known, f"docs/DEFINITIONS.md: {name} does not stand in {', '.join(sorted(homes))}")
+
+
+def pages():
+    folders = [folder for folder in ("docs", "bench", "tests") if os.path.isdir(os.path.join(ROOT, folder))]
+    return ["README.md"] + [f"{folder}/{name}" for folder in folders for name in sorted(os.listdir(os.path.join(ROOT, folder))) if name.endswith(".md")]
+
+
+def check_links(tally):
+    for page in pages():
+        for target in re.findall(r"\]\(([^)#\s]+)(?:#[^)]*)?\)", read(page)):
+            if "://" not in target:
+                path = os.path.normpath(os.path.join(os.path.dirname(page), target))
+                tally.note(os.path.exists(os.path.join(ROOT, path)), f"{page}: a link to {target}, which is not there")
+
+
+def main():
+    tally = Tally()
+    check_examples(tally)
+    check_outcomes(tally)
+    check_crates(tally)
+    check_names(tally)
+    check_links(tally)
+    print(f"{tally.passed} passed, {tally.failed} failed")
+    sys.exit(1 if tally.failed or not tally.passed else 0)
+
+
+if __name__ == "__main__":
+    main()
