@@ -7,8 +7,6 @@ pub mod digest;
 pub mod laws;
 pub mod read_block;
 pub mod read_outcome;
-#[cfg(test)]
-mod tests;
 pub mod write_block;
 pub mod write_outcome;
 

@@ -1,4 +1,4 @@
-use super::{Reader, read_draft, seal};
+use super::Reader;
 use proc_syntax::{Block, ChainFault, ChainKind};
 use rel_base::List;
 use std::alloc::Global;
@@ -67,15 +67,6 @@ fn gives(
         }
     }
     Ok(read_whole(alloc, bytes)? == (blocks, fault))
-}
-
-#[test]
-fn seals_three_blocks(rt: HostRuntime) -> Result<(), Fail> {
-    let alloc = rt.alloc();
-    let text = seal(alloc, &read_draft(alloc, DRAFT)?)?;
-    let chain = joined(alloc, &[FIRST, SECOND, THIRD])?;
-    assert!(rt; text.as_slice() == chain.as_slice());
-    Ok(())
 }
 
 #[test]

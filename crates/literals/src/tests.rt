@@ -1,6 +1,4 @@
-use super::{
-    LiteralFault, push_bytes, push_int, push_number, push_text, read_bytes, read_number, read_text,
-};
+use super::{LiteralFault, push_bytes, push_int, push_number, push_text, read_text};
 use std::alloc::Global;
 use std::test::Fail;
 
@@ -9,16 +7,6 @@ fn letters(alloc: Global, count: usize) -> Result<Vec<u8>, Fail> {
     let mut bytes = Vec::from_slice(alloc, b"\"")?;
     for _ in 0..count {
         bytes.push(b'a')?;
-    }
-    bytes.push(b'"')?;
-    Ok(bytes)
-}
-
-/// So many zero bytes in hexadecimal.
-fn zeros(alloc: Global, count: usize) -> Result<Vec<u8>, Fail> {
-    let mut bytes = Vec::from_slice(alloc, b"x\"")?;
-    for _ in 0..count {
-        bytes.extend_from_slice(b"00")?;
     }
     bytes.push(b'"')?;
     Ok(bytes)
@@ -43,55 +31,6 @@ fn texts(rt: HostRuntime) -> Result<(), Fail> {
             Err(LiteralFault::Bad)
         )
     );
-    Ok(())
-}
-
-#[test]
-fn wrong_texts(rt: HostRuntime) -> Result<(), Fail> {
-    let alloc = rt.alloc();
-    assert!(rt; matches!(read_text(alloc, b""), Err(LiteralFault::Bad)));
-    assert!(rt; matches!(read_text(alloc, b"a\"b\""), Err(LiteralFault::Bad)));
-    assert!(rt; matches!(read_text(alloc, b"\"a"), Err(LiteralFault::Bad)));
-    assert!(rt; matches!(read_text(alloc, b"\"a\\\""), Err(LiteralFault::Bad)));
-    assert!(rt; matches!(read_text(alloc, b"\"\\n\""), Err(LiteralFault::Bad)));
-    assert!(rt; matches!(read_text(alloc, b"\"a\nb\""), Err(LiteralFault::Bad)));
-    assert!(rt; matches!(read_text(alloc, b"\"\xff\""), Err(LiteralFault::Bad)));
-    Ok(())
-}
-
-#[test]
-fn byte_strings(rt: HostRuntime) -> Result<(), Fail> {
-    let alloc = rt.alloc();
-    let (blob, rest) = read_bytes(alloc, b"x\"0aff\"x")?;
-    assert_eq!(rt; blob.as_slice(), b"\x0a\xff".as_slice());
-    assert_eq!(rt; rest, b"x".as_slice());
-    assert!(rt; read_bytes(alloc, b"x\"\"")?.0.as_slice().is_empty());
-    assert_eq!(rt;
-        read_bytes(alloc, &zeros(alloc, 255)?)?.0.as_slice().len(),
-        255
-    );
-    assert!(rt;
-        matches!(
-            read_bytes(alloc, &zeros(alloc, 256)?),
-            Err(LiteralFault::Bad)
-        )
-    );
-    assert!(rt; matches!(read_bytes(alloc, b"x\"0\""), Err(LiteralFault::Bad)));
-    assert!(rt; matches!(read_bytes(alloc, b"x\"0A\""), Err(LiteralFault::Bad)));
-    assert!(rt; matches!(read_bytes(alloc, b"x\"0a"), Err(LiteralFault::Bad)));
-    assert!(rt; matches!(read_bytes(alloc, b"x"), Err(LiteralFault::Bad)));
-    Ok(())
-}
-
-#[test]
-fn numbers(rt: HostRuntime) -> Result<(), Fail> {
-    assert!(rt; matches!(read_number(b"0"), Some((0, []))));
-    assert!(rt; matches!(read_number(b"10 x"), Some((10, [b' ', b'x']))));
-    assert!(rt; matches!(read_number(b"18446744073709551615"), Some((u64::MAX, []))));
-    assert!(rt; read_number(b"18446744073709551616").is_none());
-    assert!(rt; read_number(b"07").is_none());
-    assert!(rt; read_number(b"").is_none());
-    assert!(rt; read_number(b"-1").is_none());
     Ok(())
 }
 

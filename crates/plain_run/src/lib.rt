@@ -9,8 +9,6 @@ pub mod plain;
 pub mod row_tables;
 pub mod run;
 pub mod snapshot;
-#[cfg(test)]
-mod tests;
 
 pub use call::run_call;
 pub use row_tables::RowTables;

@@ -7,8 +7,6 @@ pub mod laws;
 pub mod numbering;
 pub mod places;
 pub mod resolving;
-#[cfg(test)]
-mod tests;
 pub mod tree;
 pub mod values;
 

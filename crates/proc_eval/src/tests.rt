@@ -1,10 +1,9 @@
 //! Operators at numbers that were worked by hand.
 
-use crate::arith::{join, negation, product, quotient, remainder, sum};
+use crate::arith::{negation, product, quotient, remainder, sum};
 use crate::halt::Halt;
 use proc_syntax::{Fault, Stop};
-use rel_base::{Str, Value};
-use std::alloc::Global;
+use rel_base::Value;
 use std::test::Fail;
 
 fn is_int(found: &Result<Value, Halt>, wanted: i64) -> bool {
@@ -55,23 +54,5 @@ fn the_least_number_has_no_opposite(rt: HostRuntime) -> Result<(), Fail> {
     assert!(rt; is_overflow(&product(&least, &minus_one)));
     assert!(rt; is_overflow(&negation(&least)));
     assert!(rt; is_int(&sum(&least, &Value::Int(1)), -9223372036854775807));
-    Ok(())
-}
-
-fn text(alloc: Global, value: &str) -> Result<Value, Fail> {
-    Ok(Value::Text(Str::new(alloc, value)?))
-}
-
-#[test]
-fn texts_are_joined(rt: HostRuntime) -> Result<(), Fail> {
-    let alloc = rt.alloc();
-    let joined = join(alloc, &text(alloc, "an")?, &text(alloc, "n")?);
-    assert!(rt; matches!(&joined, Ok(Value::Text(found)) if found.as_str() == "ann"));
-    assert!(rt;
-        matches!(
-            join(alloc, &text(alloc, "a")?, &Value::Int(1)),
-            Err(Halt::Stop(Stop::IllTyped))
-        )
-    );
     Ok(())
 }

@@ -10,8 +10,6 @@ pub mod resume;
 pub mod source;
 pub mod start;
 pub mod state;
-#[cfg(test)]
-mod tests;
 pub mod turn;
 
 pub use drive::run_on;

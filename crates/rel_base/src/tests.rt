@@ -2,14 +2,10 @@ ghost use Rattle.std.specs.Prelude.{◌≡◌, [], ◌∷◌, IfOk, map};
 ghost use Rattle.rel_base.specs.Value.{kind_of};
 ghost use Rattle.rel_base.specs.declared.value.Kind.TheVariants as kind;
 
-use super::access::{Place, Read, Seen, Write};
 use super::blob::{Blob, BlobFault};
-use super::boxed::Boxed;
 use super::list::List;
-use super::memory::Twin;
 use super::name::{Id, Name, NameFault};
 use super::schema::{Column, TableDef};
-use super::tables::{key_of, table_of};
 use super::text::{Str, StrFault};
 use super::value::{Kind, Row, Value};
 use std::alloc::Global;
@@ -52,19 +48,6 @@ fn names(rt: HostRuntime) -> Result<(), Fail> {
     assert_eq!(rt; Name::new(alloc, "a_9")?.as_str(), "a_9");
     assert_eq!(rt; Id::new(alloc, "9-a_")?.as_str(), "9-a_");
     assert!(rt; matches!(Id::new(alloc, "A"), Err(NameFault::Bad)));
-    Ok(())
-}
-
-#[test]
-fn twins(rt: HostRuntime) -> Result<(), Fail> {
-    let alloc = rt.alloc();
-    let first = row(alloc, 7, "x")?;
-    let second = first.copy(alloc)?;
-    assert!(rt; first == second);
-    let third = row(alloc, 8, "x")?;
-    assert!(rt; first < third);
-    let boxed = Boxed::new(alloc, third)?;
-    assert!(rt; *boxed.get() != first);
     Ok(())
 }
 
@@ -121,47 +104,4 @@ fn accounts(alloc: Global) -> Result<TableDef, Fail>
         key,
         index,
     })
-}
-
-#[test]
-fn tables_by_name(rt: HostRuntime) -> Result<(), Fail> {
-    let alloc = rt.alloc();
-    let def = accounts(alloc)?;
-    let tables = of_one(alloc, def.copy(alloc)?)?;
-    assert_eq!(rt; table_of(&tables, "accounts"), Some(0));
-    assert_eq!(rt; table_of(&tables, "account"), None);
-    Ok(())
-}
-
-#[test]
-fn keys_of_rows(rt: HostRuntime) -> Result<(), Fail> {
-    let alloc = rt.alloc();
-    let def = accounts(alloc)?;
-    let key = key_of(alloc, &def, &row(alloc, 7, "x")?)?;
-    assert!(rt; key == of_one(alloc, Value::Int(7))?);
-    Ok(())
-}
-
-#[test]
-fn copies_of_reads_and_writes(rt: HostRuntime) -> Result<(), Fail> {
-    let alloc = rt.alloc();
-    let place = Place { block: 1, pos: 2 };
-    let seen = Seen {
-        row: row(alloc, 7, "y")?,
-        place,
-    };
-    assert!(rt; seen.copy(alloc)?.row == seen.row);
-    let read = Read::Point {
-        table: 3,
-        key: of_one(alloc, Value::Int(7))?,
-    };
-    assert_eq!(rt; read.copy(alloc)?.table(), 3);
-    let write = Write {
-        table: 3,
-        key: of_one(alloc, Value::Int(7))?,
-        before: None,
-        after: Some(row(alloc, 7, "y")?),
-    };
-    assert!(rt; write.copy(alloc)?.after == write.after);
-    Ok(())
 }

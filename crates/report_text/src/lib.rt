@@ -11,8 +11,6 @@ mod look;
 mod node;
 mod outcome;
 mod table;
-#[cfg(test)]
-mod tests;
 mod value;
 mod version;
 #[cfg(test)]

@@ -3,7 +3,7 @@
 ghost use Rattle.std.specs.Prelude.{◌≡◌, [], ◌∷◌, IfOk};
 
 use super::overlay::Overlay;
-use rel_base::{Column, Key, Kind, List, Name, Place, Read, Row, Seen, TableDef, Value, Write};
+use rel_base::{Column, Key, Kind, List, Name, Place, Read, Row, Seen, TableDef, Value};
 use std::alloc::Global;
 use std::test::Fail;
 
@@ -94,78 +94,8 @@ fn int_at(values: &List<Value>, at: usize) -> Option<i64> {
     }
 }
 
-fn amount_of(row: Option<&Row>) -> Option<i64> {
-    match row {
-        None => None,
-        Some(row) => int_at(row, 1),
-    }
-}
-
-fn amount_in(row: &Option<Row>) -> Option<i64> {
-    match row {
-        None => None,
-        Some(row) => int_at(row, 1),
-    }
-}
-
-fn is_write(write: &Write, table: u32, id: i64, before: Option<i64>, after: Option<i64>) -> bool {
-    write.table == table
-        && int_at(&write.key, 0) == Some(id)
-        && amount_in(&write.before) == before
-        && amount_in(&write.after) == after
-}
-
 fn is_account(row: &Row, id: i64, amount: i64) -> bool {
     int_at(row, 0) == Some(id) && int_at(row, 1) == Some(amount)
-}
-
-#[test]
-fn looks(rt: HostRuntime) -> Result<(), Fail> {
-    let alloc = rt.alloc();
-    let base = account(alloc, 1, 50)?;
-    let mut overlay = Overlay::new(alloc);
-    assert_eq!(rt;
-        amount_of(overlay.look(0, &key(alloc, 1)?, Some(&base))),
-        Some(50)
-    );
-    assert_eq!(rt; amount_of(overlay.look(0, &key(alloc, 1)?, None)), None);
-    put(alloc, &mut overlay, 0, 1, Some(50), Some(60))?;
-    put(alloc, &mut overlay, 0, 2, Some(20), None)?;
-    assert_eq!(rt;
-        amount_of(overlay.look(0, &key(alloc, 1)?, Some(&base))),
-        Some(60)
-    );
-    assert_eq!(rt;
-        amount_of(overlay.look(0, &key(alloc, 2)?, Some(&base))),
-        None
-    );
-    assert_eq!(rt;
-        amount_of(overlay.look(0, &key(alloc, 3)?, Some(&base))),
-        Some(50)
-    );
-    assert_eq!(rt;
-        amount_of(overlay.look(1, &key(alloc, 1)?, Some(&base))),
-        Some(50)
-    );
-    Ok(())
-}
-
-#[test]
-fn net_writes_stand_in_order(rt: HostRuntime) -> Result<(), Fail> {
-    let alloc = rt.alloc();
-    let mut overlay = Overlay::new(alloc);
-    put(alloc, &mut overlay, 2, 1, None, Some(7))?;
-    put(alloc, &mut overlay, 0, 9, Some(5), None)?;
-    put(alloc, &mut overlay, 0, 3, Some(5), Some(5))?;
-    put(alloc, &mut overlay, 2, 0, Some(8), Some(9))?;
-    let writes = overlay.net();
-    let writes = writes.as_slice();
-    assert_eq!(rt; writes.len(), 4);
-    assert!(rt; is_write(&writes[0], 0, 3, Some(5), Some(5)));
-    assert!(rt; is_write(&writes[1], 0, 9, Some(5), None));
-    assert!(rt; is_write(&writes[2], 2, 0, Some(8), Some(9)));
-    assert!(rt; is_write(&writes[3], 2, 1, None, Some(7)));
-    Ok(())
 }
 
 #[test]

@@ -6,7 +6,6 @@ pub mod Members
 pub mod Joined
 pub mod Noted
 pub mod Apart
-pub mod Sampled
 pub mod Found
 pub mod Forms
 pub mod Lists

@@ -20,8 +20,4 @@ pub use touch_marks::{Marks, marks_of};
 pub use verdict::danger;
 
 #[cfg(test)]
-mod mark_tests;
-#[cfg(test)]
-mod samples;
-#[cfg(test)]
 mod tests;

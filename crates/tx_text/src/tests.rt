@@ -1,17 +1,7 @@
-use super::{LineFault, read_tx, read_value, write_tx, write_value};
+use super::{read_tx, read_value, write_tx, write_value};
 use rel_base::{Blob, Str, Value};
 use std::alloc::Global;
 use std::test::Fail;
-
-/// Whether the bytes are no value.
-fn is_bad(alloc: Global, text: &[u8]) -> bool {
-    matches!(read_value(alloc, text), Err(LineFault::Bad))
-}
-
-/// Whether the bytes are no transaction line.
-fn is_bad_line(alloc: Global, line: &[u8]) -> bool {
-    matches!(read_tx(alloc, line), Err(LineFault::Bad))
-}
 
 /// A line of so many bytes, at least 25: a transaction with texts of at most 200 letters.
 fn long_line(alloc: Global, count: usize) -> Result<Vec<u8>, Fail> {
@@ -51,22 +41,6 @@ fn values(rt: HostRuntime) -> Result<(), Fail> {
 }
 
 #[test]
-fn wrong_values(rt: HostRuntime) -> Result<(), Fail> {
-    let alloc = rt.alloc();
-    assert!(rt; is_bad(alloc, b"9223372036854775808"));
-    assert!(rt; is_bad(alloc, b"-9223372036854775809"));
-    assert!(rt; is_bad(alloc, b"-0"));
-    assert!(rt; is_bad(alloc, b"07"));
-    assert!(rt; is_bad(alloc, b"+7"));
-    assert!(rt; is_bad(alloc, b"7 "));
-    assert!(rt; is_bad(alloc, b""));
-    assert!(rt; is_bad(alloc, b"truex"));
-    assert!(rt; is_bad(alloc, b"x\"0\""));
-    assert!(rt; is_bad(alloc, b"\"a\"\"b\""));
-    Ok(())
-}
-
-#[test]
 fn lines(rt: HostRuntime) -> Result<(), Fail> {
     let alloc = rt.alloc();
     let line = b"tx a-1 18446744073709551615 table 1 \"a b\" true x\"0a\" -5";
@@ -82,37 +56,5 @@ fn lines(rt: HostRuntime) -> Result<(), Fail> {
         b"true".as_slice()
     );
     assert_eq!(rt; read_tx(alloc, &long_line(alloc, 4008)?)?.args.len(), 20);
-    Ok(())
-}
-
-#[test]
-fn wrong_lines(rt: HostRuntime) -> Result<(), Fail> {
-    let alloc = rt.alloc();
-    assert!(rt; is_bad_line(alloc, b""));
-    assert!(rt; is_bad_line(alloc, b"tx"));
-    assert!(rt; is_bad_line(alloc, b"tx a 0"));
-    assert!(rt; is_bad_line(alloc, b"tx a 0 "));
-    assert!(rt; is_bad_line(alloc, b"tx A 0 p"));
-    assert!(rt; is_bad_line(alloc, b"tx a 00 p"));
-    assert!(rt; is_bad_line(alloc, b"tx a 18446744073709551616 p"));
-    assert!(rt; is_bad_line(alloc, b"tx  a 0 p"));
-    assert!(rt; is_bad_line(alloc, b"tx a 0 p  1"));
-    assert!(rt; is_bad_line(alloc, b"tx a 0 p 1 "));
-    assert!(rt; is_bad_line(alloc, b" tx a 0 p"));
-    assert!(rt; is_bad_line(alloc, b"tx a 0 p 1\n"));
-    Ok(())
-}
-
-#[test]
-fn longest_line(rt: HostRuntime) -> Result<(), Fail> {
-    let alloc = rt.alloc();
-    let mut line = long_line(alloc, 4008)?;
-    line.extend_from_slice(
-        b" 1234567890 1234567890 1234567890 1234567890 1234567890 1234567890 1234567890 1234567890",
-    )?;
-    assert_eq!(rt; line.len(), 4096);
-    assert_eq!(rt; read_tx(alloc, &line)?.args.len(), 28);
-    line.push(b'1')?;
-    assert!(rt; is_bad_line(alloc, &line));
     Ok(())
 }

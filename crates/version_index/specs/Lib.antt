@@ -3,4 +3,3 @@ pub mod Log
 pub mod Heads
 pub mod Rows
 pub mod Kept
-pub mod Example

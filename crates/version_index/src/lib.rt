@@ -11,8 +11,6 @@ pub mod reading;
 pub mod rows;
 pub mod store;
 pub mod tail;
-#[cfg(test)]
-mod tests;
 pub mod versions;
 
 pub use entry::Entry;
