@@ -9,5 +9,6 @@ pub mod Held_works
 pub mod Ending
 pub mod Answering
 pub mod Telling
+pub mod Outcomes
 pub mod Fresh_jobs
 pub mod Deliveries

@@ -1,21 +1,18 @@
 -- Whether an id is settled, by the index of ids.
-use Rattle.std.proofs.Common.{Bool, IfSome, List, None, Option, Some, [], ap, arith, cond, false, find, length, map, refl, subst, suc, sym, true, ◌+◌, ◌++◌, ◌==◌, ◌||◌, ◌∙◌, ◌≡◌, ◌≤◌, ◌∷◌, ℕ}
+use Rattle.std.proofs.Common.{Bool, IfSome, List, None, Option, Some, [], ap, arith, cond, false, find, length, refl, subst, suc, sym, true, ◌+◌, ◌||◌, ◌∙◌, ◌≡◌, ◌≤◌, ◌∷◌, ℕ}
 use Rattle.std.proofs.lemmas.Bool.Decides.{nat_tests}
 use Rattle.std.proofs.lemmas.Option.{none-some}
 use Rattle.std.specs.List.{list_any}
-use Rattle.std.specs.Option.{is_some, option_map, option_or}
+use Rattle.std.specs.Option.{option_map, option_or}
 use Rattle.std.specs.Prelude.{nat_le}
 use Rattle.std.specs.Str.{bytes_eq}
-use Rattle.block_work.specs.Chain.{HoldsChain}
-use Rattle.block_work.specs.Ids.{HasFirstPlaces, first_among, first_in, place_of}
+use Rattle.block_work.specs.Ids.{first_among, first_in, place_of}
 use Rattle.node_core.proofs.Journal.{facts}
 use Rattle.node_core.specs.Kept.{IsNode, IsWorkingOn, Kept, number_of_work, outcomes_of, shown_work, up_to, world_in}
 use Rattle.node_core.specs.declared.working.Working.{Working}
 use Rattle.node_model.specs.Events.{has_told, settled_in}
-use Rattle.node_model.specs.Fold.{block_result, no_digest, results_from, results_of}
+use Rattle.node_model.specs.Fold.{block_result, no_digest, results_from}
 use Rattle.node_model.specs.History.{Sealed, ids_told}
-use Rattle.node_model.specs.World as model
-use Rattle.node_model.specs.declared.result.BlockResult.{BlockResult}
 use Rattle.node_model.specs.declared.result.Told.{Told}
 use Rattle.proc_syntax.specs.Declaring.{tables_of}
 use Rattle.rel_base.specs.declared.access.Place.{Place}
@@ -24,7 +21,7 @@ use Rattle.schedule_laws.specs.Facts.{AreCounted}
 
 -- ---- how many are sealed
 
-length_from : (tables : List TableDef) (previous : List ℕ) (chain : List Sealed) → length (results_from tables previous chain) ≡ length chain
+pub length_from : (tables : List TableDef) (previous : List ℕ) (chain : List Sealed) → length (results_from tables previous chain) ≡ length chain
 length_from tables previous [] = refl
 length_from tables previous (block ∷ rest) = ap suc (length_from tables (block_result tables previous block).digest rest)
 

@@ -8,4 +8,5 @@ pub mod Known
 pub mod Choosing
 pub mod Ends
 pub mod Looking
+pub mod Finding
 pub mod Fresh

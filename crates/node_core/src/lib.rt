@@ -9,6 +9,7 @@ pub mod jobs;
 pub mod known;
 pub mod looking;
 pub mod node;
+pub mod outcome;
 pub mod reading;
 pub mod room;
 pub mod rows;
