@@ -1,4 +1,5 @@
 pub mod Table
+pub mod Dropped_rows
 pub mod Hand
 pub mod Rowed
 pub mod Journal
@@ -12,3 +13,4 @@ pub mod Telling
 pub mod Outcomes
 pub mod Fresh_jobs
 pub mod Deliveries
+pub mod Seals

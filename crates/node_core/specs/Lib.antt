@@ -7,6 +7,7 @@ pub mod Kept
 pub mod Known
 pub mod Choosing
 pub mod Ends
+pub mod Over
 pub mod Looking
 pub mod Finding
 pub mod Fresh

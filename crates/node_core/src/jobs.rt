@@ -4,9 +4,11 @@ ghost use Rattle.std.specs.Prelude.{◌≡◌, ◌<◌, ◌≤◌, ◌+◌, ◌%
 ghost use Rattle.std.specs.Option.{option_copied, option_map};
 ghost use Rattle.node_model.specs.World.{eligible, is_held, is_waiting, number_of};
 
+use crate::dropping::drop_settled;
 use crate::rows::{
     change_stage, count_eligible, find_eligible, find_number, is_waiting, one_held, push_rows,
 };
+use block_work::IdIndex;
 use proc_syntax::Tx;
 use proc_syntax::run::Ran;
 use rel_base::NoMemory;
@@ -65,6 +67,7 @@ impl Model for Jobs {
 }
 
 impl Jobs {
+    ghost use Rattle.node_core.specs.Over.{drop_settled};
     ghost use Rattle.node_core.specs.Rows.{count_held, new_row, put_row, row_waits, row_at, shown_all, status_of};
     ghost use Rattle.node_core.specs.declared.jobs.Stage.TheVariants.{Done, Dropped, Held, Waiting};
 
@@ -129,6 +132,13 @@ impl Jobs {
             None => false,
             Some(row) => is_waiting(&row.stage),
         }
+    }
+
+    /// Drops the jobs that wait or are done and whose ids are settled: they have a place. Takes no memory.
+    pub fn drop_settled(&mut self, ids: &IdIndex)
+        ensures { self.new ≡ map (drop_settled ids.now) self.old }
+    {
+        drop_settled(&mut self.rows, ids);
     }
 
     /// Adds a job that waits. Where memory is wanting, the jobs are as before.

@@ -5,6 +5,7 @@ pub mod answers;
 pub mod arriving;
 pub mod claiming;
 pub mod delivering;
+pub mod dropping;
 pub mod jobs;
 pub mod known;
 pub mod looking;
@@ -13,6 +14,7 @@ pub mod outcome;
 pub mod reading;
 pub mod room;
 pub mod rows;
+pub mod sealing;
 pub mod work;
 pub mod working;
 

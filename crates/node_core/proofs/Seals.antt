@@ -1,0 +1,228 @@
+-- A seal is a step.
+use Rattle.std.proofs.Common.{Bool, List, None, Option, Some, [], ap, append-nil, arith, cond, false, length, map, refl, subst, sym, true, ◌&&◌, ◌+◌, ◌++◌, ◌||◌, ◌∙◌, ◌≡◌, ◌≤◌, ◌∷◌, ℕ}
+use Rattle.std.proofs.lemmas.Bool.{false≢true}
+use Rattle.std.proofs.lemmas.List.Folds.{list_any-append}
+use Rattle.std.proofs.lemmas.Option.{none-some, same_Some}
+use Rattle.std.specs.List.{list_any}
+use Rattle.std.specs.Option.{IsSomeAnd, is_some, option_map}
+use Rattle.std.specs.Prelude.{IfSome}
+use Rattle.std.specs.Str.{bytes_eq}
+use Rattle.block_work.proofs.Places.{is_known, places_sealed}
+use Rattle.block_work.specs.Block.{sealed_of}
+use Rattle.block_work.specs.Chain.{HoldsChain, StoreFits}
+use Rattle.block_work.specs.Ids.{HasFirstPlaces, place_of}
+use Rattle.block_work.specs.Results as results
+use Rattle.node_core.proofs.Journal.{core_of, facts, legal_noted, stays, steps, world_noted}
+use Rattle.node_core.proofs.Rowed.{status_is}
+use Rattle.node_core.proofs.Settled.{height_is, number_next}
+use Rattle.node_core.specs.Answers.{sealed_as}
+use Rattle.node_core.specs.Core.{Steps}
+use Rattle.node_core.specs.Kept.{AreRowsOf, IsNode, IsRowOf, IsStageOf, IsWorkingOn, Kept, number_of_work, outcomes_of, shown_work, told_in, world_in}
+use Rattle.node_core.specs.Over.{CanJoin, drop_settled, not_sealed}
+use Rattle.node_core.specs.Rows.{at_stage, is_open}
+use Rattle.node_core.specs.declared.answers.Sealed as answers
+use Rattle.node_core.specs.declared.answers.Sealed.TheVariants as sealed
+use Rattle.node_core.specs.declared.jobs.Row.{Row}
+use Rattle.node_core.specs.declared.jobs.Stage.TheVariants as stage
+use Rattle.node_core.specs.declared.jobs.Stage.{Stage}
+use Rattle.node_core.specs.declared.working.Working.{Working}
+use Rattle.node_model.specs.Events.{after, drop_over, dropped, is_over, is_settled, with_sealed}
+use Rattle.node_model.specs.Fold as fold
+use Rattle.node_model.specs.Fold.{last_digest, no_digest, results_of}
+use Rattle.node_model.specs.History.{Sealed, ids_of, ids_told}
+use Rattle.node_model.specs.Journals.{world}
+use Rattle.node_model.specs.Steps.{Digest, Reply, ToSeal, reply, seals, seals_due}
+use Rattle.node_model.specs.World.{BlockInWork, Job, Status, World, decided, due, is_done, is_waiting}
+use Rattle.node_model.specs.declared.journal.Entry.{Entry}
+use Rattle.node_model.specs.declared.journal.Event.TheVariants.{Seal}
+use Rattle.node_model.specs.declared.result.BlockResult.{BlockResult}
+use Rattle.proc_syntax.specs.Declaring.{tables_of}
+use Rattle.proc_syntax.specs.declared.call.Tx.{Tx}
+use Rattle.proc_syntax.specs.declared.tree.App.{App}
+use Rattle.rel_base.specs.Tables.{Stamped}
+use Rattle.rel_base.specs.declared.schema.TableDef.{TableDef}
+use Rattle.schedule_laws.proofs.Chains.{settled-known}
+
+-- ---- digests
+
+-- the last digest has two definitions, which are the same
+same_digest : (previous : List ℕ) (blocks : List BlockResult) → results.digest_after previous blocks ≡ fold.digest_after previous blocks
+same_digest previous [] = refl
+same_digest previous (block ∷ rest) = same_digest block.digest rest
+
+-- ---- rows
+
+-- the row of a job that is not dropped is one where nothing is told of the next block
+keeps_stage : (tables : List TableDef) (told : List (List ℕ)) (now : Stage) (job : Job) (known : Bool) → IsStageOf tables told now job → (list_any (bytes_eq job.tx.id) told ≡ true → known ≡ true)
+    → (is_open now && known) ≡ false → IsStageOf tables [] now job
+keeps_stage tables told stage.Waiting job known is settles stays_so = is
+keeps_stage tables told (stage.Held actor) job known is settles stays_so = is
+keeps_stage tables told (stage.Done recorded) job known is settles stays_so = is
+keeps_stage tables told stage.Taken job known is settles stays_so = absurd (false≢true (sym stays_so ∙ settles is.1))
+keeps_stage tables told stage.Dropped job known is settles stays_so = is
+
+or_true : (b : Bool) → (b || true) ≡ true
+or_true true = refl
+or_true false = refl
+
+-- ---- where no block is sealed
+
+abbrev as_reply : answers.Sealed → Reply
+as_reply answer = (sealed_as answer, None)
+
+module _ (kept : Kept) (node : IsNode kept) (height : ℕ) where
+  module _ (at : height ≡ length kept.results) where
+    waits_for : (working : Working) (answer : answers.Sealed) (found : Option Tx) → option_map (λ (tx : Tx). sealed.NotAll (decided (shown_work working) + 1)) found ≡ Some answer
+        → seals_due kept.app (world_in kept) (shown_work working) found ≡ as_reply answer
+    waits_for working answer None is = absurd (none-some answer is)
+    waits_for working answer (Some tx) is = ap as_reply (same_Some (sealed.NotAll (decided (shown_work working) + 1)) answer is)
+
+    pub seal_stays : (actor : ℕ) (answer : answers.Sealed) → not_sealed height kept.work ≡ Some answer → Steps (core_of kept) actor ToSeal (sealed_as answer) (core_of kept)
+    seal_stays actor answer is = stays kept node actor ToSeal (sealed_as answer) (ap (seals kept.app (world_in kept)) (sym node.work) ∙ by kept.work is)
+      where
+        so : height ≡ length (world_in kept).sealed
+        so = at ∙ height_is kept node
+
+        by : (work : Option Working) → not_sealed height work ≡ Some answer → seals kept.app (world_in kept) (option_map shown_work work) ≡ as_reply answer
+        by None is = ap (λ n. as_reply (sealed.NoBlock n)) (sym so) ∙ ap as_reply (same_Some (sealed.NoBlock height) answer is)
+        by (Some working) is = waits_for working answer (due (shown_work working)) is
+
+  -- ---- where one is
+
+  none_due : (working : Working) (found : Option Tx) → option_map (λ (tx : Tx). sealed.NotAll (decided (shown_work working) + 1)) found ≡ None → found ≡ None
+  none_due working None is = refl
+  none_due working (Some tx) is = absurd (none-some (sealed.NotAll (decided (shown_work working) + 1)) (sym is))
+
+  -- it is in work, and all of it is decided
+  pub whole : not_sealed height kept.work ≡ None → (working : Working) × (kept.work ≡ Some working) × (due (shown_work working) ≡ None)
+  whole is = by kept.work refl is
+    where
+      by : (work : Option Working) → kept.work ≡ work → not_sealed height work ≡ None → (working : Working) × (kept.work ≡ Some working) × (due (shown_work working) ≡ None)
+      by None here is = absurd (none-some (sealed.NoBlock height) (sym is))
+      by (Some working) here is = (working, here, none_due working (due (shown_work working)) is)
+
+-- ---- the block in work
+
+module _ (kept : Kept) (node : IsNode kept) (working : Working) (here : kept.work ≡ Some working) where
+  inside : (world_in kept).work ≡ Some (shown_work working)
+  inside = sym node.work ∙ ap (option_map shown_work) here
+
+  fits : IsWorkingOn (tables_of kept.app) working
+  fits = subst (λ (w : Option Working). IfSome w (IsWorkingOn (tables_of kept.app))) here node.working
+
+  pub can_join : IsSomeAnd kept.work (CanJoin (tables_of kept.app) (length kept.results))
+  can_join =
+      let within = ((facts kept node).work_fits (shown_work working) inside).within in
+      let most = working.block.value.few in
+      let few : length working.done.outcomes.items ≤ 1024 = omega (arith, within, most) in
+      subst (λ (w : Option Working). IsSomeAnd w (CanJoin (tables_of kept.app) (length kept.results))) (sym here) (record {
+        next = number_next kept node working here ∙ ap (λ n. n + 1) (sym (height_is kept node));
+        few = few;
+        consistent = fits.consistent;
+      })
+
+  -- the block as it is sealed, and the chain with it
+  abbrev block : Sealed
+  block = fold.sealed_as working.block.value (shown_work working).done
+
+  abbrev grown : List Sealed
+  grown = (world_in kept).sealed ++ block ∷ []
+
+  block_is : sealed_of working.done ≡ block
+  block_is = λ i. record { number = fits.number i; time = fits.time i; outcomes = working.done.outcomes.items; committed = working.done.committed.items }
+
+  -- ---- ids
+
+  places : HasFirstPlaces kept.ids (world_in kept).sealed working.done.number working.done.outcomes.items
+  places = subst (λ (w : Option Working). HasFirstPlaces kept.ids (world_in kept).sealed (number_of_work w) (outcomes_of w)) here node.ids
+
+  places_after : HasFirstPlaces kept.ids grown 0 []
+  places_after = places_sealed kept.ids (world_in kept).sealed block 0 (subst (λ n. HasFirstPlaces kept.ids (world_in kept).sealed n working.done.outcomes.items) fits.number places)
+
+  -- the ids that have a place are those that are settled
+  settled_now : (id : List ℕ) → is_some (place_of kept.ids id) ≡ is_settled id grown
+  settled_now id = is_known kept.ids grown 0 [] id places_after ∙ ap (list_any (bytes_eq id)) (append-nil (ids_of grown)) ∙ sym (settled-known id grown)
+
+  -- and those of the block are among them
+  told_settled : (id : List ℕ) → list_any (bytes_eq id) (ids_told working.done.outcomes.items) ≡ true → is_some (place_of kept.ids id) ≡ true
+  told_settled id told =
+      is_known kept.ids (world_in kept).sealed working.done.number working.done.outcomes.items id places
+      ∙ list_any-append (bytes_eq id) (ids_of (world_in kept).sealed) (ids_told working.done.outcomes.items)
+      ∙ ap (λ b. list_any (bytes_eq id) (ids_of (world_in kept).sealed) || b) told
+      ∙ or_true (list_any (bytes_eq id) (ids_of (world_in kept).sealed))
+
+  -- ---- jobs
+
+  row_after : (row : Row) (job : Job) → IsRowOf (tables_of kept.app) (ids_told working.done.outcomes.items) row job → IsRowOf (tables_of kept.app) [] (drop_settled kept.ids row) (drop_over grown job)
+  row_after row job is =
+      subst (λ b. IsRowOf (tables_of kept.app) [] (drop_settled kept.ids row) (cond b (dropped job) job)) same_test
+      (by (is_open row.stage && is_some (place_of kept.ids row.tx.value.id)) refl)
+    where
+      same_test : (is_open row.stage && is_some (place_of kept.ids row.tx.value.id)) ≡ is_over grown job
+      same_test =
+          ap (λ (s : Status). (is_waiting s || is_done s) && is_some (place_of kept.ids row.tx.value.id)) (status_is (tables_of kept.app) (ids_told working.done.outcomes.items) row.stage job is.stage)
+          ∙ ap (λ (t : Tx). (is_waiting job.status || is_done job.status) && is_some (place_of kept.ids t.id)) is.tx
+          ∙ ap (λ b. (is_waiting job.status || is_done job.status) && b) (settled_now job.tx.id)
+
+      settles : list_any (bytes_eq job.tx.id) (ids_told working.done.outcomes.items) ≡ true → is_some (place_of kept.ids row.tx.value.id) ≡ true
+      settles told = ap (λ (t : Tx). is_some (place_of kept.ids t.id)) is.tx ∙ told_settled job.tx.id told
+
+      by : (b : Bool) → (is_open row.stage && is_some (place_of kept.ids row.tx.value.id)) ≡ b → IsRowOf (tables_of kept.app) [] (cond b (at_stage stage.Dropped row) row) (cond b (dropped job) job)
+      by true over = record { tx = is.tx; stage = refl }
+      by false over = record {
+        tx = is.tx;
+        stage = keeps_stage (tables_of kept.app) (ids_told working.done.outcomes.items) row.stage job (is_some (place_of kept.ids row.tx.value.id)) is.stage settles over;
+      }
+
+  rows_after : (rows : List Row) (jobs : List Job) → AreRowsOf (tables_of kept.app) (ids_told working.done.outcomes.items) rows jobs
+      → AreRowsOf (tables_of kept.app) [] (map (drop_settled kept.ids) rows) (map (drop_over grown) jobs)
+  rows_after [] [] are = tt
+  rows_after [] (job ∷ jobs) are = absurd are
+  rows_after (row ∷ rows) [] are = absurd are
+  rows_after (row ∷ rows) (job ∷ jobs) are = (row_after row job are.0, rows_after rows jobs are.1)
+
+  -- ---- the step
+
+  module _ (all : due (shown_work working) ≡ None) (actor number : ℕ) (zero_actor : actor ≡ 0) (numbered : number ≡ working.done.number) (journal' : List Entry)
+      (noted : journal' ≡ kept.journal ++ record { actor = actor; event = Seal number } ∷ []) where
+    abbrev answer_as : ℕ → Reply
+    answer_as n = (Digest n (last_digest (tables_of kept.app) grown), Some (Seal n))
+
+    told : reply kept.app (world_in kept) ToSeal ≡ answer_as number
+    told = ap (seals kept.app (world_in kept)) inside ∙ ap (seals_due kept.app (world_in kept) (shown_work working)) all ∙ ap answer_as (sym (numbered ∙ fits.number))
+
+    after_it : world kept.app journal' ≡ after kept.app (world_in kept) (record { actor = actor; event = Seal number })
+    after_it = world_noted kept node actor ToSeal (Digest number (last_digest (tables_of kept.app) grown)) (Seal number) zero_actor told journal' noted
+
+    sealed_now : (world kept.app journal').sealed ≡ grown
+    sealed_now = ap (λ (w : World). w.sealed) after_it ∙ ap (with_sealed (world_in kept).sealed) inside
+
+    jobs_now : (world kept.app journal').jobs ≡ map (drop_over grown) (world_in kept).jobs
+    jobs_now = ap (λ (w : World). w.jobs) after_it ∙ ap (λ (work : Option BlockInWork). map (drop_over (with_sealed (world_in kept).sealed work)) (world_in kept).jobs) inside
+
+    module _ (app' : App) (tables' : List TableDef) (history' : List Stamped) (results' : List BlockResult) (same_app : app' ≡ kept.app) (sound : StoreFits app' tables' history' results')
+        (grows : (chain : List Sealed) → HoldsChain (tables_of kept.app) chain kept.history kept.results → HoldsChain (tables_of kept.app) (chain ++ sealed_of working.done ∷ []) history' results') where
+      holds_after : HoldsChain (tables_of kept.app) grown history' results'
+      holds_after = subst (λ (b : Sealed). HoldsChain (tables_of kept.app) ((world_in kept).sealed ++ b ∷ []) history' results') block_is (grows (world_in kept).sealed node.holds)
+
+      abbrev kept_with : App → List Row → Kept
+      kept_with app rows = record { app = app; tables = tables'; history = history'; results = results'; ids = kept.ids; work = None; rows = rows; journal = journal' }
+
+      pub seal_kept : (rows' : List Row) → rows' ≡ map (drop_settled kept.ids) kept.rows → IsNode (kept_with app' rows')
+      seal_kept rows' are = subst (λ (app : App). StoreFits app tables' history' results' → IsNode (kept_with app rows')) (sym same_app) (λ fits_so. record {
+        legal = legal_noted kept node actor ToSeal (Digest number (last_digest (tables_of kept.app) grown)) (Seal number) zero_actor told journal' noted;
+        sound = fits_so;
+        holds = subst (λ (chain : List Sealed). HoldsChain (tables_of kept.app) chain history' results') (sym sealed_now) holds_after;
+        ids = subst (λ (chain : List Sealed). HasFirstPlaces kept.ids chain 0 []) (sym sealed_now) places_after;
+        work = sym (ap (λ (w : World). w.work) after_it);
+        working = tt;
+        rows = subst (λ (jobs : List Job). AreRowsOf (tables_of kept.app) [] rows' jobs) (sym jobs_now)
+            (subst (λ (rows : List Row). AreRowsOf (tables_of kept.app) [] rows (map (drop_over grown) (world_in kept).jobs)) (sym are)
+            (rows_after kept.rows (world_in kept).jobs (subst (λ (w : Option Working). AreRowsOf (tables_of kept.app) (told_in w) kept.rows (world_in kept).jobs) here node.rows)));
+      }) sound
+
+      pub seal_steps : (digest : List ℕ) → digest ≡ results.last_digest results' → Steps (core_of kept) actor ToSeal (Digest number digest) (record { app = app'; journal = journal' })
+      seal_steps digest is =
+          subst (λ (app : App). Steps (core_of kept) actor ToSeal (Digest number digest) (record { app = app; journal = journal' })) (sym same_app)
+          (subst (λ d. Steps (core_of kept) actor ToSeal (Digest number d) (record { app = kept.app; journal = journal' })) (sym (is ∙ same_digest no_digest results' ∙ ap (fold.digest_after no_digest) holds_after.results))
+          (steps kept node actor ToSeal (Digest number (last_digest (tables_of kept.app) grown)) (Seal number) zero_actor told journal' noted))
