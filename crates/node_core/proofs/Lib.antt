@@ -6,6 +6,10 @@ pub mod Journal
 pub mod Settled
 pub mod Arrivals
 pub mod Claims
+pub mod Commits
+pub mod Due_jobs
+pub mod Readied
+pub mod Commit_steps
 pub mod Held_works
 pub mod Ending
 pub mod Answering

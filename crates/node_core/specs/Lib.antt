@@ -6,6 +6,8 @@ pub mod Core
 pub mod Kept
 pub mod Known
 pub mod Choosing
+pub mod Due
+pub mod Deciding
 pub mod Ends
 pub mod Over
 pub mod Looking

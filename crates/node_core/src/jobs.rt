@@ -69,7 +69,7 @@ impl Model for Jobs {
 impl Jobs {
     ghost use Rattle.node_core.specs.Over.{drop_settled};
     ghost use Rattle.node_core.specs.Rows.{count_held, new_row, put_row, row_waits, row_at, shown_all, status_of};
-    ghost use Rattle.node_core.specs.declared.jobs.Stage.TheVariants.{Done, Dropped, Held, Waiting};
+    ghost use Rattle.node_core.specs.declared.jobs.Stage.TheVariants.{Done, Dropped, Held, Taken, Waiting};
 
     /// No jobs.
     pub fn new(alloc: Global) -> Jobs
@@ -197,6 +197,18 @@ impl Jobs {
         ensures { self.new ≡ put_row self.old number Waiting }
     {
         let _ = self.set(number, Stage::Waiting);
+    }
+
+    /// Takes what is recorded of the run of a done job. Takes no memory.
+    pub fn take(&mut self, number: u64) -> Record
+        requires { (recorded : _) × option_map (λ row. row.stage) (row_at self.old number) ≡ Some (Done recorded) }
+        ensures record { option_map (λ row. row.stage) (row_at self.old number) ≡ Some (Done result) }
+        ensures now { self.new ≡ put_row self.old number Taken }
+    {
+        match self.set(number, Stage::Taken) {
+            Stage::Done(recorded) => recorded,
+            _ => unreachable!(),
+        }
     }
 
     /// Drops a held job. Takes no memory.

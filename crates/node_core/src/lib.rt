@@ -4,8 +4,10 @@
 pub mod answers;
 pub mod arriving;
 pub mod claiming;
+pub mod committing;
 pub mod delivering;
 pub mod dropping;
+pub mod due;
 pub mod jobs;
 pub mod known;
 pub mod looking;
