@@ -211,4 +211,4 @@ module _ (kept : Kept) (node : IsNode kept) where
       ∙ first_told (tables_of kept.app) (world_in kept).sealed kept.work id (facts kept node).counted next_is
       ∙ sym (find-append (tells id) (all_told (world_in kept).sealed) (outcomes_of kept.work))
       ∙ ap (λ (told : List Told). find (tells id) (all_told (world_in kept).sealed ++ told)) (sym in_work)
-    )
+      )

@@ -35,10 +35,7 @@ fn not_sealed(sealed: u64, work: &Option<Working>) -> Option<Sealed>
 }
 
 // Seals the block in work, and answers its number. Where memory is wanting, it is in work still.
-fn seal_work<V: Versions>(
-    chain: &mut Chain<V>,
-    work: &mut Option<Working>,
-) -> Result<u64, NoMemory>
+fn seal_work<V: Versions>(chain: &mut Chain<V>, work: &mut Option<Working>) -> Result<u64, NoMemory>
     requires store { StoreFits chain.old.app.value.app (V.tables chain.old.versions) (V.history chain.old.versions) chain.old.blocks }
     requires can { IsSomeAnd work.old (CanJoin (tables_of chain.old.app.value.app) (length chain.old.blocks)) }
     ensures app { chain.new.app.value ≡ chain.old.app.value }

@@ -54,15 +54,23 @@ invariant_of-self-2 g c =
     let numbered : c.in_ok-number.number ≡ all.0.done.number = subst (λ (w : Option Working). IfSome w (λ working. c.in_ok-number.number ≡ working.done.number)) all.1 c.in_ok-number.ensures.number in
     let grows : (chain : List Sealed) → HoldsChain (tables_of app) chain history s.chain.blocks → HoldsChain (tables_of app) (chain ++ sealed_of all.0.done ∷ []) (g.V.Versions.history new.versions) new.blocks =
     subst (λ (w : Option Working). IfSome w (λ working. (chain : List Sealed) → HoldsChain (tables_of app) chain history s.chain.blocks
-        → HoldsChain (tables_of app) (chain ++ sealed_of working.done ∷ []) (g.V.Versions.history new.versions) new.blocks)) all.1 c.in_ok-number.ensures.holds in
+    → HoldsChain (tables_of app) (chain ++ sealed_of working.done ∷ []) (g.V.Versions.history new.versions) new.blocks)) all.1 c.in_ok-number.ensures.holds in
     let noted : c.push_reserved.new.self.items ≡ s.journal.items ++ record { actor = c.args.actor; event = Seal c.in_ok-number.number } ∷ [] = search rules in
     let same : new.app.value ≡ s.chain.app.value = search rules in
     let empty : c.seal_work.new.work ≡ None = search rules in
     let rows : c.drop_settled.new.self ≡ map (drop_settled s.ids) s.jobs = search rules in
     let fits : vec_len c.push_reserved.new.self + count_held s.jobs ≤ vec_capacity c.push_reserved.new.self = search rules in
     let counted : count_held c.drop_settled.new.self ≡ count_held s.jobs = ap count_held rows ∙ count_dropped s.ids s.jobs in (
-      subst (λ (w : Option Working). IsNode (record { app = new.app.value.app; tables = g.V.Versions.tables new.versions; history = g.V.Versions.history new.versions; results = new.blocks;
-          ids = s.ids; work = w; rows = c.drop_settled.new.self; journal = c.push_reserved.new.self.items })) (sym empty)
+      subst (λ (w : Option Working). IsNode (record {
+        app = new.app.value.app;
+        tables = g.V.Versions.tables new.versions;
+        history = g.V.Versions.history new.versions;
+        results = new.blocks;
+        ids = s.ids;
+        work = w;
+        rows = c.drop_settled.new.self;
+        journal = c.push_reserved.new.self.items;
+      })) (sym empty)
           (seal_kept _ c.self.invariant.0 all.0 all.1 all.2 c.args.actor c.in_ok-number.number c.requires.processor numbered c.push_reserved.new.self.items noted new.app.value.app (g.V.Versions.tables new.versions)
           (g.V.Versions.history new.versions) new.blocks (ap (λ (checked : Checked). checked.app) same) c.seal_work.ensures.store grows c.drop_settled.new.self rows),
       omega (arith, fits, counted),
@@ -79,7 +87,7 @@ returns-clause-step g c =
     let numbered : c.in_ok-number.number ≡ all.0.done.number = subst (λ (w : Option Working). IfSome w (λ working. c.in_ok-number.number ≡ working.done.number)) all.1 c.in_ok-number.ensures.number in
     let grows : (chain : List Sealed) → HoldsChain (tables_of app) chain history s.chain.blocks → HoldsChain (tables_of app) (chain ++ sealed_of all.0.done ∷ []) (g.V.Versions.history new.versions) new.blocks =
     subst (λ (w : Option Working). IfSome w (λ working. (chain : List Sealed) → HoldsChain (tables_of app) chain history s.chain.blocks
-        → HoldsChain (tables_of app) (chain ++ sealed_of working.done ∷ []) (g.V.Versions.history new.versions) new.blocks)) all.1 c.in_ok-number.ensures.holds in
+    → HoldsChain (tables_of app) (chain ++ sealed_of working.done ∷ []) (g.V.Versions.history new.versions) new.blocks)) all.1 c.in_ok-number.ensures.holds in
     let noted : c.push_reserved.new.self.items ≡ s.journal.items ++ record { actor = c.args.actor; event = Seal c.in_ok-number.number } ∷ [] = search rules in
     let same : new.app.value ≡ s.chain.app.value = search rules in
     let digest : c.last_digest.result ≡ last_digest new.blocks = search rules in
