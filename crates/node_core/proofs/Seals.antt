@@ -1,5 +1,5 @@
 -- A seal is a step.
-use Rattle.std.proofs.Common.{Bool, List, None, Option, Some, [], ap, append-nil, arith, cond, false, length, map, refl, subst, sym, true, ◌&&◌, ◌+◌, ◌++◌, ◌||◌, ◌∙◌, ◌≡◌, ◌≤◌, ◌∷◌, ℕ}
+use Rattle.std.proofs.Common.{Bool, List, None, Option, Some, [], ap, append-nil, arith, cond, false, length, map, refl, subst, sym, true, ◌&&◌, ◌+◌, ◌++◌, ◌||◌, ◌∙◌, ◌≡◌, ◌∷◌, ℕ}
 use Rattle.std.proofs.lemmas.Bool.{false≢true}
 use Rattle.std.proofs.lemmas.List.Folds.{list_any-append}
 use Rattle.std.proofs.lemmas.Option.{none-some, same_Some}
@@ -94,7 +94,7 @@ module _ (kept : Kept) (node : IsNode kept) (height : ℕ) where
   none_due working (Some tx) is = absurd (none-some (sealed.NotAll (decided (shown_work working) + 1)) (sym is))
 
   -- it is in work, and all of it is decided
-  pub whole : not_sealed height kept.work ≡ None → (working : Working) × (kept.work ≡ Some working) × (due (shown_work working) ≡ None)
+  whole : not_sealed height kept.work ≡ None → (working : Working) × (kept.work ≡ Some working) × (due (shown_work working) ≡ None)
   whole is = by kept.work refl is
     where
       by : (work : Option Working) → kept.work ≡ work → not_sealed height work ≡ None → (working : Working) × (kept.work ≡ Some working) × (due (shown_work working) ≡ None)
@@ -110,16 +110,15 @@ module _ (kept : Kept) (node : IsNode kept) (working : Working) (here : kept.wor
   fits : IsWorkingOn (tables_of kept.app) working
   fits = subst (λ (w : Option Working). IfSome w (IsWorkingOn (tables_of kept.app))) here node.working
 
-  pub can_join : IsSomeAnd kept.work (CanJoin (tables_of kept.app) (length kept.results))
-  can_join =
+  joins : CanJoin (tables_of kept.app) (length kept.results) working
+  joins =
       let within = ((facts kept node).work_fits (shown_work working) inside).within in
       let most = working.block.value.few in
-      let few : length working.done.outcomes.items ≤ 1024 = omega (arith, within, most) in
-      subst (λ (w : Option Working). IsSomeAnd w (CanJoin (tables_of kept.app) (length kept.results))) (sym here) (record {
+      record {
         next = number_next kept node working here ∙ ap (λ n. n + 1) (sym (height_is kept node));
-        few = few;
+        few = omega (arith, within, most);
         consistent = fits.consistent;
-      })
+      }
 
   -- the block as it is sealed, and the chain with it
   abbrev block : Sealed
@@ -208,7 +207,7 @@ module _ (kept : Kept) (node : IsNode kept) (working : Working) (here : kept.wor
       abbrev kept_with : App → List Row → Kept
       kept_with app rows = record { app = app; tables = tables'; history = history'; results = results'; ids = kept.ids; work = None; rows = rows; journal = journal' }
 
-      pub seal_kept : (rows' : List Row) → rows' ≡ map (drop_settled kept.ids) kept.rows → IsNode (kept_with app' rows')
+      seal_kept : (rows' : List Row) → rows' ≡ map (drop_settled kept.ids) kept.rows → IsNode (kept_with app' rows')
       seal_kept rows' are = subst (λ (app : App). StoreFits app tables' history' results' → IsNode (kept_with app rows')) (sym same_app) (λ fits_so. record {
         legal = legal_noted kept node actor ToSeal (Digest number (last_digest (tables_of kept.app) grown)) (Seal number) zero_actor told journal' noted;
         sound = fits_so;
@@ -221,8 +220,40 @@ module _ (kept : Kept) (node : IsNode kept) (working : Working) (here : kept.wor
             (rows_after kept.rows (world_in kept).jobs (subst (λ (w : Option Working). AreRowsOf (tables_of kept.app) (told_in w) kept.rows (world_in kept).jobs) here node.rows)));
       }) sound
 
-      pub seal_steps : (digest : List ℕ) → digest ≡ results.last_digest results' → Steps (core_of kept) actor ToSeal (Digest number digest) (record { app = app'; journal = journal' })
+      seal_steps : (digest : List ℕ) → digest ≡ results.last_digest results' → Steps (core_of kept) actor ToSeal (Digest number digest) (record { app = app'; journal = journal' })
       seal_steps digest is =
           subst (λ (app : App). Steps (core_of kept) actor ToSeal (Digest number digest) (record { app = app; journal = journal' })) (sym same_app)
           (subst (λ d. Steps (core_of kept) actor ToSeal (Digest number d) (record { app = kept.app; journal = journal' })) (sym (is ∙ same_digest no_digest results' ∙ ap (fold.digest_after no_digest) holds_after.results))
           (steps kept node actor ToSeal (Digest number (last_digest (tables_of kept.app) grown)) (Seal number) zero_actor told journal' noted))
+
+-- ---- by what is known of the parts
+
+pub can_join : (kept : Kept) (node : IsNode kept) (height : ℕ) → not_sealed height kept.work ≡ None → IsSomeAnd kept.work (CanJoin (tables_of kept.app) (length kept.results))
+can_join kept node height none =
+    let all = whole kept node height none in
+    subst (λ (w : Option Working). IsSomeAnd w (CanJoin (tables_of kept.app) (length kept.results))) (sym all.1) (joins kept node all.0 all.1)
+
+module _ (kept : Kept) (node : IsNode kept) (height : ℕ) (none : not_sealed height kept.work ≡ None) (actor number : ℕ) (zero_actor : actor ≡ 0)
+    (numbered : IfSome kept.work (λ working. number ≡ working.done.number)) (journal' : List Entry) (noted : journal' ≡ kept.journal ++ record { actor = actor; event = Seal number } ∷ [])
+    (app' : App) (tables' : List TableDef) (history' : List Stamped) (results' : List BlockResult) (same_app : app' ≡ kept.app) (sound : StoreFits app' tables' history' results')
+    (grows : IfSome kept.work (λ working. (chain : List Sealed) → HoldsChain (tables_of kept.app) chain kept.history kept.results
+    → HoldsChain (tables_of kept.app) (chain ++ sealed_of working.done ∷ []) history' results')) where
+  in_work : (working : Working) × (kept.work ≡ Some working) × (due (shown_work working) ≡ None)
+  in_work = whole kept node height none
+
+  numbered_so : number ≡ in_work.0.done.number
+  numbered_so = subst (λ (w : Option Working). IfSome w (λ working. number ≡ working.done.number)) in_work.1 numbered
+
+  grows_so : (chain : List Sealed) → HoldsChain (tables_of kept.app) chain kept.history kept.results → HoldsChain (tables_of kept.app) (chain ++ sealed_of in_work.0.done ∷ []) history' results'
+  grows_so = subst (λ (w : Option Working). IfSome w (λ working. (chain : List Sealed) → HoldsChain (tables_of kept.app) chain kept.history kept.results
+      → HoldsChain (tables_of kept.app) (chain ++ sealed_of working.done ∷ []) history' results')) in_work.1 grows
+
+  pub sealed_kept : (work' : Option Working) (rows' : List Row) → work' ≡ None → rows' ≡ map (drop_settled kept.ids) kept.rows
+      → IsNode (record { app = app'; tables = tables'; history = history'; results = results'; ids = kept.ids; work = work'; rows = rows'; journal = journal' })
+  sealed_kept work' rows' empty are =
+      subst (λ (w : Option Working). IsNode (record { app = app'; tables = tables'; history = history'; results = results'; ids = kept.ids; work = w; rows = rows'; journal = journal' })) (sym empty)
+      (seal_kept kept node in_work.0 in_work.1 in_work.2 actor number zero_actor numbered_so journal' noted app' tables' history' results' same_app sound grows_so rows' are)
+
+  pub sealed_steps : (digest : List ℕ) → digest ≡ results.last_digest results' → Steps (core_of kept) actor ToSeal (Digest number digest) (record { app = app'; journal = journal' })
+  sealed_steps digest is =
+      seal_steps kept node in_work.0 in_work.1 in_work.2 actor number zero_actor numbered_so journal' noted app' tables' history' results' same_app sound grows_so digest is

@@ -1,23 +1,17 @@
-use Rattle.std.proofs.Common.{IfSome, List, None, Option, Some, [], ap, arith, length, map, rules, subst, sym, ◌+◌, ◌++◌, ◌∙◌, ◌≡◌, ◌≤◌, ◌∷◌}
+use Rattle.std.proofs.Common.{None, Some, [], ap, arith, length, map, rules, subst, ◌+◌, ◌++◌, ◌∙◌, ◌≡◌, ◌≤◌, ◌∷◌}
 use Rattle.std.specs.Prelude.{vec_capacity, vec_len}
-use Rattle.block_work.specs.Block.{sealed_of}
-use Rattle.block_work.specs.Chain.{HoldsChain}
 use Rattle.block_work.specs.Results.{last_digest}
 use Rattle.node_core.proofs.Dropped_rows.{count_dropped}
-use Rattle.node_core.proofs.Seals.{can_join, seal_kept, seal_stays, seal_steps, whole}
+use Rattle.node_core.proofs.Seals.{can_join, seal_stays, sealed_kept, sealed_steps}
 use Rattle.node_core.proofs.Telling.{replays}
 use Rattle.node_core.specs.Answers.{sealed_as}
 use Rattle.node_core.specs.Core.{Core, Steps, results_in}
-use Rattle.node_core.specs.Kept.{IsNode}
 use Rattle.node_core.specs.Looking.{sealed_blocks}
 use Rattle.node_core.specs.Over.{drop_settled, not_sealed}
 use Rattle.node_core.specs.Rows.{count_held}
-use Rattle.node_core.specs.declared.working.Working.{Working}
-use Rattle.node_model.specs.History.{Sealed}
 use Rattle.node_model.specs.Steps.{Digest, ToSeal}
 use Rattle.node_model.specs.declared.journal.Event.TheVariants.{Seal}
 use Rattle.proc_check.specs.declared.checked.Checked.{Checked}
-use Rattle.proc_syntax.specs.Declaring.{tables_of}
 use Rattle.serial_laws.specs.InOrder.{EachInOrder}
 use Rattle.node_core.proofs.node.NodeCore.seal.Goals as goal
 
@@ -38,62 +32,38 @@ returns-in-Some-clause-replays g c = subst (λ (core : Core). EachInOrder core.a
 
 pub seal_work-requires-clause-can : goal.seal_work-requires-clause-can
 seal_work-requires-clause-can g c =
-    let s = c.self.inside in
-    let none : not_sealed c.height.result s.work ≡ None = search rules in
-    let all = whole _ c.self.invariant.0 c.height.result none in
-    can_join _ c.self.invariant.0 all.0 all.1
+    let none : not_sealed c.height.result c.self.inside.work ≡ None = search rules in
+    can_join _ c.self.invariant.0 c.height.result none
 
 pub invariant_of-self-2 : goal.invariant_of-self-2
 invariant_of-self-2 g c =
     let s = c.self.inside in
-    let app = s.chain.app.value.app in
-    let history = g.V.Versions.history s.chain.versions in
     let new = c.seal_work.new.chain in
     let none : not_sealed c.height.result s.work ≡ None = search rules in
-    let all = whole _ c.self.invariant.0 c.height.result none in
-    let numbered : c.in_ok-number.number ≡ all.0.done.number = subst (λ (w : Option Working). IfSome w (λ working. c.in_ok-number.number ≡ working.done.number)) all.1 c.in_ok-number.ensures.number in
-    let grows : (chain : List Sealed) → HoldsChain (tables_of app) chain history s.chain.blocks → HoldsChain (tables_of app) (chain ++ sealed_of all.0.done ∷ []) (g.V.Versions.history new.versions) new.blocks =
-    subst (λ (w : Option Working). IfSome w (λ working. (chain : List Sealed) → HoldsChain (tables_of app) chain history s.chain.blocks
-    → HoldsChain (tables_of app) (chain ++ sealed_of working.done ∷ []) (g.V.Versions.history new.versions) new.blocks)) all.1 c.in_ok-number.ensures.holds in
     let noted : c.push_reserved.new.self.items ≡ s.journal.items ++ record { actor = c.args.actor; event = Seal c.in_ok-number.number } ∷ [] = search rules in
     let same : new.app.value ≡ s.chain.app.value = search rules in
     let empty : c.seal_work.new.work ≡ None = search rules in
     let rows : c.drop_settled.new.self ≡ map (drop_settled s.ids) s.jobs = search rules in
     let fits : vec_len c.push_reserved.new.self + count_held s.jobs ≤ vec_capacity c.push_reserved.new.self = search rules in
     let counted : count_held c.drop_settled.new.self ≡ count_held s.jobs = ap count_held rows ∙ count_dropped s.ids s.jobs in (
-      subst (λ (w : Option Working). IsNode (record {
-        app = new.app.value.app;
-        tables = g.V.Versions.tables new.versions;
-        history = g.V.Versions.history new.versions;
-        results = new.blocks;
-        ids = s.ids;
-        work = w;
-        rows = c.drop_settled.new.self;
-        journal = c.push_reserved.new.self.items;
-      })) (sym empty)
-          (seal_kept _ c.self.invariant.0 all.0 all.1 all.2 c.args.actor c.in_ok-number.number c.requires.processor numbered c.push_reserved.new.self.items noted new.app.value.app (g.V.Versions.tables new.versions)
-          (g.V.Versions.history new.versions) new.blocks (ap (λ (checked : Checked). checked.app) same) c.seal_work.ensures.store grows c.drop_settled.new.self rows),
+      sealed_kept _ c.self.invariant.0 c.height.result none c.args.actor c.in_ok-number.number c.requires.processor c.in_ok-number.ensures.number c.push_reserved.new.self.items noted
+          new.app.value.app (g.V.Versions.tables new.versions) (g.V.Versions.history new.versions) new.blocks (ap (λ (checked : Checked). checked.app) same) c.seal_work.ensures.store
+          c.in_ok-number.ensures.holds c.seal_work.new.work c.drop_settled.new.self empty rows,
       omega (arith, fits, counted),
     )
 
 pub returns-clause-step : goal.returns-clause-step
 returns-clause-step g c =
     let s = c.self.inside in
-    let app = s.chain.app.value.app in
-    let history = g.V.Versions.history s.chain.versions in
     let new = c.seal_work.new.chain in
     let none : not_sealed c.height.result s.work ≡ None = search rules in
-    let all = whole _ c.self.invariant.0 c.height.result none in
-    let numbered : c.in_ok-number.number ≡ all.0.done.number = subst (λ (w : Option Working). IfSome w (λ working. c.in_ok-number.number ≡ working.done.number)) all.1 c.in_ok-number.ensures.number in
-    let grows : (chain : List Sealed) → HoldsChain (tables_of app) chain history s.chain.blocks → HoldsChain (tables_of app) (chain ++ sealed_of all.0.done ∷ []) (g.V.Versions.history new.versions) new.blocks =
-    subst (λ (w : Option Working). IfSome w (λ working. (chain : List Sealed) → HoldsChain (tables_of app) chain history s.chain.blocks
-    → HoldsChain (tables_of app) (chain ++ sealed_of working.done ∷ []) (g.V.Versions.history new.versions) new.blocks)) all.1 c.in_ok-number.ensures.holds in
     let noted : c.push_reserved.new.self.items ≡ s.journal.items ++ record { actor = c.args.actor; event = Seal c.in_ok-number.number } ∷ [] = search rules in
     let same : new.app.value ≡ s.chain.app.value = search rules in
     let digest : c.last_digest.result ≡ last_digest new.blocks = search rules in
     subst (λ (core : Core). Steps core c.args.actor ToSeal (Digest c.in_ok-number.number c.last_digest.result) (record { app = new.app.value.app; journal = c.push_reserved.new.self.items })) c.self.view_is
-    (seal_steps _ c.self.invariant.0 all.0 all.1 all.2 c.args.actor c.in_ok-number.number c.requires.processor numbered c.push_reserved.new.self.items noted new.app.value.app (g.V.Versions.tables new.versions)
-    (g.V.Versions.history new.versions) new.blocks (ap (λ (checked : Checked). checked.app) same) c.seal_work.ensures.store grows c.last_digest.result digest)
+    (sealed_steps _ c.self.invariant.0 c.height.result none c.args.actor c.in_ok-number.number c.requires.processor c.in_ok-number.ensures.number c.push_reserved.new.self.items noted
+    new.app.value.app (g.V.Versions.tables new.versions) (g.V.Versions.history new.versions) new.blocks (ap (λ (checked : Checked). checked.app) same) c.seal_work.ensures.store
+    c.in_ok-number.ensures.holds c.last_digest.result digest)
 
 pub returns-clause-replays : goal.returns-clause-replays
 returns-clause-replays g c = replays _ (invariant_of-self-2 g c).0
