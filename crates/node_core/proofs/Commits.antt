@@ -1,9 +1,8 @@
--- A commit is a step.
+-- What a commit answers, by what a node keeps.
 use Rattle.std.proofs.Common.{Bool, List, None, Option, Some, [], ap, cond, false, inl, inr, length, refl, subst, suc, sym, true, zero, ◌+◌, ◌++◌, ◌∙◌, ◌≡◌, ◌⊎◌, ◌∷◌, ◌||◌, ℕ}
 use Rattle.std.proofs.lemmas.Bool.{and_parts, false≢true}
 use Rattle.std.proofs.lemmas.List.Folds.{list_any-append}
 use Rattle.node_core.proofs.Claims.{HasNone, Numbered, early_is, numbered}
-use Rattle.node_core.proofs.Journal.{stays}
 use Rattle.node_core.proofs.Rowed.{number_of_rows, row_of, rows_put}
 use Rattle.node_core.proofs.Settled.{height_is}
 use Rattle.node_core.specs.Due.{by_job, by_number, by_row, by_stage, by_tx, due_by, or_job}
@@ -44,10 +43,6 @@ reply_of (stand.Done job) pos number = (Decided pos, Some (event.Commit pos))
 pub or_true : (b : Bool) → (b || true) ≡ true
 or_true true = refl
 or_true false = refl
-
-none_of : {X : Type 0} (found : Option X) → is_some found ≡ false → found ≡ None
-none_of None is = refl
-none_of (Some x) is = cc
 
 -- ids that were decided stay so
 any_more : (id : List ℕ) (told more : List (List ℕ)) → list_any (bytes_eq id) told ≡ true → list_any (bytes_eq id) (told ++ more) ≡ true
@@ -117,17 +112,16 @@ module _ (kept : Kept) (node : IsNode kept) (working : Working) (here : kept.wor
       answer : Option Job → Reply
       answer found = cond {A = Reply} (is_done_job found) (Decided pos, Some (event.Commit pos)) (NotReady pos (option_and_then (λ (job : Job). holder_of job.status) found), None)
 
-      stage_is : (number' : ℕ) (row : Row) (job : Job) → job_of tx (world_in kept).jobs ≡ Some job → IsRowOf (tables_of kept.app) (told_in kept.work) row job → (now : Stage) → row.stage ≡ now
-          → IsStageOf (tables_of kept.app) (told_in kept.work) now job → answer (Some job) ≡ reply_of (by_stage number' now) pos number
-      stage_is number' row job found is stage.Waiting at stays = ap (λ (s : model.Status). cond {A = Reply} (is_done s) (Decided pos, Some (event.Commit pos)) (NotReady pos (holder_of s), None)) stays
-      stage_is number' row job found is (stage.Held actor) at stays = ap (λ (s : model.Status). cond {A = Reply} (is_done s) (Decided pos, Some (event.Commit pos)) (NotReady pos (holder_of s), None)) stays
-      stage_is number' row job found is (stage.Done recorded) at stays = ap (λ (s : model.Status). cond {A = Reply} (is_done s) (Decided pos, Some (event.Commit pos)) (NotReady pos (holder_of s), None)) stays.0
-      stage_is number' row job found is stage.Taken at stays =
+      stage_is : (number' : ℕ) (job : Job) → job_of tx (world_in kept).jobs ≡ Some job → (now : Stage) → IsStageOf (tables_of kept.app) (told_in kept.work) now job → answer (Some job) ≡ reply_of (by_stage number' now) pos number
+      stage_is number' job found stage.Waiting stays = ap (λ (s : model.Status). cond {A = Reply} (is_done s) (Decided pos, Some (event.Commit pos)) (NotReady pos (holder_of s), None)) stays
+      stage_is number' job found (stage.Held actor) stays = ap (λ (s : model.Status). cond {A = Reply} (is_done s) (Decided pos, Some (event.Commit pos)) (NotReady pos (holder_of s), None)) stays
+      stage_is number' job found (stage.Done recorded) stays = ap (λ (s : model.Status). cond {A = Reply} (is_done s) (Decided pos, Some (event.Commit pos)) (NotReady pos (holder_of s), None)) stays.0
+      stage_is number' job found stage.Taken stays =
           let same : job.tx ≡ tx = same_tx-exact job.tx tx (and_parts (is_live job.status) (same_tx job.tx tx) (job_of-is tx (world_in kept).jobs job found)).1 in
           let told : list_any (bytes_eq tx.id) (ids_told working.done.outcomes.items) ≡ true =
           ap (λ (t : Tx). list_any (bytes_eq t.id) (ids_told working.done.outcomes.items)) (sym same) ∙ (ap (list_any (bytes_eq job.tx.id)) (sym told_here) ∙ stays.1) in
           absurd (false≢true (sym late ∙ told_is_early tx told))
-      stage_is number' row job found is stage.Dropped at stays =
+      stage_is number' job found stage.Dropped stays =
           let live : is_live job.status ≡ true = (and_parts (is_live job.status) (same_tx job.tx tx) (job_of-is tx (world_in kept).jobs job found)).0 in
           absurd (false≢true (sym (ap is_live stays) ∙ live))
 
@@ -136,7 +130,7 @@ module _ (kept : Kept) (node : IsNode kept) (working : Working) (here : kept.wor
       by (inr found) =
           let there = row_of (tables_of kept.app) (told_in kept.work) kept.rows (world_in kept).jobs found.number found.job found.stands node.rows in
           ap answer found.is
-          ∙ (stage_is found.number there.0 found.job found.is there.2 there.0.stage refl there.2.stage
+          ∙ (stage_is found.number found.job found.is there.0.stage there.2.stage
           ∙ (sym (ap (λ (r : Option Row). reply_of (by_row found.number r) pos number) there.1)
           ∙ sym (ap (λ (n : Option ℕ). reply_of (by_number kept.rows n) pos number) found.numbered)))
 

@@ -50,7 +50,8 @@ fn make_ready(alloc: Global, ids: &mut IdIndex, working: &mut Working) -> Result
     ensures consistent { (tables : List TableDef) → IsConsistent tables working.old.done → IsConsistent tables working.new.done }
     ensures id { IfOk result (λ id. option_map (λ tx. tx.id) (due (shown_work working.old)) ≡ Some id) }
     ensures room { OnOk result (HasRoom working.new.done) }
-    ensures added { IfOk result (λ id. AddsPlace ids.old ids.new id (record { block = working.old.done.number; pos = length working.old.done.outcomes.items + 1 })) }
+    ensures added { IfOk result (λ id. AddsPlace ids.old ids.new id
+        (record { block = working.old.done.number; pos = length working.old.done.outcomes.items + 1 })) }
     ensures same_places { OnErr result (SamePlaces ids.old ids.new) }
 {
     let place = Place {
@@ -79,7 +80,8 @@ fn abort_due(
     requires few { length working.old.done.outcomes.items < 1024 }
     requires due { IsSome (due (shown_work working.old)) }
     requires cause { IsCause cause }
-    ensures decided { OnOk result ((tx : Tx) → due (shown_work working.old) ≡ Some tx → (ran : Ran) → IsDecided working.old working.new ids.old ids.new tx ran cause) }
+    ensures decided { OnOk result ((tx : Tx) → due (shown_work working.old) ≡ Some tx → (ran : Ran)
+        → IsDecided working.old working.new ids.old ids.new tx ran cause) }
     ensures consistent { (tables : List TableDef) → IsConsistent tables working.old.done → IsConsistent tables working.new.done }
     ensures block { working.new.block ≡ working.old.block }
     ensures same { OnErr result (IsSameWork working.old.done working.new.done) }
@@ -118,8 +120,10 @@ fn judge_job<V: Versions>(
     requires number { 0 < work.now.number }
     requires few { length work.now.outcomes.items < 1024 }
     requires consistent { IsConsistent (tables_of chain.now.app.value.app) work.now }
-    ensures outcome { IfOk result (λ verdict. (done : IsDone (tables_of chain.now.app.value.app) jobs.now number) → outcome_of verdict ≡ outcome_by (tables_of chain.now.app.value.app) (V.history chain.now.versions) work.now jobs.now done) }
-    ensures sound { IfOk result (λ verdict. (done : IsDone (tables_of chain.now.app.value.app) jobs.now number) → IsVerdictOn (tables_of chain.now.app.value.app) work.now.committed.items done.recorded.ran verdict) }
+    ensures outcome { IfOk result (λ verdict. (done : IsDone (tables_of chain.now.app.value.app) jobs.now number)
+        → outcome_of verdict ≡ outcome_by (tables_of chain.now.app.value.app) (V.history chain.now.versions) work.now jobs.now done) }
+    ensures sound { IfOk result (λ verdict. (done : IsDone (tables_of chain.now.app.value.app) jobs.now number)
+        → IsVerdictOn (tables_of chain.now.app.value.app) work.now.committed.items done.recorded.ran verdict) }
 {
     match jobs.get(number) {
         Some(
@@ -149,7 +153,8 @@ fn decide_due<V: Versions>(
     requires due { IsSome (due (shown_work working.old)) }
     requires consistent { IsConsistent (tables_of chain.now.app.value.app) working.old.done }
     ensures decided { OnOk result ((tx : Tx) → due (shown_work working.old) ≡ Some tx → (done : IsDone (tables_of chain.now.app.value.app) jobs.old number)
-        → IsDecided working.old working.new ids.old ids.new tx done.recorded.ran (outcome_by (tables_of chain.now.app.value.app) (V.history chain.now.versions) working.old.done jobs.old done)) }
+        → IsDecided working.old working.new ids.old ids.new tx done.recorded.ran
+        (outcome_by (tables_of chain.now.app.value.app) (V.history chain.now.versions) working.old.done jobs.old done)) }
     ensures consistent { IsConsistent (tables_of chain.now.app.value.app) working.new.done }
     ensures block { working.new.block ≡ working.old.block }
     ensures rows { OnOk result (jobs.new ≡ put_row jobs.old number Taken) }
