@@ -11,8 +11,7 @@ use Rattle.block_work.proofs.Places.{is_known, places_sealed}
 use Rattle.block_work.specs.Block.{sealed_of}
 use Rattle.block_work.specs.Chain.{HoldsChain, StoreFits}
 use Rattle.block_work.specs.Ids.{HasFirstPlaces, place_of}
-use Rattle.block_work.specs.Results as results
-use Rattle.node_core.proofs.Journal.{core_of, facts, legal_noted, stays, steps, world_noted}
+use Rattle.node_core.proofs.Journal.{core_of, facts, legal_noted, stays, world_noted}
 use Rattle.node_core.proofs.Rowed.{status_is}
 use Rattle.node_core.proofs.Settled.{height_is, number_next}
 use Rattle.node_core.specs.Answers.{sealed_as}
@@ -42,13 +41,6 @@ use Rattle.proc_syntax.specs.declared.tree.App.{App}
 use Rattle.rel_base.specs.Tables.{Stamped}
 use Rattle.rel_base.specs.declared.schema.TableDef.{TableDef}
 use Rattle.schedule_laws.proofs.Chains.{settled-known}
-
--- ---- digests
-
--- the last digest has two definitions, which are the same
-same_digest : (previous : List ℕ) (blocks : List BlockResult) → results.digest_after previous blocks ≡ fold.digest_after previous blocks
-same_digest previous [] = refl
-same_digest previous (block ∷ rest) = same_digest block.digest rest
 
 -- ---- rows
 
@@ -220,12 +212,6 @@ module _ (kept : Kept) (node : IsNode kept) (working : Working) (here : kept.wor
             (rows_after kept.rows (world_in kept).jobs (subst (λ (w : Option Working). AreRowsOf (tables_of kept.app) (told_in w) kept.rows (world_in kept).jobs) here node.rows)));
       }) sound
 
-      seal_steps : (digest : List ℕ) → digest ≡ results.last_digest results' → Steps (core_of kept) actor ToSeal (Digest number digest) (record { app = app'; journal = journal' })
-      seal_steps digest is =
-          subst (λ (app : App). Steps (core_of kept) actor ToSeal (Digest number digest) (record { app = app; journal = journal' })) (sym same_app)
-          (subst (λ d. Steps (core_of kept) actor ToSeal (Digest number d) (record { app = kept.app; journal = journal' })) (sym (is ∙ same_digest no_digest results' ∙ ap (fold.digest_after no_digest) holds_after.results))
-          (steps kept node actor ToSeal (Digest number (last_digest (tables_of kept.app) grown)) (Seal number) zero_actor told journal' noted))
-
 -- ---- by what is known of the parts
 
 pub can_join : (kept : Kept) (node : IsNode kept) (height : ℕ) → not_sealed height kept.work ≡ None → IsSomeAnd kept.work (CanJoin (tables_of kept.app) (length kept.results))
@@ -253,7 +239,3 @@ module _ (kept : Kept) (node : IsNode kept) (height : ℕ) (none : not_sealed he
   sealed_kept work' rows' empty are =
       subst (λ (w : Option Working). IsNode (record { app = app'; tables = tables'; history = history'; results = results'; ids = kept.ids; work = w; rows = rows'; journal = journal' })) (sym empty)
       (seal_kept kept node in_work.0 in_work.1 in_work.2 actor number zero_actor numbered_so journal' noted app' tables' history' results' same_app sound grows_so rows' are)
-
-  pub sealed_steps : (digest : List ℕ) → digest ≡ results.last_digest results' → Steps (core_of kept) actor ToSeal (Digest number digest) (record { app = app'; journal = journal' })
-  sealed_steps digest is =
-      seal_steps kept node in_work.0 in_work.1 in_work.2 actor number zero_actor numbered_so journal' noted app' tables' history' results' same_app sound grows_so digest is

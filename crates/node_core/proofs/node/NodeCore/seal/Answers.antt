@@ -1,15 +1,14 @@
 use Rattle.std.proofs.Common.{None, Some, [], ap, arith, length, map, rules, subst, ◌+◌, ◌++◌, ◌∙◌, ◌≡◌, ◌≤◌, ◌∷◌}
 use Rattle.std.specs.Prelude.{vec_capacity, vec_len}
-use Rattle.block_work.specs.Results.{last_digest}
 use Rattle.node_core.proofs.Dropped_rows.{count_dropped}
-use Rattle.node_core.proofs.Seals.{can_join, seal_stays, sealed_kept, sealed_steps}
+use Rattle.node_core.proofs.Seals.{can_join, seal_stays, sealed_kept}
 use Rattle.node_core.proofs.Telling.{replays}
 use Rattle.node_core.specs.Answers.{sealed_as}
 use Rattle.node_core.specs.Core.{Core, Steps, results_in}
 use Rattle.node_core.specs.Looking.{sealed_blocks}
 use Rattle.node_core.specs.Over.{drop_settled, not_sealed}
 use Rattle.node_core.specs.Rows.{count_held}
-use Rattle.node_model.specs.Steps.{Digest, ToSeal}
+use Rattle.node_model.specs.Steps.{ToSeal}
 use Rattle.node_model.specs.declared.journal.Event.TheVariants.{Seal}
 use Rattle.proc_check.specs.declared.checked.Checked.{Checked}
 use Rattle.serial_laws.specs.InOrder.{EachInOrder}
@@ -51,19 +50,6 @@ invariant_of-self-2 g c =
           c.in_ok-number.ensures.holds c.seal_work.new.work c.drop_settled.new.self empty rows,
       omega (arith, fits, counted),
     )
-
-pub returns-clause-step : goal.returns-clause-step
-returns-clause-step g c =
-    let s = c.self.inside in
-    let new = c.seal_work.new.chain in
-    let none : not_sealed c.height.result s.work ≡ None = search rules in
-    let noted : c.push_reserved.new.self.items ≡ s.journal.items ++ record { actor = c.args.actor; event = Seal c.in_ok-number.number } ∷ [] = search rules in
-    let same : new.app.value ≡ s.chain.app.value = search rules in
-    let digest : c.last_digest.result ≡ last_digest new.blocks = search rules in
-    subst (λ (core : Core). Steps core c.args.actor ToSeal (Digest c.in_ok-number.number c.last_digest.result) (record { app = new.app.value.app; journal = c.push_reserved.new.self.items })) c.self.view_is
-    (sealed_steps _ c.self.invariant.0 c.height.result none c.args.actor c.in_ok-number.number c.requires.processor c.in_ok-number.ensures.number c.push_reserved.new.self.items noted
-    new.app.value.app (g.V.Versions.tables new.versions) (g.V.Versions.history new.versions) new.blocks (ap (λ (checked : Checked). checked.app) same) c.seal_work.ensures.store
-    c.in_ok-number.ensures.holds c.last_digest.result digest)
 
 pub returns-clause-replays : goal.returns-clause-replays
 returns-clause-replays g c = replays _ (invariant_of-self-2 g c).0
