@@ -14,12 +14,11 @@ use Rattle.node_core.specs.Kept.{IsNode, IsRowOf, IsStageOf, Kept, told_in, worl
 use Rattle.node_core.specs.declared.jobs.Row.{Row}
 use Rattle.node_core.specs.declared.jobs.Stage.TheVariants as stage
 use Rattle.node_core.specs.declared.jobs.Stage.{Stage}
-use Rattle.node_model.specs.Events.{after, hit_since, made_at, next_read, read_on, record_read, settled_in}
-use Rattle.node_model.specs.History.{history_of, snapshot, time_at}
+use Rattle.node_model.specs.Events.{after, hit_since, next_read, read_on, record_read, settled_in}
+use Rattle.node_model.specs.History.{snapshot, time_at}
 use Rattle.node_model.specs.Journals.{world}
-use Rattle.node_model.specs.Steps.{Answer, Gone, May, Reply, ToRead, doomed_or_rows, place_of, reads, reads_unless, reply}
-use Rattle.node_model.specs.World as model
-use Rattle.node_model.specs.World.{Job, Status, World, is_done, is_held, is_waiting, job_at}
+use Rattle.node_model.specs.Steps.{Gone, May, Reply, ToRead, doomed_or_rows, place_of, reads, reads_unless, reply}
+use Rattle.node_model.specs.World.{Job, World, is_held, job_at}
 use Rattle.node_model.specs.declared.journal.Entry.{Entry}
 use Rattle.node_model.specs.declared.journal.Event.TheVariants as event
 use Rattle.proc_run.proofs.Driven.{order_of}

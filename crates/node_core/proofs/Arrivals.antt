@@ -1,5 +1,5 @@
 -- An arrival is a step.
-use Rattle.std.proofs.Common.{Bool, List, None, Option, Some, [], ap, cond, false, length, map, refl, subst, sym, true, ◌+◌, ◌++◌, ◌||◌, ◌∙◌, ◌≡◌, ◌∷◌, ℕ}
+use Rattle.std.proofs.Common.{Bool, List, None, Option, Some, [], ap, cond, false, length, refl, subst, sym, true, ◌+◌, ◌++◌, ◌||◌, ◌∙◌, ◌≡◌, ◌∷◌, ℕ}
 use Rattle.std.specs.Option.{is_some, option_map}
 use Rattle.block_work.specs.Ids.{place_of}
 use Rattle.node_core.proofs.Journal.{core_of, quiet, stays, steps}

@@ -1,5 +1,5 @@
 -- A claim is a step, and what was claimed is held.
-use Rattle.std.proofs.Common.{Bool, IsSome, List, None, Option, Some, [], ap, arith, cond, false, inl, inr, length, map, refl, slice_get, subst, suc, sym, true, zero, ⊎_elim, ◌%◌, ◌+◌, ◌++◌, ◌∙◌, ◌≡◌, ◌≤◌, ◌⊎◌, ◌∷◌, ℕ}
+use Rattle.std.proofs.Common.{Bool, IsSome, List, None, Option, Some, [], ap, arith, cond, false, inl, inr, length, refl, slice_get, subst, suc, sym, true, zero, ◌%◌, ◌+◌, ◌++◌, ◌∙◌, ◌≡◌, ◌≤◌, ◌⊎◌, ◌∷◌, ℕ}
 use Rattle.std.proofs.lemmas.Bool.{false≢true}
 use Rattle.std.proofs.lemmas.Option.{none-some, same_Some}
 use Rattle.std.specs.List.{position_from}
@@ -8,13 +8,13 @@ use Rattle.std.specs.Prelude.{IfSome, ℤ}
 use Rattle.block_work.proofs.Places.{is_known}
 use Rattle.block_work.specs.Causes.{early_by}
 use Rattle.block_work.specs.Ids.{HasFirstPlaces, place_of}
-use Rattle.node_core.proofs.Journal.{core_of, facts, quiet, world_noted}
+use Rattle.node_core.proofs.Journal.{facts, quiet, world_noted}
 use Rattle.node_core.proofs.Rowed.{eligible_of_rows, number_of_rows, row_of, rows_put, status_is}
 use Rattle.node_core.proofs.Settled.{height_is}
 use Rattle.node_core.proofs.Table.{count_put}
 use Rattle.node_core.specs.Choosing.{due_in, due_of, if_waiting, waiting_in}
 use Rattle.node_core.specs.Core.{IsHeld}
-use Rattle.node_core.specs.InHand.{InHand, job_in}
+use Rattle.node_core.specs.InHand.{InHand}
 use Rattle.node_core.specs.Kept.{AreRowsOf, IsNode, IsRowOf, IsWorkingOn, Kept, number_of_work, outcomes_of, shown_work, told_in, world_in}
 use Rattle.node_core.specs.Rows.{count_held, put_row, row_at, row_waits, shown_all, status_of}
 use Rattle.node_core.specs.declared.jobs.Row.{Row}
@@ -25,7 +25,7 @@ use Rattle.node_model.specs.Decide.{early}
 use Rattle.node_model.specs.Events.{after, claimed}
 use Rattle.node_model.specs.History.{ids_of, ids_told, time_at}
 use Rattle.node_model.specs.Journals.{world}
-use Rattle.node_model.specs.Steps.{Claimed, May, Reply, ToClaim, chosen, claims, due_number, early_cause, waiting_number}
+use Rattle.node_model.specs.Steps.{Claimed, May, ToClaim, chosen, claims, due_number, early_cause, waiting_number}
 use Rattle.node_model.specs.World as model
 use Rattle.node_model.specs.World.{BlockInWork, Job, World, change_job, change_place, due, eligible, is_for, is_held, is_waiting, job_at, job_of, number_of}
 use Rattle.node_model.specs.declared.journal.Entry.{Entry}

@@ -1,10 +1,9 @@
 -- A delivery is a step.
-use Rattle.std.proofs.Common.{Bool, IfSome, List, None, Option, Some, [], ap, append-nil, arith, cond, false, length, map, refl, subst, sym, true, ◌+◌, ◌++◌, ◌==◌, ◌||◌, ◌∙◌, ◌≡◌, ◌∷◌, ℕ}
+use Rattle.std.proofs.Common.{List, None, Option, Some, [], ap, append-nil, cond, false, length, map, refl, subst, sym, true, ◌+◌, ◌++◌, ◌==◌, ◌||◌, ◌∙◌, ◌≡◌, ◌∷◌, ℕ}
 use Rattle.std.proofs.Math.Bool.{Bool-set}
 use Rattle.std.proofs.Math.Bridge.{le_prop}
 use Rattle.std.proofs.lemmas.Bool.{eq-eqb}
 use Rattle.std.proofs.lemmas.List.Folds.{list_any-append}
-use Rattle.std.proofs.lemmas.Option.{none-some}
 use Rattle.std.specs.List.{list_any}
 use Rattle.std.specs.Option.{is_some, option_map}
 use Rattle.std.specs.Prelude.{int_le, pos, ◌≤◌, ℤ}
@@ -13,7 +12,7 @@ use Rattle.block_work.proofs.Places.{is_known}
 use Rattle.block_work.specs.Block.{work_of}
 use Rattle.block_work.specs.Causes.{early_by}
 use Rattle.block_work.specs.Chain.{HoldsChain}
-use Rattle.block_work.specs.Ids.{HasFirstPlaces, place_of}
+use Rattle.block_work.specs.Ids.{HasFirstPlaces}
 use Rattle.node_core.proofs.Fresh_jobs.{fresh_is, grow}
 use Rattle.node_core.proofs.Journal.{core_of, legal_noted, stays, steps, world_noted}
 use Rattle.node_core.proofs.Rowed.{has_job}
@@ -27,14 +26,12 @@ use Rattle.node_core.specs.declared.working.Working.{Working}
 use Rattle.node_model.specs.Decide.{early}
 use Rattle.node_model.specs.Events.{after, needs_no_job, with_jobs}
 use Rattle.node_model.specs.Fold.{Work, no_work}
-use Rattle.node_model.specs.History.{Sealed, ids_of, ids_told}
+use Rattle.node_model.specs.History.{ids_of, ids_told}
 use Rattle.node_model.specs.Journals.{world}
 use Rattle.node_model.specs.Steps.{InWork, NotNext, Reply, Shared, Taken, ToDeliver, delivers, reply}
-use Rattle.node_model.specs.World as model
-use Rattle.node_model.specs.World.{BlockInWork, Job, World, job_of, new_job, number_of}
+use Rattle.node_model.specs.World.{Job, World, new_job, number_of}
 use Rattle.node_model.specs.declared.journal.Entry.{Entry}
 use Rattle.node_model.specs.declared.journal.Event.TheVariants.{Deliver}
-use Rattle.node_model.specs.declared.outcome.Outcome.{Outcome}
 use Rattle.node_model.specs.declared.result.Told.{Told}
 use Rattle.proc_syntax.specs.Declaring.{tables_of}
 use Rattle.proc_syntax.specs.declared.call.Block.{Block}

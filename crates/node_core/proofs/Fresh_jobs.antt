@@ -1,21 +1,18 @@
 -- Which transactions of a block get a new job.
-use Rattle.std.proofs.Common.{Bool, IsSome, List, None, Option, Some, [], ap, append-nil, append_assoc, arith, cond, drop, false, length, length-append, map, refl, subst, sym, take, true, ◌&&◌, ◌+◌, ◌++◌, ◌||◌, ◌∙◌, ◌≡◌, ◌∷◌, ℕ}
+use Rattle.std.proofs.Common.{Bool, List, None, Option, Some, [], ap, append-nil, append_assoc, cond, false, length, length-append, map, refl, sym, take, true, ◌+◌, ◌++◌, ◌||◌, ◌∙◌, ◌≡◌, ◌∷◌, ℕ}
 use Rattle.std.proofs.lemmas.Bool.{and_parts, false≢true}
 use Rattle.std.proofs.lemmas.List.Folds.{list_any-append}
 use Rattle.std.proofs.lemmas.List.{map-append}
 use Rattle.std.proofs.lemmas.Slice.Eq.{bytes_eq-Decides}
-use Rattle.std.specs.List.{find, list_any}
+use Rattle.std.specs.List.{list_any}
 use Rattle.std.specs.Option.{is_some}
 use Rattle.std.specs.Str.{bytes_eq}
-use Rattle.block_work.specs.Ids.{HasFirstPlaces, place_of}
-use Rattle.block_work.specs.Causes.{early_by}
 use Rattle.block_work.specs.declared.ids.IdIndex.{IdIndex}
 use Rattle.node_core.specs.Fresh.{fresh_in, needs_none}
-use Rattle.node_core.specs.Rows.{shown_all}
 use Rattle.node_core.specs.declared.jobs.Row.{Row}
 use Rattle.node_model.specs.Decide.{early}
 use Rattle.node_model.specs.Events.{needs_no_job, with_jobs}
-use Rattle.node_model.specs.World.{Job, is_for, job_of, new_job, number_of, same_tx}
+use Rattle.node_model.specs.World.{Job, is_for, job_of, new_job}
 use Rattle.node_model.specs.declared.outcome.Outcome.{Outcome}
 use Rattle.proc_syntax.specs.declared.call.Tx.{Tx}
 use Rattle.proc_syntax.specs.declared.tree.App.{App}

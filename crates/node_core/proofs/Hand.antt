@@ -1,5 +1,5 @@
 -- A work, and what its machine tells.
-use Rattle.std.proofs.Common.{Bool, None, Option, Some, ap, false, refl, subst, sym, true, ◌||◌, ◌∙◌, ◌≡◌}
+use Rattle.std.proofs.Common.{Bool, Option, Some, ap, false, refl, subst, sym, ◌||◌, ◌∙◌, ◌≡◌}
 use Rattle.std.proofs.lemmas.Bool.{false≢true}
 use Rattle.node_core.specs.InHand.{IsInHand, run_on}
 use Rattle.proc_run.specs.Told.{Agrees, IsNext, Tells, Told, WantFits}

@@ -1,7 +1,6 @@
 -- A held work: its row, and the tables that it reads.
-use Rattle.std.proofs.Common.{All, Bool, IsSome, List, None, Option, Some, [], ap, arith, cond, false, length, length-append, refl, slice_get, subst, suc, sym, true, zero, ◌+◌, ◌++◌, ◌<◌, ◌∙◌, ◌≡◌, ◌≤◌, ◌∷◌, ℕ}
+use Rattle.std.proofs.Common.{All, List, Option, Some, [], ap, arith, cond, false, length, length-append, refl, slice_get, subst, sym, true, ◌+◌, ◌++◌, ◌<◌, ◌∙◌, ◌≡◌, ◌≤◌, ◌∷◌, ℕ}
 use Rattle.std.proofs.lemmas.List.Elements.{All-cons, All-head, All-tail}
-use Rattle.std.proofs.lemmas.Option.{none-some, same_Some}
 use Rattle.std.specs.List.{AllByRecursion}
 use Rattle.std.specs.Option.{IsSomeAnd, option_map}
 use Rattle.std.specs.Prelude.{◌^◌, ℤ}
@@ -19,7 +18,7 @@ use Rattle.node_core.specs.declared.jobs.Stage.{Stage}
 use Rattle.node_model.specs.Decide.{run_at}
 use Rattle.node_model.specs.Events.{next_read}
 use Rattle.node_model.specs.History.{snapshot, time_at}
-use Rattle.node_model.specs.World.{Job, is_held}
+use Rattle.node_model.specs.World.{is_held}
 use Rattle.proc_run.specs.Told.{Agrees}
 use Rattle.proc_syntax.proofs.Runs.{few_reads, reads_are_rows, reads_fit}
 use Rattle.proc_syntax.specs.Declaring.{tables_of}

@@ -1,10 +1,9 @@
 -- A journal with one entry more, and a node after a step.
-use Rattle.std.proofs.Common.{List, None, Option, Some, [], ap, refl, subst, sym, ◌++◌, ◌∙◌, ◌≡◌, ◌∷◌, ℕ}
-use Rattle.std.specs.Option.{option_map}
+use Rattle.std.proofs.Common.{List, None, Some, [], ap, refl, subst, sym, ◌++◌, ◌∙◌, ◌≡◌, ◌∷◌, ℕ}
 use Rattle.block_work.specs.Chain.{HoldsChain}
 use Rattle.block_work.specs.Ids.{HasFirstPlaces}
-use Rattle.node_core.specs.Core.{Core, MayAsk, Steps, entries_for, world_of}
-use Rattle.node_core.specs.Kept.{AreRowsOf, IsNode, Kept, number_of_work, outcomes_of, shown_work, told_in, world_in}
+use Rattle.node_core.specs.Core.{Core, Steps, entries_for}
+use Rattle.node_core.specs.Kept.{AreRowsOf, IsNode, Kept, number_of_work, outcomes_of, told_in, world_in}
 use Rattle.node_core.specs.declared.jobs.Row.{Row}
 use Rattle.node_model.specs.Events.{after}
 use Rattle.node_model.specs.Journals.{IsLegal, IsLegalFrom, IsStep, world, world_from}

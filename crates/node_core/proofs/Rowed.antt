@@ -1,16 +1,14 @@
 -- Rows that are those of jobs.
-use Rattle.std.proofs.Common.{Bool, IsSome, List, None, Option, Some, [], ap, arith, cond, false, find, length, map, refl, slice_get, subst, suc, sym, true, zero, ◌&&◌, ◌+◌, ◌++◌, ◌∙◌, ◌≡◌, ◌∷◌, ℕ}
+use Rattle.std.proofs.Common.{Bool, List, Some, [], ap, cond, false, length, map, refl, slice_get, subst, suc, sym, true, zero, ◌+◌, ◌++◌, ◌∙◌, ◌≡◌, ◌∷◌, ℕ}
 use Rattle.std.proofs.lemmas.Option.{none-some, same_Some}
-use Rattle.std.specs.List.{enumerate_from, filter, list_any, position_from}
+use Rattle.std.specs.List.{enumerate_from, filter, position_from}
 use Rattle.std.specs.Option.{is_some}
-use Rattle.std.specs.Str.{bytes_eq}
 use Rattle.node_core.specs.Kept.{AreRowsOf, IsRowOf, IsStageOf}
-use Rattle.node_core.specs.Rows.{at_stage, new_row, put_at, put_row, row_at, shown, shown_all, status_of}
+use Rattle.node_core.specs.Rows.{at_stage, new_row, put_at, put_row, row_at, shown_all, status_of}
 use Rattle.node_core.specs.declared.jobs.Row.{Row}
 use Rattle.node_core.specs.declared.jobs.Stage.TheVariants as stage
 use Rattle.node_core.specs.declared.jobs.Stage.{Stage}
 use Rattle.node_model.specs.Steps.{Shared}
-use Rattle.node_model.specs.World as model
 use Rattle.node_model.specs.World.{Job, Status, change_job, change_place, eligible, is_eligible, is_for, job_at, job_of, new_job, number_of, unread}
 use Rattle.proc_syntax.specs.declared.call.Tx.{Tx}
 use Rattle.rel_base.specs.declared.schema.TableDef.{TableDef}

@@ -1,14 +1,13 @@
 -- The table of jobs: rows that are changed and counted.
-use Rattle.std.proofs.Common.{Bool, IsSome, List, None, Option, Some, [], ap, arith, cond, false, length, map, refl, slice_get, slice_index_or, slice_set, suc, sym, true, zero, ◌&&◌, ◌+◌, ◌-◌, ◌<◌, ◌++◌, ◌∙◌, ◌≡◌, ◌≤◌, ◌∷◌, ℕ}
-use Rattle.std.proofs.lemmas.Bool.{false≢true}
+use Rattle.std.proofs.Common.{Bool, List, None, Option, Some, [], ap, arith, cond, false, length, map, refl, slice_get, slice_index_or, slice_set, suc, sym, true, zero, ◌+◌, ◌<◌, ◌++◌, ◌∙◌, ◌≡◌, ◌≤◌, ◌∷◌, ℕ}
 use Rattle.std.proofs.lemmas.Option.{none-some, same_Some}
 use Rattle.std.specs.List.{enumerate_from, filter, position_from}
 use Rattle.std.specs.Option.{option_map}
-use Rattle.node_core.specs.Rows.{at_stage, count_held, eligible_rows, new_row, one_held, put_at, put_row, row_at, row_is_eligible, row_is_for, shown, shown_all, status_of}
+use Rattle.node_core.specs.Rows.{count_held, eligible_rows, new_row, one_held, put_at, put_row, row_at, row_is_eligible, row_is_for, shown, shown_all, status_of}
 use Rattle.node_core.specs.declared.jobs.Row.{Row}
 use Rattle.node_core.specs.declared.jobs.Stage.{Stage}
 use Rattle.node_model.specs.Steps.{Shared}
-use Rattle.node_model.specs.World.{Job, eligible, is_eligible, is_for, is_held, number_of}
+use Rattle.node_model.specs.World.{Job, eligible, is_eligible, is_for, is_held}
 use Rattle.proc_syntax.specs.declared.call.Tx.{Tx}
 
 -- ---- how many are held

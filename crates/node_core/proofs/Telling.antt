@@ -1,12 +1,12 @@
 -- What a node tells of its state, and what that comes to.
-use Rattle.std.proofs.Common.{Bool, List, None, Option, Some, [], ap, arith, cond, false, length, refl, subst, sym, take, true, zero, suc, ◌+◌, ◌∙◌, ◌≡◌, ◌≤◌, ◌∷◌, ℕ}
+use Rattle.std.proofs.Common.{List, [], ap, arith, cond, false, length, subst, sym, take, true, zero, suc, ◌+◌, ◌∙◌, ◌≡◌, ◌≤◌, ◌∷◌, ℕ}
 use Rattle.std.proofs.lemmas.Bool.Decides.{nat_tests}
 use Rattle.std.specs.Prelude.{nat_le}
 use Rattle.block_work.proofs.Replayed.{results_run_again}
 use Rattle.block_work.specs.Chain.{HoldsChain}
 use Rattle.node_core.proofs.Journal.{core_of}
 use Rattle.node_core.proofs.Settled.{height_is}
-use Rattle.node_core.specs.Core.{results_in, world_of}
+use Rattle.node_core.specs.Core.{results_in}
 use Rattle.node_core.specs.Kept.{IsNode, Kept, world_in}
 use Rattle.node_core.specs.Looking.{looks, sealed_blocks}
 use Rattle.node_core.specs.declared.answers.Looked.TheVariants as looked

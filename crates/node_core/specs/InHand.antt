@@ -15,7 +15,7 @@ use Rattle.rel_base.specs.Tables.{Tables}
 use Rattle.rel_base.specs.declared.access.Made.{Made}
 use Rattle.rel_base.specs.declared.access.Read.{Read}
 use Rattle.rel_base.specs.declared.access.Seen.{Seen}
-use Rattle.std.specs.Prelude.{Bool, IfSome, IsSome, List, None, Option, Some, [], false, true, ◌++◌, ◌||◌, ◌≡◌, ◌∷◌, ℕ}
+use Rattle.std.specs.Prelude.{Bool, IfSome, IsSome, List, None, Option, [], false, true, ◌++◌, ◌||◌, ◌≡◌, ◌∷◌, ℕ}
 
 -- the job's number and actor; what its machine tells: application, call, time, the reads so far with their rows, the read that it wants,
 -- and whether its run has ended; whether the run was cut after a late read; and whether its last read found the id settled

@@ -23,7 +23,7 @@ use Rattle.rel_base.specs.declared.access.Place.{Place}
 use Rattle.rel_base.specs.declared.schema.TableDef.{TableDef}
 use Rattle.std.specs.List.{list_any}
 use Rattle.std.specs.Option.{option_map}
-use Rattle.std.specs.Prelude.{Bool, IfSome, List, None, Option, Some, [], cond, nat_le, true, ◌≡◌, ◌∷◌, ℕ}
+use Rattle.std.specs.Prelude.{IfSome, List, None, Option, Some, [], cond, nat_le, true, ◌≡◌, ◌∷◌, ℕ}
 use Rattle.std.specs.Str.{bytes_eq}
 
 -- ---- jobs

@@ -11,7 +11,6 @@ use Rattle.node_model.specs.declared.result.NodeResult.{NodeResult}
 use Rattle.node_model.specs.declared.result.Told.{Told}
 use Rattle.proc_syntax.specs.Declaring.{tables_of}
 use Rattle.proc_syntax.specs.declared.call.Block.{Block}
-use Rattle.proc_syntax.specs.declared.tree.App.{App}
 use Rattle.rel_base.specs.Among.{rows_in}
 use Rattle.rel_base.specs.declared.access.Read.{Read}
 use Rattle.std.specs.List.{find, flat_map}

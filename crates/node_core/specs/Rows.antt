@@ -1,5 +1,4 @@
 -- What a node keeps of its jobs, as contracts see it: a row for each, with its transaction and how far it is.
-use Rattle.node_core.specs.declared.jobs.Record.{Record}
 use Rattle.node_core.specs.declared.jobs.Row.{Row}
 use Rattle.node_core.specs.declared.jobs.Stage.TheVariants as stage
 use Rattle.node_core.specs.declared.jobs.Stage.{Stage}

@@ -1,4 +1,4 @@
-use Rattle.std.proofs.Common.{rules, ◌≡◌}
+use Rattle.std.proofs.Common.{rules}
 use Rattle.node_core.proofs.Deliveries.{same_block}
 use Rattle.node_core.proofs.delivering.copy_block.Goals as goal
 

@@ -1,4 +1,4 @@
-use Rattle.std.proofs.Common.{List, drop, map, ◌++◌, ◌≡◌}
+use Rattle.std.proofs.Common.{drop, map, ◌++◌, ◌≡◌}
 use Rattle.node_core.specs.Fresh.{fresh_in}
 use Rattle.node_core.proofs.delivering.fresh_txs.Given as goal
 

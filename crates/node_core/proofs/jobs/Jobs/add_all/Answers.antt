@@ -1,4 +1,4 @@
-use Rattle.std.proofs.Common.{List, ap, map, rules, sym, ◌++◌, ◌∙◌, ◌≡◌}
+use Rattle.std.proofs.Common.{ap, map, rules, sym, ◌++◌, ◌∙◌, ◌≡◌}
 use Rattle.node_core.proofs.Table.{count_many}
 use Rattle.node_core.specs.Rows.{count_held, new_row}
 use Rattle.node_core.proofs.jobs.Jobs.add_all.Goals as goal

@@ -1,4 +1,4 @@
-use Rattle.std.proofs.Common.{List, rules, ◌≡◌, ◌∙◌, ap}
+use Rattle.std.proofs.Common.{rules, ◌≡◌, ◌∙◌, ap}
 use Rattle.std.specs.List.{position_from}
 use Rattle.node_core.proofs.Table.{number_is}
 use Rattle.node_core.specs.Rows.{row_is_for}

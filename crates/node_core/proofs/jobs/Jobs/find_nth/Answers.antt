@@ -1,4 +1,4 @@
-use Rattle.std.proofs.Common.{List, length, rules, sym, ◌%◌, ◌≡◌, ◌∙◌, ap}
+use Rattle.std.proofs.Common.{length, rules, sym, ◌%◌, ◌≡◌, ◌∙◌, ap}
 use Rattle.std.specs.Prelude.{slice_get}
 use Rattle.node_core.proofs.Table.{eligible_is, none_at}
 use Rattle.node_core.specs.Rows.{eligible_rows, shown_all}

@@ -1,8 +1,6 @@
-use Rattle.std.proofs.Common.{Some, ap, arith, rules, sym, length, ◌+◌, ◌<◌, ◌^◌, ◌≡◌, ◌≤◌, ◌∙◌, ◌-◌}
-use Rattle.std.specs.Option.{option_map}
+use Rattle.std.proofs.Common.{ap, arith, rules, length, ◌+◌, ◌<◌, ◌^◌, ◌≡◌, ◌-◌}
 use Rattle.node_core.proofs.Table.{Change, change_of}
-use Rattle.node_core.specs.Rows.{count_held, one_held, put_row, row_at}
-use Rattle.node_core.specs.declared.jobs.Row.{Row}
+use Rattle.node_core.specs.Rows.{count_held, put_row}
 use Rattle.node_core.proofs.jobs.Jobs.set.Goals as goal
 
 pub overflow_sub-self : goal.overflow_sub-self

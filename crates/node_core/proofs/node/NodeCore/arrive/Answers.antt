@@ -1,4 +1,4 @@
-use Rattle.std.proofs.Common.{List, [], ap, arith, length, rules, refl, subst, sym, ◌+◌, ◌++◌, ◌∙◌, ◌≡◌, ◌≤◌, ◌∷◌}
+use Rattle.std.proofs.Common.{[], ap, arith, length, rules, refl, subst, ◌+◌, ◌++◌, ◌∙◌, ◌≡◌, ◌≤◌, ◌∷◌}
 use Rattle.std.specs.Prelude.{vec_capacity, vec_len}
 use Rattle.node_core.proofs.Arrivals.{arrive_kept, arrive_stays, arrive_steps}
 use Rattle.node_core.proofs.Table.{count_more}

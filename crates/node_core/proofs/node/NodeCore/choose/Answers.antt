@@ -1,4 +1,4 @@
-use Rattle.std.proofs.Common.{ap, length, rules, subst, sym, ◌%◌, ◌∙◌, ◌≡◌}
+use Rattle.std.proofs.Common.{ap, length, rules, sym, ◌%◌, ◌∙◌, ◌≡◌}
 use Rattle.std.specs.Prelude.{slice_get}
 use Rattle.node_core.proofs.Claims.{choose_due, choose_nth}
 use Rattle.node_core.specs.Choosing.{due_in}

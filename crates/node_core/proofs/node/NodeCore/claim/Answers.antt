@@ -1,4 +1,4 @@
-use Rattle.std.proofs.Common.{List, Some, [], ap, arith, length, rules, refl, subst, sym, ◌+◌, ◌++◌, ◌∙◌, ◌≡◌, ◌≤◌, ◌∷◌, false, None}
+use Rattle.std.proofs.Common.{Some, [], ap, rules, subst, sym, ◌+◌, ◌++◌, ◌∙◌, ◌≡◌, ◌≤◌, ◌∷◌, false, None}
 use Rattle.std.specs.Option.{option_map}
 use Rattle.std.specs.Prelude.{vec_capacity, vec_len}
 use Rattle.node_core.proofs.Claims.{claim_held, claim_kept, claim_room, claim_there, claim_waits}

@@ -1,4 +1,4 @@
-use Rattle.std.proofs.Common.{List, None, Some, [], ap, arith, false, length, map, refl, rules, subst, sym, ◌+◌, ◌++◌, ◌==◌, ◌∙◌, ◌≡◌, ◌≤◌, ◌∷◌}
+use Rattle.std.proofs.Common.{None, Some, [], ap, arith, false, length, map, rules, subst, sym, ◌+◌, ◌++◌, ◌==◌, ◌∙◌, ◌≡◌, ◌≤◌, ◌∷◌}
 use Rattle.std.specs.Prelude.{vec_capacity, vec_len}
 use Rattle.block_work.specs.Block.{work_of}
 use Rattle.node_core.proofs.Deliveries.{deliver_in_work, deliver_kept, deliver_not_next, deliver_steps}

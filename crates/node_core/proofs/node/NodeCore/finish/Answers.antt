@@ -1,5 +1,4 @@
-use Rattle.std.proofs.Common.{List, [], ap, arith, true, length, rules, subst, sym, ◌+◌, ◌++◌, ◌∙◌, ◌≡◌, ◌≤◌, ◌∷◌, Option, ℕ}
-use Rattle.std.specs.Prelude.{vec_capacity, vec_len}
+use Rattle.std.proofs.Common.{[], true, length, rules, subst, sym, ◌++◌, ◌∙◌, ◌≡◌, ◌∷◌}
 use Rattle.block_work.specs.Ids.{place_of}
 use Rattle.node_core.proofs.Ending.{end_free, finish_kept, finish_steps}
 use Rattle.node_core.proofs.Held_works.{has_spare, held_there, room_after}

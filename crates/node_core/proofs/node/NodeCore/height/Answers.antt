@@ -1,4 +1,4 @@
-use Rattle.std.proofs.Common.{ap, length, rules, ◌∙◌, ◌≡◌}
+use Rattle.std.proofs.Common.{ap, length, ◌∙◌}
 use Rattle.node_core.proofs.Settled.{height_is}
 use Rattle.node_core.specs.Core.{Core, world_of}
 use Rattle.node_core.proofs.node.NodeCore.height.Goals as goal

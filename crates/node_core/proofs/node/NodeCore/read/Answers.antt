@@ -1,4 +1,4 @@
-use Rattle.std.proofs.Common.{IfSome, List, None, Option, Some, [], ap, arith, length, rules, refl, subst, sym, false, ◌+◌, ◌++◌, ◌∙◌, ◌≡◌, ◌≤◌, ◌∷◌, ℕ}
+use Rattle.std.proofs.Common.{IfSome, None, Option, Some, [], ap, length, rules, subst, sym, false, ◌+◌, ◌++◌, ◌∙◌, ◌≡◌, ◌≤◌, ◌∷◌}
 use Rattle.std.specs.Option.{is_some, option_map}
 use Rattle.std.specs.Prelude.{vec_capacity, vec_len}
 use Rattle.block_work.specs.Ids.{place_of}
@@ -6,7 +6,7 @@ use Rattle.node_core.proofs.Answering.{read_gone, read_held, read_kept, read_ord
 use Rattle.node_core.proofs.Settled.{settled_is}
 use Rattle.node_core.specs.Answers.{got_as, got_of}
 use Rattle.node_core.specs.Core.{Core, IsHeld, Steps}
-use Rattle.node_core.specs.InHand.{InHand, IsNextRead, with_read}
+use Rattle.node_core.specs.InHand.{IsNextRead, with_read}
 use Rattle.node_core.specs.Kept.{up_to}
 use Rattle.node_core.specs.Rows.{count_held}
 use Rattle.node_model.specs.Events.{settled_in}
@@ -18,7 +18,6 @@ use Rattle.proc_syntax.specs.Declaring.{tables_of}
 use Rattle.rel_base.specs.Among.{rows_in}
 use Rattle.rel_base.specs.Late.{least_hit}
 use Rattle.rel_base.specs.Tables.{tables_at, writes_between}
-use Rattle.rel_base.specs.declared.access.Place.{Place}
 use Rattle.rel_base.specs.declared.access.Read.{Read}
 use Rattle.node_core.proofs.node.NodeCore.read.Goals as goal
 

@@ -1,16 +1,14 @@
-use Rattle.std.proofs.Common.{List, [], ap, arith, true, length, rules, subst, sym, ◌+◌, ◌++◌, ◌∙◌, ◌≡◌, ◌≤◌, ◌∷◌, Option, ℕ}
-use Rattle.std.specs.Prelude.{vec_capacity, vec_len}
+use Rattle.std.proofs.Common.{[], true, length, rules, subst, sym, ◌++◌, ◌∙◌, ◌≡◌, ◌∷◌}
 use Rattle.block_work.specs.Ids.{place_of}
-use Rattle.node_core.proofs.Ending.{back_free, release_kept, release_steps}
+use Rattle.node_core.proofs.Ending.{back_free, release_kept}
 use Rattle.node_core.proofs.Held_works.{has_spare, held_there, room_after}
 use Rattle.node_core.proofs.Settled.{settled_is}
-use Rattle.node_core.specs.Core.{Core, IsHeld, Steps}
+use Rattle.node_core.specs.Core.{Core, IsHeld}
 use Rattle.node_core.specs.Ends.{stage_given_back}
 use Rattle.node_core.specs.Kept.{up_to}
 use Rattle.node_core.specs.Rows.{put_row, row_at, status_of}
 use Rattle.node_model.specs.World.{is_held}
 use Rattle.std.specs.Option.{IsSomeAnd}
-use Rattle.node_model.specs.Steps.{Released, ToRelease}
 use Rattle.node_model.specs.declared.journal.Event.TheVariants.{Release}
 use Rattle.node_core.proofs.node.NodeCore.release.Goals as goal
 
