@@ -37,7 +37,7 @@ status_of (Some fault) = ChainRefused
 
 -- what the flags of a run ask the report to show
 abbrev pub look_of : Flags → Look
-look_of flags = record { orders = flags.orders; digests = flags.digests; trace = false }
+look_of flags = record { orders = flags.orders; digests = flags.digests; json = false; trace = false }
 
 -- the blocks decide last: the report of those before the first fault, and where the file stopped
 abbrev pub over_blocks : Look → App → List Block → Option ChainFault → Answer

@@ -105,6 +105,7 @@ fn look_of(flags: Flags) -> Look
     Look {
         orders: flags.orders,
         digests: flags.digests,
+        json: false,
         trace: false,
     }
 }

@@ -3,3 +3,5 @@ pub mod Journal
 pub mod Report
 pub mod Ending
 pub mod Versions
+pub mod JsonReport
+pub mod JsonTokens

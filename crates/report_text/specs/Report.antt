@@ -11,6 +11,7 @@ use Rattle.rel_base.specs.declared.schema.TableDef.{TableDef}
 use Rattle.rel_base.specs.declared.value.Value.{Value}
 use Rattle.report_text.specs.Ending.{end_line}
 use Rattle.report_text.specs.Journal.{event_text}
+use Rattle.report_text.specs.JsonReport.{json_line}
 use Rattle.report_text.specs.declared.look.Look.{Look}
 use Rattle.report_text.specs.Outcome.{outcome_text, values_text, table_name}
 
@@ -91,8 +92,14 @@ journal_line number = line (codes "journal " ++ decimal number)
 abbrev pub journal_lines : ℕ → NodeResult → List ℕ
 journal_lines number node = journal_line number ++ flat_map entry_line node.journal
 
--- a report: the nodes numbered from 1, and the line that ends it, by where the block file stopped; and then the journal of each node,
--- if it is asked for
+-- the lines of a report: the nodes numbered from 1, and the line that ends it, by where the block file stopped
+abbrev pub text_lines : Look → List TableDef → List NodeResult → Option ChainFault → List ℕ
+text_lines look tables nodes stop = numbered (node_lines look tables) 1 nodes ++ end_line stop
+
+-- these, or the line of JSON if it is asked for
+abbrev pub report_lines : Look → List TableDef → List NodeResult → Option ChainFault → List ℕ
+report_lines look tables nodes stop = cond look.json (json_line look tables nodes stop) (text_lines look tables nodes stop)
+
+-- a report, and then the journal of each node, if it is asked for
 abbrev pub report_text : Look → List TableDef → List NodeResult → Option ChainFault → List ℕ
-report_text look tables nodes stop =
-    numbered (node_lines look tables) 1 nodes ++ end_line stop ++ shown_if look.trace (numbered journal_lines 1 nodes)
+report_text look tables nodes stop = report_lines look tables nodes stop ++ shown_if look.trace (numbered journal_lines 1 nodes)

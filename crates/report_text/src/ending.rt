@@ -4,44 +4,43 @@ ghost use Rattle.std.specs.Prelude.{◌≡◌, ◌++◌, OnOk, IfOk};
 ghost use Rattle.std.specs.Option.{option_copied};
 ghost use Rattle.report_text.specs.Ending.{end_line, kind_text, stopped_line};
 
-use crate::buffer::push;
-use literals::push_number;
+use crate::text::Text;
 use proc_syntax::{ChainFault, ChainKind};
 use rel_base::{List, NoMemory};
 use std::alloc::Global;
 
 /// The name of a kind of fault.
-fn kind_text(kind: ChainKind) -> &'static [u8]
+pub fn kind_text(kind: ChainKind) -> &'static str
     ensures { result.now ≡ kind_text kind }
 {
     match kind {
-        ChainKind::BadHeader => b"BadHeader",
-        ChainKind::BadLine => b"BadLine",
-        ChainKind::WrongNumber => b"WrongNumber",
-        ChainKind::WrongPrev => b"WrongPrev",
-        ChainKind::TooManyTx => b"TooManyTx",
-        ChainKind::LineTooLong => b"LineTooLong",
-        ChainKind::Truncated => b"Truncated",
+        ChainKind::BadHeader => "BadHeader",
+        ChainKind::BadLine => "BadLine",
+        ChainKind::WrongNumber => "WrongNumber",
+        ChainKind::WrongPrev => "WrongPrev",
+        ChainKind::TooManyTx => "TooManyTx",
+        ChainKind::LineTooLong => "LineTooLong",
+        ChainKind::Truncated => "Truncated",
     }
 }
 
 /// Where a block file stopped, and why.
-fn push_stopped(out: &mut Vec<u8>, fault: &ChainFault) -> Result<(), NoMemory>
-    ensures { OnOk result (out.new.items ≡ out.old.items ++ stopped_line fault.now) }
+fn push_stopped(out: &mut Text, fault: &ChainFault) -> Result<(), NoMemory>
+    ensures { OnOk result (out.new ≡ out.old ++ stopped_line fault.now) }
 {
-    push(out, b"stopped ")?;
-    push_number(out, fault.line)?;
-    push(out, b" ")?;
-    push(out, kind_text(fault.kind))?;
-    push(out, b"\n")
+    out.push("stopped ")?;
+    out.push_number(fault.line)?;
+    out.push(" ")?;
+    out.push(kind_text(fault.kind))?;
+    out.push("\n")
 }
 
 /// The last line of a report.
-pub fn push_end(out: &mut Vec<u8>, stop: Option<&ChainFault>) -> Result<(), NoMemory>
-    ensures { OnOk result (out.new.items ≡ out.old.items ++ end_line (option_copied stop.entry)) }
+pub fn push_end(out: &mut Text, stop: Option<&ChainFault>) -> Result<(), NoMemory>
+    ensures { OnOk result (out.new ≡ out.old ++ end_line (option_copied stop.entry)) }
 {
     match stop {
-        None => push(out, b"done\n"),
+        None => out.push("done\n"),
         Some(fault) => push_stopped(out, fault),
     }
 }
@@ -50,7 +49,7 @@ pub fn push_end(out: &mut Vec<u8>, stop: Option<&ChainFault>) -> Result<(), NoMe
 pub fn stopped_line(alloc: Global, fault: &ChainFault) -> Result<List<u8>, NoMemory>
     ensures { IfOk result (λ bytes. bytes ≡ stopped_line fault.now) }
 {
-    let mut out = Vec::new(alloc);
+    let mut out = Text::new(alloc);
     push_stopped(&mut out, fault)?;
-    Ok(List::from_vec(out))
+    Ok(List::from_vec(out.into_bytes()))
 }

@@ -90,6 +90,7 @@ fn journals_stand_behind_the_report(rt: HostRuntime) -> Result<(), Fail> {
     let look = Look {
         orders: false,
         digests: false,
+        json: false,
         trace: true,
     };
     let bytes = report(alloc, &List::new(alloc), &nodes, None, &look)?;

@@ -1,16 +1,22 @@
-//! Reports: what the nodes committed and what their tables hold, as lines of text.
+//! Reports: what the nodes committed and what their tables hold, as lines of text or as JSON.
 #![tactic(auto)]
 
 mod block;
-mod buffer;
 mod ending;
 mod journal_lines;
 #[cfg(test)]
 mod journal_tests;
+mod json_block;
+mod json_node;
+mod json_table;
+#[cfg(test)]
+mod json_tests;
+mod json_text;
 mod look;
 mod node;
 mod outcome;
 mod table;
+mod text;
 mod value;
 mod version;
 #[cfg(test)]

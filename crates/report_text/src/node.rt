@@ -2,47 +2,47 @@
 
 ghost use Rattle.std.specs.Prelude.{◌≡◌, ◌++◌, ◌+◌, OnOk, IfOk};
 ghost use Rattle.std.specs.Option.{option_copied};
-ghost use Rattle.report_text.specs.Report.{numbered, height_line, node_line, node_lines, report_text};
+ghost use Rattle.report_text.specs.Report.{numbered, height_line, node_line, node_lines, report_lines, report_text, text_lines};
 
 use crate::block::push_blocks;
-use crate::buffer::push;
 use crate::ending::push_end;
 use crate::journal_lines::push_journals;
+use crate::json_node::json_line;
 use crate::look::Look;
 use crate::table::push_tables;
-use literals::push_number;
+use crate::text::Text;
 use node_model::{BlockResult, NodeResult};
 use proc_syntax::ChainFault;
 use rel_base::{List, NoMemory, TableDef};
 use std::alloc::Global;
 
 /// The line that begins a node.
-fn push_node_line(out: &mut Vec<u8>, number: usize) -> Result<(), NoMemory>
-    ensures { OnOk result (out.new.items ≡ out.old.items ++ node_line number) }
+fn push_node_line(out: &mut Text, number: usize) -> Result<(), NoMemory>
+    ensures { OnOk result (out.new ≡ out.old ++ node_line number) }
 {
-    push(out, b"node ")?;
-    push_number(out, number as u64)?;
-    push(out, b"\n")
+    out.push("node ")?;
+    out.push_number(number as u64)?;
+    out.push("\n")
 }
 
 /// The height of a node, which is the number of its blocks.
-fn push_height_line(out: &mut Vec<u8>, blocks: &[BlockResult]) -> Result<(), NoMemory>
-    ensures { OnOk result (out.new.items ≡ out.old.items ++ height_line blocks.now) }
+fn push_height_line(out: &mut Text, blocks: &[BlockResult]) -> Result<(), NoMemory>
+    ensures { OnOk result (out.new ≡ out.old ++ height_line blocks.now) }
 {
-    push(out, b"height ")?;
-    push_number(out, blocks.len() as u64)?;
-    push(out, b"\n")
+    out.push("height ")?;
+    out.push_number(blocks.len() as u64)?;
+    out.push("\n")
 }
 
 /// A node: its blocks, its tables after the last of them, and its height.
 fn push_node(
-    out: &mut Vec<u8>,
+    out: &mut Text,
     look: &Look,
     tables: &[TableDef],
     number: usize,
     node: &NodeResult,
 ) -> Result<(), NoMemory>
-    ensures { OnOk result (out.new.items ≡ out.old.items ++ node_lines look.now tables.now number node.now) }
+    ensures { OnOk result (out.new ≡ out.old ++ node_lines look.now tables.now number node.now) }
 {
     push_node_line(out, number)?;
     push_blocks(out, look, tables, node.blocks.as_slice())?;
@@ -52,12 +52,12 @@ fn push_node(
 
 /// Nodes, numbered from 1.
 fn push_nodes(
-    out: &mut Vec<u8>,
+    out: &mut Text,
     look: &Look,
     tables: &[TableDef],
     nodes: &[NodeResult],
 ) -> Result<(), NoMemory>
-    ensures { OnOk result (out.new.items ≡ out.old.items ++ numbered (node_lines look.now tables.now) 1 nodes.now) }
+    ensures { OnOk result (out.new ≡ out.old ++ numbered (node_lines look.now tables.now) 1 nodes.now) }
 {
     for (before, node) in nodes.iter().enumerate() {
         push_node(out, look, tables, before + 1, node)?;
@@ -65,9 +65,43 @@ fn push_nodes(
     Ok(())
 }
 
-/// The report of the nodes: for each in turn its blocks with the outcome of every transaction and the lines that the look asks
-/// for, its tables with their rows, and its height; after the last node the line `done`, or `stopped LINE KIND` where the block file stopped at a fault;
-/// and behind it the journals, if the look asks for them. Every line ends with a newline.
+/// The lines of the nodes, and the line that ends them.
+fn text_lines(
+    alloc: Global,
+    look: &Look,
+    tables: &[TableDef],
+    nodes: &[NodeResult],
+    stop: Option<&ChainFault>,
+) -> Result<Text, NoMemory>
+    ensures { IfOk result (λ out. out ≡ text_lines look.now tables.now nodes.now (option_copied stop.entry)) }
+{
+    let mut out = Text::new(alloc);
+    push_nodes(&mut out, look, tables, nodes)?;
+    push_end(&mut out, stop)?;
+    Ok(out)
+}
+
+/// The report in the form that is asked for, without journals.
+fn report_lines(
+    alloc: Global,
+    look: &Look,
+    tables: &[TableDef],
+    nodes: &[NodeResult],
+    stop: Option<&ChainFault>,
+) -> Result<Text, NoMemory>
+    ensures { IfOk result (λ out. out ≡ report_lines look.now tables.now nodes.now (option_copied stop.entry)) }
+{
+    if look.json {
+        json_line(alloc, look, tables, nodes, stop)
+    } else {
+        text_lines(alloc, look, tables, nodes, stop)
+    }
+}
+
+/// The report of the nodes. As text it has for each node in turn its blocks with the outcome of every transaction and the lines that
+/// the look asks for, its tables with their rows, and its height; after the last node the line `done`, or `stopped LINE KIND` where the
+/// block file stopped at a fault. As JSON it is one line that says the same. Behind either stand the journals, if the look asks for them.
+/// Every line ends with a newline.
 ///
 /// A table is shown by its name in the declarations; a number that none of them has is shown as an empty name. The only
 /// error is want of memory.
@@ -80,9 +114,7 @@ pub fn report(
 ) -> Result<List<u8>, NoMemory>
     ensures { IfOk result (λ bytes. bytes ≡ report_text look.now tables.now nodes.now (option_copied stop.entry)) }
 {
-    let mut out = Vec::new(alloc);
-    push_nodes(&mut out, look, tables.as_slice(), nodes.as_slice())?;
-    push_end(&mut out, stop)?;
+    let mut out = report_lines(alloc, look, tables.as_slice(), nodes.as_slice(), stop)?;
     push_journals(&mut out, look, nodes.as_slice())?;
-    Ok(List::from_vec(out))
+    Ok(List::from_vec(out.into_bytes()))
 }

@@ -3,26 +3,32 @@
 ghost use Rattle.std.specs.Prelude.{◌≡◌, ◌++◌, OnOk};
 ghost use Rattle.report_text.specs.Outcome.{name_of, table_name, key_text, write_text, late_word, late_text, clash_text, fault_text, positions_text, danger_text, outcome_text};
 
-use crate::buffer::push;
+use crate::text::Text;
 use crate::value::push_values;
-use literals::{push_number, push_text};
 use node_model::{Clash, Danger, Late, Outcome};
 use proc_syntax::Fault;
 use rel_base::{Key, NoMemory, TableDef};
 
 /// The name of the table of a number.
-pub fn push_table_name(out: &mut Vec<u8>, tables: &[TableDef], table: u32) -> Result<(), NoMemory>
-    ensures { OnOk result (out.new.items ≡ out.old.items ++ table_name tables.now table) }
+pub fn table_name(tables: &[TableDef], table: u32) -> &str
+    ensures { result.now ≡ table_name tables.now table }
 {
     match tables.get(table as usize) {
-        Some(def) => push(out, def.name.as_str().as_bytes()),
-        None => Ok(()),
+        Some(def) => def.name.as_str(),
+        None => "",
     }
 }
 
+/// The same, written at the end.
+pub fn push_table_name(out: &mut Text, tables: &[TableDef], table: u32) -> Result<(), NoMemory>
+    ensures { OnOk result (out.new ≡ out.old ++ table_name tables.now table) }
+{
+    out.push(table_name(tables, table))
+}
+
 /// A key of a table: the table's name and the key's values.
-fn push_key(out: &mut Vec<u8>, tables: &[TableDef], table: u32, key: &Key) -> Result<(), NoMemory>
-    ensures { OnOk result (out.new.items ≡ out.old.items ++ key_text tables.now table key.now) }
+fn push_key(out: &mut Text, tables: &[TableDef], table: u32, key: &Key) -> Result<(), NoMemory>
+    ensures { OnOk result (out.new ≡ out.old ++ key_text tables.now table key.now) }
 {
     push_table_name(out, tables, table)?;
     push_values(out, key.as_slice())
@@ -30,119 +36,115 @@ fn push_key(out: &mut Vec<u8>, tables: &[TableDef], table: u32, key: &Key) -> Re
 
 /// A write in a block: the position of its transaction, its table and its key.
 fn push_write(
-    out: &mut Vec<u8>,
+    out: &mut Text,
     tables: &[TableDef],
     pos: u32,
     table: u32,
     key: &Key,
 ) -> Result<(), NoMemory>
-    ensures { OnOk result (out.new.items ≡ out.old.items ++ write_text tables.now pos table key.now) }
+    ensures { OnOk result (out.new ≡ out.old ++ write_text tables.now pos table key.now) }
 {
-    push_number(out, u64::from(pos))?;
-    push(out, b" ")?;
+    out.push_number(u64::from(pos))?;
+    out.push(" ")?;
     push_key(out, tables, table, key)
 }
 
 /// The word for a late read.
-fn late_word(stale: bool) -> &'static [u8]
+fn late_word(stale: bool) -> &'static str
     ensures { result.now ≡ late_word stale }
 {
-    if stale { b"stale" } else { b"phantom" }
+    if stale { "stale" } else { "phantom" }
 }
 
 /// A late read, and the write that hit it.
-fn push_late(out: &mut Vec<u8>, tables: &[TableDef], late: &Late) -> Result<(), NoMemory>
-    ensures { OnOk result (out.new.items ≡ out.old.items ++ late_text tables.now late.now) }
+fn push_late(out: &mut Text, tables: &[TableDef], late: &Late) -> Result<(), NoMemory>
+    ensures { OnOk result (out.new ≡ out.old ++ late_text tables.now late.now) }
 {
-    push(out, late_word(late.stale))?;
-    push(out, b" ")?;
-    push_number(out, u64::from(late.read))?;
-    push(out, b" by ")?;
-    push_number(out, late.place.block)?;
-    push(out, b" ")?;
+    out.push(late_word(late.stale))?;
+    out.push(" ")?;
+    out.push_number(u64::from(late.read))?;
+    out.push(" by ")?;
+    out.push_number(late.place.block)?;
+    out.push(" ")?;
     push_write(out, tables, late.place.pos, late.table, &late.key)
 }
 
 /// Two writes of one key.
-fn push_clash(out: &mut Vec<u8>, tables: &[TableDef], clash: &Clash) -> Result<(), NoMemory>
-    ensures { OnOk result (out.new.items ≡ out.old.items ++ clash_text tables.now clash.now) }
+fn push_clash(out: &mut Text, tables: &[TableDef], clash: &Clash) -> Result<(), NoMemory>
+    ensures { OnOk result (out.new ≡ out.old ++ clash_text tables.now clash.now) }
 {
-    push(out, b"write-conflict with ")?;
+    out.push("write-conflict with ")?;
     push_write(out, tables, clash.with, clash.table, &clash.key)
 }
 
 /// Why a run ended without its writes.
-fn push_fault(out: &mut Vec<u8>, fault: &Fault) -> Result<(), NoMemory>
-    ensures { OnOk result (out.new.items ≡ out.old.items ++ fault_text fault.now) }
+fn push_fault(out: &mut Text, fault: &Fault) -> Result<(), NoMemory>
+    ensures { OnOk result (out.new ≡ out.old ++ fault_text fault.now) }
 {
     match fault {
-        Fault::Overflow => push(out, b"overflow"),
-        Fault::ZeroDivide => push(out, b"zero-divide"),
-        Fault::DuplicateKey => push(out, b"duplicate-key"),
-        Fault::NoRow => push(out, b"no-row"),
-        Fault::TextTooLong => push(out, b"text-too-long"),
-        Fault::Steps => push(out, b"steps"),
+        Fault::Overflow => out.push("overflow"),
+        Fault::ZeroDivide => out.push("zero-divide"),
+        Fault::DuplicateKey => out.push("duplicate-key"),
+        Fault::NoRow => out.push("no-row"),
+        Fault::TextTooLong => out.push("text-too-long"),
+        Fault::Steps => out.push("steps"),
         Fault::Failed(text) => {
-            push(out, b"failed ")?;
-            push_text(out, text.as_str())
+            out.push("failed ")?;
+            out.push_quoted(text)
         }
     }
 }
 
 /// Two positions, each after a space.
-fn push_positions(out: &mut Vec<u8>, first: u32, second: u32) -> Result<(), NoMemory>
-    ensures { OnOk result (out.new.items ≡ out.old.items ++ positions_text first second) }
+fn push_positions(out: &mut Text, first: u32, second: u32) -> Result<(), NoMemory>
+    ensures { OnOk result (out.new ≡ out.old ++ positions_text first second) }
 {
-    push(out, b" ")?;
-    push_number(out, u64::from(first))?;
-    push(out, b" ")?;
-    push_number(out, u64::from(second))
+    out.push(" ")?;
+    out.push_number(u64::from(first))?;
+    out.push(" ")?;
+    out.push_number(u64::from(second))
 }
 
 /// A danger: its form, and its positions in the order in which they are found.
-fn push_danger(out: &mut Vec<u8>, danger: Danger) -> Result<(), NoMemory>
-    ensures { OnOk result (out.new.items ≡ out.old.items ++ danger_text danger) }
+fn push_danger(out: &mut Text, danger: Danger) -> Result<(), NoMemory>
+    ensures { OnOk result (out.new ≡ out.old ++ danger_text danger) }
 {
     match danger {
         Danger::One { z, x } => {
-            push(out, b"danger one")?;
+            out.push("danger one")?;
             push_positions(out, z, x)
         }
         Danger::Two { y, z } => {
-            push(out, b"danger two")?;
+            out.push("danger two")?;
             push_positions(out, y, z)
         }
     }
 }
 
 /// An outcome.
-pub fn push_outcome(
-    out: &mut Vec<u8>,
-    tables: &[TableDef],
-    outcome: &Outcome,
-) -> Result<(), NoMemory>
-    ensures { OnOk result (out.new.items ≡ out.old.items ++ outcome_text tables.now outcome.now) }
+pub fn push_outcome(out: &mut Text, tables: &[TableDef], outcome: &Outcome) -> Result<(), NoMemory>
+    ensures { OnOk result (out.new ≡ out.old ++ outcome_text tables.now outcome.now) }
 {
     match outcome {
-        Outcome::Committed => push(out, b"committed"),
-        Outcome::DuplicateId => push(out, b"aborted duplicate-id"),
-        Outcome::FutureHeight => push(out, b"aborted future-height"),
-        Outcome::UnknownProcedure => push(out, b"aborted unknown-procedure"),
-        Outcome::BadArguments => push(out, b"aborted bad-arguments"),
+        Outcome::Committed => out.push("committed"),
+        Outcome::DuplicateId => out.push("aborted duplicate-id"),
+        Outcome::FutureHeight => out.push("aborted future-height"),
+        Outcome::UnknownProcedure => out.push("aborted unknown-procedure"),
+        Outcome::BadArguments => out.push("aborted bad-arguments"),
         Outcome::Late(late) => {
-            push(out, b"aborted ")?;
+            out.push("aborted ")?;
             push_late(out, tables, late)
         }
         Outcome::Fault(fault) => {
-            push(out, b"aborted fault ")?;
+            out.push("aborted fault ")?;
             push_fault(out, fault)
         }
         Outcome::WriteConflict(clash) => {
-            push(out, b"aborted ")?;
+            out.push("aborted ")?;
             push_clash(out, tables, clash)
         }
         Outcome::Danger(danger) => {
-            push(out, b"aborted ")?;
+            out.push("aborted ")?;
             push_danger(out, *danger)
         }
     }

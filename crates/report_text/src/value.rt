@@ -3,17 +3,16 @@
 ghost use Rattle.std.specs.Prelude.{◌≡◌, ◌++◌, flat_map, OnOk};
 ghost use Rattle.report_text.specs.Outcome.{values_text};
 
-use crate::buffer::push;
+use crate::text::Text;
 use rel_base::{NoMemory, Value};
-use tx_text::push_value;
 
 /// Values, each after a space.
-pub fn push_values(out: &mut Vec<u8>, values: &[Value]) -> Result<(), NoMemory>
-    ensures { OnOk result (out.new.items ≡ out.old.items ++ values_text values.now) }
+pub fn push_values(out: &mut Text, values: &[Value]) -> Result<(), NoMemory>
+    ensures { OnOk result (out.new ≡ out.old ++ values_text values.now) }
 {
     for value in values {
-        push(out, b" ")?;
-        push_value(out, value)?;
+        out.push(" ")?;
+        out.push_value(value)?;
     }
     Ok(())
 }

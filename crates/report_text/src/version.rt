@@ -3,58 +3,53 @@
 ghost use Rattle.std.specs.Prelude.{◌≡◌, ◌++◌, OnOk, IfOk, flat_map};
 ghost use Rattle.report_text.specs.Versions.{author_text, ended_text, version_line, versions_text};
 
-use crate::buffer::push;
 use crate::outcome::push_table_name;
+use crate::text::Text;
 use crate::value::push_values;
-use literals::push_number;
 use node_model::Version;
 use rel_base::{Id, List, NoMemory, Place, TableDef};
 use std::alloc::Global;
 
 /// The place and the id of a transaction, each part after a space.
-fn push_author(out: &mut Vec<u8>, place: Place, id: &Id) -> Result<(), NoMemory>
-    ensures { OnOk result (out.new.items ≡ out.old.items ++ author_text place id.now) }
+fn push_author(out: &mut Text, place: Place, id: &Id) -> Result<(), NoMemory>
+    ensures { OnOk result (out.new ≡ out.old ++ author_text place id.now) }
 {
-    push(out, b" ")?;
-    push_number(out, place.block)?;
-    push(out, b" ")?;
-    push_number(out, u64::from(place.pos))?;
-    push(out, b" ")?;
-    push(out, id.as_str().as_bytes())
+    out.push(" ")?;
+    out.push_number(place.block)?;
+    out.push(" ")?;
+    out.push_number(u64::from(place.pos))?;
+    out.push(" ")?;
+    out.push(id.as_str())
 }
 
 /// Where and by whom a version was ended, or that it lives.
-fn push_ended(out: &mut Vec<u8>, ended: &Option<Place>, ender: &Option<Id>) -> Result<(), NoMemory>
-    ensures { OnOk result (out.new.items ≡ out.old.items ++ ended_text ended.now ender.now) }
+fn push_ended(out: &mut Text, ended: &Option<Place>, ender: &Option<Id>) -> Result<(), NoMemory>
+    ensures { OnOk result (out.new ≡ out.old ++ ended_text ended.now ender.now) }
 {
     match (ended, ender) {
         (Some(place), Some(id)) => push_author(out, *place, id),
-        _ => push(out, b" never"),
+        _ => out.push(" never"),
     }
 }
 
 /// A version: its table, who made it, who ended it, and its row.
-fn push_version(out: &mut Vec<u8>, tables: &[TableDef], version: &Version) -> Result<(), NoMemory>
-    ensures { OnOk result (out.new.items ≡ out.old.items ++ version_line tables.now version.now) }
+fn push_version(out: &mut Text, tables: &[TableDef], version: &Version) -> Result<(), NoMemory>
+    ensures { OnOk result (out.new ≡ out.old ++ version_line tables.now version.now) }
 {
-    push(out, b"version ")?;
+    out.push("version ")?;
     push_table_name(out, tables, version.table)?;
-    push(out, b" made")?;
+    out.push(" made")?;
     push_author(out, version.made, &version.maker)?;
-    push(out, b" ended")?;
+    out.push(" ended")?;
     push_ended(out, &version.ended, &version.ender)?;
-    push(out, b" row")?;
+    out.push(" row")?;
     push_values(out, version.row.as_slice())?;
-    push(out, b"\n")
+    out.push("\n")
 }
 
 /// Versions, in order.
-fn push_versions(
-    out: &mut Vec<u8>,
-    tables: &[TableDef],
-    versions: &[Version],
-) -> Result<(), NoMemory>
-    ensures { OnOk result (out.new.items ≡ out.old.items ++ flat_map (version_line tables.now) versions.now) }
+fn push_versions(out: &mut Text, tables: &[TableDef], versions: &[Version]) -> Result<(), NoMemory>
+    ensures { OnOk result (out.new ≡ out.old ++ flat_map (version_line tables.now) versions.now) }
 {
     for version in versions {
         push_version(out, tables, version)?;
@@ -74,7 +69,7 @@ pub fn versions(
 ) -> Result<List<u8>, NoMemory>
     ensures { IfOk result (λ bytes. bytes ≡ versions_text tables.now list.now) }
 {
-    let mut out = Vec::new(alloc);
+    let mut out = Text::new(alloc);
     push_versions(&mut out, tables.as_slice(), list.as_slice())?;
-    Ok(List::from_vec(out))
+    Ok(List::from_vec(out.into_bytes()))
 }

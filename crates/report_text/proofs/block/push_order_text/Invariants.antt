@@ -5,4 +5,4 @@ use Rattle.report_text.proofs.block.push_order_text.Given as goal
 -- what is written and what is left make the whole
 abbrev pub invariant-loop-position : goal.invariant-loop-position
 invariant-loop-position l =
-    l.out.items ++ order_text (drop l.position-index l.positions) ≡ l.initial.out.items ++ order_text l.positions
+    l.out ++ order_text (drop l.position-index l.positions) ≡ l.initial.out ++ order_text l.positions

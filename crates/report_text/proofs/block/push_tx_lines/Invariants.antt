@@ -5,4 +5,4 @@ use Rattle.report_text.proofs.block.push_tx_lines.Given as goal
 -- what is written and what is left make the whole
 abbrev pub invariant-loop-before : goal.invariant-loop-before
 invariant-loop-before l =
-    l.out.items ++ numbered (tx_line l.tables) (l.before + 1) (drop l.before l.outcomes) ≡ l.initial.out.items ++ numbered (tx_line l.tables) 1 l.outcomes
+    l.out ++ numbered (tx_line l.tables) (l.before + 1) (drop l.before l.outcomes) ≡ l.initial.out ++ numbered (tx_line l.tables) 1 l.outcomes

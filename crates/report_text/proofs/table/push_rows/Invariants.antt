@@ -5,4 +5,4 @@ use Rattle.report_text.proofs.table.push_rows.Given as goal
 -- what is written and what is left make the whole
 abbrev pub invariant-loop-row : goal.invariant-loop-row
 invariant-loop-row l =
-    l.out.items ++ flat_map row_line (drop l.row-index l.rows) ≡ l.initial.out.items ++ flat_map row_line l.rows
+    l.out ++ flat_map row_line (drop l.row-index l.rows) ≡ l.initial.out ++ flat_map row_line l.rows

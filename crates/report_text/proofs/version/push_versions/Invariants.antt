@@ -5,4 +5,4 @@ use Rattle.report_text.proofs.version.push_versions.Given as goal
 -- with the lines of the versions that are left, what is written are the lines of all
 abbrev pub invariant-loop-version : goal.invariant-loop-version
 invariant-loop-version l =
-    l.out.items ++ flat_map (version_line l.tables) (drop l.version-index l.versions) ≡ l.initial.out.items ++ flat_map (version_line l.tables) l.versions
+    l.out ++ flat_map (version_line l.tables) (drop l.version-index l.versions) ≡ l.initial.out ++ flat_map (version_line l.tables) l.versions
