@@ -1,5 +1,5 @@
 -- The tokens of a value's compact text, which the code writes one after another.
-use Rattle.std.specs.Prelude.{ℕ, List, [], ◌∷◌, ◌++◌, Bool, cond}
+use Rattle.std.specs.Prelude.{ℕ, List, [], ◌∷◌, Bool, cond}
 use Rattle.json.specs.Token.{Token, key}
 use Rattle.json.specs.Tree.{json_tokens, items_tokens}
 use Rattle.serde_json.specs.Data.{Data, Items}
