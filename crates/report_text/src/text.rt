@@ -53,6 +53,7 @@ impl Text {
     {
         match std::str::from_utf8(self.bytes.as_slice()) {
             Ok(text) => text,
+            // which the invariant excludes
             Err(_) => "",
         }
     }
@@ -65,7 +66,7 @@ impl Text {
         bytes
     }
 
-    /// Takes all of it out again.
+    /// Takes all characters out, and keeps the memory for the next ones.
     pub fn clear(&mut self)
         ensures { self.new ≡ [] }
     {
