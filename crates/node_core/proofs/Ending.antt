@@ -2,6 +2,7 @@
 use Rattle.std.proofs.Common.{Bool, List, None, Option, Some, [], ap, arith, cond, false, inl, inr, length, refl, slice_get, subst, sym, true, ◌++◌, ◌∙◌, ◌≡◌, ◌⊎◌, ◌∷◌, ℕ}
 use Rattle.std.proofs.lemmas.Option.{slice_get_past}
 use Rattle.std.specs.Option.{is_some, option_map}
+use Rattle.node_core.proofs.Going as going
 use Rattle.node_core.proofs.Held_works.{agrees, front_fits, run_fits, run_is, tables}
 use Rattle.node_core.proofs.Journal.{core_of, quiet, steps}
 use Rattle.node_core.proofs.Rowed.{rows_put}
@@ -65,9 +66,7 @@ module _ (kept : Kept) (node : IsNode kept) (work : InHand) (held : IsHeld (core
 
   module _ (ready : IsReady work) (recorded : Record) (rec : IsRecordOf work recorded) (all : work.cut ≡ false → AreAllReads work.told) where
     none_next : work.cut ≡ false → next_read kept.app (world_in kept).sealed (job_in work) ≡ None
-    none_next whole =
-        ap (λ (reads : List Made). option_map (λ (made : Made). made.read) (slice_get reads (length work.told.fed))) (sym (ap (λ (ran : Ran). ran.reads) (run_is kept node work held)) ∙ all whole (tables kept node work held) (agrees kept node work held))
-        ∙ ap (option_map (λ (made : Made). made.read)) (slice_get_past work.told.fed (length work.told.fed) (omega arith))
+    none_next whole = going.none_next (core_of kept) node.legal work held (all whole)
 
     may : May kept.app (world_in kept) work.actor (ToFinish work.job)
     may = (job_in work, held.holds, by work.cut refl)

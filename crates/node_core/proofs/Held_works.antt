@@ -3,10 +3,11 @@ use Rattle.std.proofs.Common.{All, List, Option, Some, [], ap, arith, cond, fals
 use Rattle.std.proofs.lemmas.List.Elements.{All-cons, All-head, All-tail}
 use Rattle.std.specs.List.{AllByRecursion}
 use Rattle.std.specs.Option.{IsSomeAnd, option_map}
-use Rattle.std.specs.Prelude.{◌^◌, ℤ}
+use Rattle.std.specs.Prelude.{◌^◌}
 use Rattle.block_work.proofs.Fitting.{runs_fit, store_fits}
 use Rattle.block_work.specs.Causes.{RunFits}
-use Rattle.node_core.proofs.Journal.{core_of, facts}
+use Rattle.node_core.proofs.Going as going
+use Rattle.node_core.proofs.Journal.{core_of}
 use Rattle.node_core.proofs.Rowed.{row_of, status_is}
 use Rattle.node_core.proofs.Table.{change_of}
 use Rattle.node_core.specs.Core.{IsHeld}
@@ -20,32 +21,20 @@ use Rattle.node_model.specs.Events.{next_read}
 use Rattle.node_model.specs.History.{snapshot, time_at}
 use Rattle.node_model.specs.World.{is_held}
 use Rattle.proc_run.specs.Told.{Agrees}
-use Rattle.proc_syntax.proofs.Runs.{few_reads, reads_are_rows, reads_fit}
+use Rattle.proc_syntax.proofs.Runs.{few_reads, reads_fit}
 use Rattle.proc_syntax.specs.Declaring.{tables_of}
 use Rattle.proc_syntax.specs.Run.{run}
-use Rattle.proc_syntax.specs.declared.run.Ran.{Ran}
-use Rattle.proc_syntax.specs.declared.tree.App.{App}
-use Rattle.rel_base.specs.Among.{ReadFitsIn, TablesFit, rows_in}
+use Rattle.rel_base.specs.Among.{ReadFitsIn, TablesFit}
 use Rattle.rel_base.specs.Tables.{HistoryFits, Tables, tables_at}
-use Rattle.rel_base.specs.declared.access.Made.{Made}
 use Rattle.rel_base.specs.declared.access.Read.{Read}
-use Rattle.schedule_laws.specs.Facts.{JobFits}
 use Rattle.serial_laws.proofs.Fitting.{tables_fit}
 use mathlib.Core.List.{IsPrefix}
 
 -- ---- the first of a list
 
-front_all : {X : Type 0} (P : X → Type 0) (front rest : List X) → All P (front ++ rest) → AllByRecursion P front
-front_all P [] rest all = tt
-front_all P (x ∷ front) rest all = (All-head P x (front ++ rest) all, front_all P front rest (All-tail P x (front ++ rest) all))
-
 front_still : {X : Type 0} (P : X → Type 0) (front rest : List X) → All P (front ++ rest) → All P front
 front_still P [] rest all = λ k d below. absurd (omega (arith, below))
 front_still P (x ∷ front) rest all = All-cons P x front (All-head P x (front ++ rest) all) (front_still P front rest (All-tail P x (front ++ rest) all))
-
-pub seam : (front rest : List Made) (made : Made) → slice_get (front ++ made ∷ rest) (length front) ≡ Some made
-seam [] rest made = refl
-seam (first ∷ front) rest made = seam front rest made
 
 module _ (kept : Kept) (node : IsNode kept) where
   pub history_fits : HistoryFits (tables_of kept.app) kept.history
@@ -86,19 +75,14 @@ module _ (kept : Kept) (node : IsNode kept) where
     tables = snapshot work.told.tx.height (world_in kept).sealed
 
     pub run_is : run_on work.told tables ≡ run_at kept.app (world_in kept).sealed work.told.tx
-    run_is = ap (λ (app : App). run app work.told.tx work.told.time tables) held.app ∙ ap (λ (time : ℤ). run kept.app work.told.tx time tables) held.time
-
-    fits : JobFits kept.app (world_in kept).sealed (job_in work)
-    fits = (facts kept node).jobs_fit work.job (job_in work) held.holds.stands
+    run_is = going.run_is (core_of kept) node.legal work held
 
     front : IsPrefix work.told.fed (run_at kept.app (world_in kept).sealed work.told.tx).reads
-    front = fits.front refl
+    front = going.front (core_of kept) node.legal work held
 
     -- its reads so far have the rows of these tables
     pub agrees : Agrees (tables_of work.told.app) tables work.told.fed
-    agrees = subst (λ (app : App). Agrees (tables_of app) tables work.told.fed) (sym held.app)
-        (front_all (λ made. made.rows ≡ rows_in (tables_of kept.app) made.read tables) work.told.fed front.0
-        (subst (All (λ made. made.rows ≡ rows_in (tables_of kept.app) made.read tables)) (sym front.1) (reads_are_rows kept.app work.told.tx (time_at work.told.tx.height (world_in kept).sealed) tables)))
+    agrees = going.agrees (core_of kept) node.legal work held
 
     -- its reads so far can be judged
     pub front_fits : RunFits (tables_of kept.app) (so_far work.told.fed)
@@ -128,7 +112,4 @@ module _ (kept : Kept) (node : IsNode kept) where
 
     -- the read that it wants is the next of its run
     pub next_is : (read : Read) → IsNextRead work.told read → next_read kept.app (world_in kept).sealed (job_in work) ≡ Some read
-    next_is read next =
-        let more = next tables agrees in
-        ap (λ (all : List Made). option_map (λ (made : Made). made.read) (slice_get all (length work.told.fed))) (sym (ap (λ (ran : Ran). ran.reads) run_is) ∙ more.1)
-        ∙ ap (option_map (λ (made : Made). made.read)) (seam work.told.fed more.0 (record { read = read; rows = rows_in (tables_of work.told.app) read tables }))
+    next_is = going.next_is (core_of kept) node.legal work held

@@ -10,6 +10,7 @@ pub mod Commits
 pub mod Due_jobs
 pub mod Readied
 pub mod Commit_steps
+pub mod Going
 pub mod Held_works
 pub mod Ending
 pub mod Answering

@@ -52,7 +52,7 @@ impl Model for Work {
 
 impl Work {
     ghost use Rattle.node_core.specs.InHand.{AreAllReads, IsNextRead, IsReady, IsRecordOf, IsSameRun, WantsRead, with_read};
-    ghost use Rattle.node_core.specs.Hands.{Says};
+    ghost use Rattle.node_core.specs.Hands.{GoesOn, Says};
 
     /// A job as an actor takes it, with a machine that has not begun.
     pub fn new(job: u64, actor: u32, tx: Arc<Tx>, machine: Machine) -> Work
@@ -110,6 +110,7 @@ impl Work {
     /// Runs to the next read or to the end, where it is at neither. Where memory is wanting, it is as before and may be asked again.
     pub fn advance(&mut self) -> Result<Next, NoMemory>
         ensures says { IfOk result (λ next. Says next self.new) }
+        ensures may { IfOk result (λ next. GoesOn next self.new) }
         ensures same { IsSameRun self.old self.new }
         ensures err { OnErr result (self.new ≡ self.old) }
     {
