@@ -1,3 +1,11 @@
 pub mod Said
 pub mod Back
 pub mod Parsed
+pub mod Bared
+pub mod Holders
+pub mod Moves
+pub mod Lines
+pub mod Keeping
+pub mod Taken
+pub mod Legal
+pub mod Results

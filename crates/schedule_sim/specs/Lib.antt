@@ -1,2 +1,6 @@
 pub mod Steps
 pub mod Schedules
+pub mod Running
+pub mod Bare
+pub mod InHands
+pub mod Laws

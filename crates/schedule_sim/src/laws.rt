@@ -1,5 +1,6 @@
 //! What holds of every schedule: each the contract of a function that does nothing.
 
+ghost use Rattle.schedule_sim.specs.Laws.{SchedulesAreLegal, SchedulesDeliver, SchedulesSealTheFold};
 ghost use Rattle.schedule_sim.specs.Schedules.{LongSchedulesAreBad, SchedulesComeBack, SchedulesHaveActors, SchedulesHaveOneText};
 
 /// A text that is read is that of its steps, each byte of it.
@@ -20,4 +21,15 @@ pub fn schedules_have_actors()
 /// A text that is longer than the longest schedule has its bad line in the bytes that are too many, or before them.
 pub fn long_schedules_are_bad()
     ensures { LongSchedulesAreBad }
+{}
+
+/// The journal of a schedule is one that steps can make, and it delivers the blocks in their order.
+pub fn schedules_are_legal()
+    ensures legal { SchedulesAreLegal }
+    ensures delivers { SchedulesDeliver }
+{}
+
+/// So a schedule that seals all blocks seals their fold.
+pub fn schedules_seal_the_fold()
+    ensures { SchedulesSealTheFold }
 {}
