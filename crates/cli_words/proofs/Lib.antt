@@ -1,3 +1,6 @@
-pub mod Items
+pub mod Names
+pub mod Sound
+pub mod Lines
+pub mod Orders
 pub mod Commands
-pub mod Neighbours
+pub mod Seals

@@ -1,124 +1,140 @@
 -- The language of the command line.
-use Rattle.std.specs.Prelude.{ℕ, List, [], ◌∷◌, Bool, true, false, not, ◌==◌, cond, Option, Some, None, codes, bytes_eq}
+use Rattle.std.specs.Prelude.{ℕ, List, [], ◌∷◌, Bool, true, false, not, ◌&&◌, ◌==◌, cond, length, nat_le, Option, Some, None, is_none}
 use Rattle.std.specs.Borrow.{Bor}
-use Rattle.std.specs.Option.{option_and_then}
-use Rattle.cli_words.specs.declared.flags.Flag.{Flag}
-use Rattle.cli_words.specs.declared.flags.Flag.TheVariants as flag
+use Rattle.std.specs.List.{list_all}
+use Rattle.cli_words.specs.Table.{command_of, is_same, option_of, options, takes_of, use_of}
+use Rattle.cli_words.specs.declared.command.Command.{Command}
+use Rattle.cli_words.specs.declared.command.Command.TheVariants as command
 use Rattle.cli_words.specs.declared.flags.Flags.{Flags}
+use Rattle.cli_words.specs.declared.given.Step.{Step}
+use Rattle.cli_words.specs.declared.given.Step.TheVariants.{Bad, Awaits, Ends}
+use Rattle.cli_words.specs.declared.options.CommandOption.{CommandOption}
+use Rattle.cli_words.specs.declared.options.CommandOption.TheVariants as option
+use Rattle.cli_words.specs.declared.options.Takes.{Takes}
+use Rattle.cli_words.specs.declared.options.Takes.TheVariants.{Nothing, Text}
+use Rattle.cli_words.specs.declared.options.Use.{Use}
+use Rattle.cli_words.specs.declared.options.Use.TheVariants.{No, May, Must}
 use Rattle.cli_words.specs.declared.settings.Settings.{Settings}
 use Rattle.cli_words.specs.declared.settings.Settings.TheVariants.{Run, Seal}
-use Rattle.cli_words.specs.declared.read.Command.{Command}
-use Rattle.cli_words.specs.declared.read.Command.TheVariants as command
-use Rattle.cli_words.specs.declared.options.Choice.{Choice}
-use Rattle.cli_words.specs.declared.options.Choice.TheVariants as choice
-use Rattle.cli_words.specs.declared.options.Named.{Named}
-use Rattle.cli_words.specs.declared.options.Named.TheVariants as named
 
 -- the words of a `&[&str]`
 abbrev pub texts : List (Bor (List ℕ)) → List (List ℕ)
 texts [] = []
 texts (word ∷ words) = word.now ∷ texts words
 
+-- ---- values
+
 -- a value is a word that is not empty and does not begin with `-`
 abbrev pub is_value : List ℕ → Bool
 is_value [] = false
 is_value (byte ∷ bytes) = not (byte == 45)
 
--- the option that a word names: one whose value is the next word, or a flag, which has none
-abbrev pub named_by : List ℕ → Option Named
-named_by word =
-    cond (bytes_eq word (codes "--app")) (Some (named.Choice choice.App))
-    (cond (bytes_eq word (codes "--blocks")) (Some (named.Choice choice.Blocks))
-    (cond (bytes_eq word (codes "--orders")) (Some (named.Flag flag.Orders))
-    (cond (bytes_eq word (codes "--digests")) (Some (named.Flag flag.Digests)) None)))
+-- a word is a value for an option that takes this
+abbrev pub fits : Takes → List ℕ → Bool
+fits Nothing word = false
+fits Text word = is_value word
+
+-- ---- the words behind the command
+
+-- a word that has to be an option
+abbrev pub begun : CommandOption → Takes → Step
+begun x Nothing = Ends x
+begun x _ = Awaits x
+
+abbrev pub begun_by : Option CommandOption → Step
+begun_by None = Bad
+begun_by (Some x) = begun x (takes_of x)
+
+-- one more word: the value of the option that awaits one, or else an option
+abbrev pub step : Option CommandOption → List ℕ → Step
+step None word = begun_by (option_of word)
+step (Some x) word = cond (fits (takes_of x) word) (Ends x) Bad
+
+-- an option with its value, which of one that takes none is empty
+pub record Item : Type 0 where
+  pub option : CommandOption
+  pub value : List ℕ
+
+abbrev pub item : CommandOption → List ℕ → Item
+item x value = record { option = x; value = value }
+
+-- a word is a value where an option awaits it
+abbrev pub value_in : Option CommandOption → List ℕ → List ℕ
+value_in None word = []
+value_in (Some x) word = word
+
+-- what follows a word: nothing behind one that is neither; else what follows with an option that awaits its value, or behind one
+abbrev pub by_step : {A : Type 0} → Step → A → (CommandOption → A) → (CommandOption → A) → A
+by_step Bad bad awaits ends = bad
+by_step (Awaits x) bad awaits ends = awaits x
+by_step (Ends x) bad awaits ends = ends x
+
+-- the options that the words give, up to the first word that is neither an option nor its value
+abbrev pub items_from : Option CommandOption → List (List ℕ) → List Item
+items_from waiting [] = []
+items_from waiting (word ∷ words) =
+    by_step (step waiting word) [] (λ x. items_from (Some x) words) (λ x. item x (value_in waiting word) ∷ items_from None words)
+
+-- there is no such word, and the last option has its value
+abbrev pub is_read : Option CommandOption → List (List ℕ) → Bool
+is_read waiting [] = is_none waiting
+is_read waiting (word ∷ words) = by_step (step waiting word) false (λ x. is_read (Some x) words) (λ x. is_read None words)
+
+-- the values of an option among others
+abbrev pub values_in : List Item → CommandOption → List (List ℕ)
+values_in [] x = []
+values_in (next ∷ items) x = cond (is_same next.option x) (next.value ∷ values_in items x) (values_in items x)
+
+-- what the words give each option
+abbrev pub given : List (List ℕ) → CommandOption → List (List ℕ)
+given words x = values_in (items_from None words) x
+
+-- ---- the settings
+
+-- an option may be given so often
+abbrev pub is_allowed : Use → ℕ → Bool
+is_allowed No times = times == 0
+is_allowed May times = nat_le times 1
+is_allowed Must times = times == 1
+
+-- a command takes each of some options as often as it has values
+abbrev pub are_taken : Command → List CommandOption → (CommandOption → List (List ℕ)) → Bool
+are_taken command listed values = list_all (λ x. is_allowed (use_of command x) (length (values x))) listed
+
+-- so it takes each option
+abbrev pub is_line : Command → (CommandOption → List (List ℕ)) → Bool
+is_line command values = are_taken command options values
+
+abbrev pub first : List (List ℕ) → Option (List ℕ)
+first [] = None
+first (value ∷ values) = Some value
+
+abbrev pub text_or_none : List (List ℕ) → List ℕ
+text_or_none [] = []
+text_or_none (value ∷ values) = value
+
+abbrev pub is_given : List (List ℕ) → Bool
+is_given [] = false
+is_given (value ∷ values) = true
+
+abbrev pub flags_of : (CommandOption → List (List ℕ)) → Flags
+flags_of values = record { orders = is_given (values option.Orders); digests = is_given (values option.Digests) }
 
 -- no flag is on
 abbrev pub no_flags : Flags
 no_flags = record { orders = false; digests = false }
 
--- whether a flag is on
-abbrev pub is_on : Flags → Flag → Bool
-is_on flags flag.Orders = flags.orders
-is_on flags flag.Digests = flags.digests
+-- the settings of a command, by the values of its options
+abbrev pub made : Command → (CommandOption → List (List ℕ)) → Settings
+made command.Run values = Run (text_or_none (values option.App)) (text_or_none (values option.Blocks)) (flags_of values)
+made command.Seal values = Seal (text_or_none (values option.Blocks))
 
--- the same flags, and this one on
-abbrev pub switched_on : Flags → Flag → Flags
-switched_on flags flag.Orders = record { orders = true; digests = flags.digests }
-switched_on flags flag.Digests = record { orders = flags.orders; digests = true }
-
--- what the words so far say: the value of each option that was given, the flags, and the option whose value comes next
-pub record Said : Type 0 where
-  pub app : Option (List ℕ)
-  pub blocks : Option (List ℕ)
-  pub flags : Flags
-  pub waiting : Option Choice
-
--- nothing yet
-abbrev pub nothing_said : Said
-nothing_said = record { app = None; blocks = None; flags = no_flags; waiting = None }
-
--- an option that was not given before
-abbrev pub once : Option (List ℕ) → Said → Option Said
-once None said = Some said
-once (Some value) said = None
-
--- the name of an option with a value, each at most once
-abbrev pub say_choice : Said → Choice → Option Said
-say_choice said choice.App = once said.app (record said { waiting = Some choice.App })
-say_choice said choice.Blocks = once said.blocks (record said { waiting = Some choice.Blocks })
-
--- a flag, each at most once
-abbrev pub say_flag : Said → Flag → Option Said
-say_flag said flag = cond (is_on said.flags flag) None (Some (record said { flags = switched_on said.flags flag }))
-
--- an option by its name
-abbrev pub say_named : Said → Option Named → Option Said
-say_named said None = None
-say_named said (Some (named.Choice choice)) = say_choice said choice
-say_named said (Some (named.Flag flag)) = say_flag said flag
-
--- the value of an option
-abbrev pub say_value : Said → Choice → List ℕ → Said
-say_value said choice.App word = record said { app = Some word; waiting = None }
-say_value said choice.Blocks word = record said { blocks = Some word; waiting = None }
-
--- one more word: the value of the option before it, or else the name of an option
-abbrev pub say : Option Choice → Said → List ℕ → Option Said
-say (Some choice) said word = cond (is_value word) (Some (say_value said choice word)) None
-say None said word = say_named said (named_by word)
-
--- the words in their order
-abbrev pub say_all : Said → List (List ℕ) → Option Said
-say_all said [] = Some said
-say_all said (word ∷ words) = option_and_then (λ more. say_all more words) (say said.waiting said word)
-
--- a run needs both files, and the last option has its value
-abbrev pub run_with : Option (List ℕ) → Option (List ℕ) → Flags → Option Choice → Option Settings
-run_with (Some app) (Some blocks) flags None = Some (Run app blocks flags)
-run_with _ _ _ _ = None
-
-abbrev pub run_of : Said → Option Settings
-run_of said = run_with said.app said.blocks said.flags said.waiting
-
--- a seal needs the block file alone, and takes no flag
-abbrev pub seal_with : Option (List ℕ) → Option (List ℕ) → Bool → Bool → Option Choice → Option Settings
-seal_with None (Some blocks) false false None = Some (Seal blocks)
-seal_with _ _ _ _ _ = None
-
-abbrev pub seal_of : Said → Option Settings
-seal_of said = seal_with said.app said.blocks said.flags.orders said.flags.digests said.waiting
-
--- the command that a word names
-abbrev pub command_of : List ℕ → Option Command
-command_of word = cond (bytes_eq word (codes "run")) (Some command.Run) (cond (bytes_eq word (codes "seal")) (Some command.Seal) None)
-
--- what a command and its options come to
-abbrev pub settled : Option Command → Said → Option Settings
-settled None said = None
-settled (Some command.Run) said = run_of said
-settled (Some command.Seal) said = seal_of said
+-- what a command and the words behind it come to
+abbrev pub settled : Option Command → List (List ℕ) → Option Settings
+settled None words = None
+settled (Some command) words = cond (is_read None words && is_line command (given words)) (Some (made command (given words))) None
 
 -- the settings of a command line: the command's word, and its options in any order; none where it is not in the language
 abbrev pub settings_of : List (List ℕ) → Option Settings
 settings_of [] = None
-settings_of (word ∷ words) = option_and_then (settled (command_of word)) (say_all nothing_said words)
+settings_of (word ∷ words) = settled (command_of word) words

@@ -1,78 +1,51 @@
 -- What the language of the command line comes to.
-use Rattle.std.specs.Prelude.{ℕ, suc, List, [], ◌∷◌, ◌++◌, ◌≡◌, Bool, true, cond, Some, codes}
-use Rattle.cli_words.specs.Language.{is_value, settings_of}
-use Rattle.cli_words.specs.declared.flags.Flags.{Flags}
-use Rattle.cli_words.specs.declared.settings.Settings.TheVariants.{Run, Seal}
+use Rattle.std.specs.Prelude.{ℕ, ◌≡◌, List, [], ◌∷◌, Bool, true, false, Some, codes}
+use Rattle.std.specs.List.{All, flat_map}
+use Rattle.std.specs.List.Sorted.{IsPermutation}
+use Rattle.cli_words.specs.Language.{Item, fits, is_line, is_value, made, settings_of, values_in}
+use Rattle.cli_words.specs.Table.{command_word, takes_of, word_of}
+use Rattle.cli_words.specs.declared.command.Command.{Command}
+use Rattle.cli_words.specs.declared.options.Takes.{Takes}
+use Rattle.cli_words.specs.declared.options.Takes.TheVariants.{Nothing, Text}
+use Rattle.cli_words.specs.declared.settings.Settings.{Settings}
+use Rattle.cli_words.specs.declared.settings.Settings.TheVariants.{Seal}
 
--- an option as it is given: one of the two with its value, or a flag
-pub data Item : Type 0 where
-  App : List ℕ → Item
-  Blocks : List ℕ → Item
-  Orders : Item
-  Digests : Item
+-- a value that stands for an option that takes this
+abbrev pub matches : Takes → List ℕ → Bool
+matches Nothing [] = true
+matches Nothing (byte ∷ bytes) = false
+matches Text value = fits Text value
 
--- the words of an option
+-- an option has a value that it takes
+abbrev pub IsSound : Item → Type 0
+IsSound next = matches (takes_of next.option) next.value ≡ true
+
+-- the words of an option: its own, and its value unless it takes none
+abbrev pub words_by : Takes → Item → List (List ℕ)
+words_by Nothing next = word_of next.option ∷ []
+words_by _ next = word_of next.option ∷ next.value ∷ []
+
 abbrev pub item_words : Item → List (List ℕ)
-item_words (App value) = codes "--app" ∷ value ∷ []
-item_words (Blocks value) = codes "--blocks" ∷ value ∷ []
-item_words Orders = codes "--orders" ∷ []
-item_words Digests = codes "--digests" ∷ []
+item_words next = words_by (takes_of next.option) next
 
--- the words of options
-abbrev pub words_of : List Item → List (List ℕ)
-words_of [] = []
-words_of (item ∷ items) = item_words item ++ words_of items
+-- the words of a command and its options
+abbrev pub line_of : Command → List Item → List (List ℕ)
+line_of command items = command_word command ∷ flat_map item_words items
 
--- the values that the options give to `--app`, and those to `--blocks`
-abbrev pub apps_in : List Item → List (List ℕ)
-apps_in [] = []
-apps_in (App value ∷ items) = value ∷ apps_in items
-apps_in (_ ∷ items) = apps_in items
+-- the options are those of a command: each has a value that it takes, and stands as often as the command takes it
+pub record IsLine (command : Command) (items : List Item) : Type 0 where
+  pub sound : All IsSound items
+  pub taken : is_line command (values_in items) ≡ true
 
-abbrev pub blocks_in : List Item → List (List ℕ)
-blocks_in [] = []
-blocks_in (Blocks value ∷ items) = value ∷ blocks_in items
-blocks_in (_ ∷ items) = blocks_in items
-
--- how often the options have `--orders`, and how often `--digests`
-abbrev pub count_orders : List Item → ℕ
-count_orders [] = 0
-count_orders (Orders ∷ items) = suc (count_orders items)
-count_orders (_ ∷ items) = count_orders items
-
-abbrev pub count_digests : List Item → ℕ
-count_digests [] = 0
-count_digests (Digests ∷ items) = suc (count_digests items)
-count_digests (_ ∷ items) = count_digests items
-
--- once where a flag is on, and else not at all
-abbrev pub times : Bool → ℕ
-times on = cond on 1 0
-
--- the options, in whatever order, of a run on two files with some flags: each file once, and each flag once where it is on
-pub record IsRun (items : List Item) (app blocks : List ℕ) (flags : Flags) : Type 0 where
-  pub app_is_value : is_value app ≡ true
-  pub blocks_is_value : is_value blocks ≡ true
-  pub one_app : apps_in items ≡ app ∷ []
-  pub one_blocks : blocks_in items ≡ blocks ∷ []
-  pub each_orders : count_orders items ≡ times flags.orders
-  pub each_digests : count_digests items ≡ times flags.digests
-
--- the options of a run may stand in any order
+-- the options of a command are read as its settings, in whatever order they stand
 abbrev pub OptionsInAnyOrder : Type 0
-OptionsInAnyOrder = (items : List Item) (app blocks : List ℕ) (flags : Flags) → IsRun items app blocks flags
-    → settings_of (codes "run" ∷ words_of items) ≡ Some (Run app blocks flags)
+OptionsInAnyOrder = (command : Command) (items others : List Item) → IsLine command items → IsPermutation items others
+    → settings_of (line_of command others) ≡ Some (made command (values_in items))
 
--- no other words are read as a run
-abbrev pub OnlyRuns : Type 0
-OnlyRuns = (words : List (List ℕ)) (app blocks : List ℕ) (flags : Flags) → settings_of words ≡ Some (Run app blocks flags)
-    → (items : List Item) × (words ≡ codes "run" ∷ words_of items) × IsRun items app blocks flags
-
--- and two of them that stand side by side may be exchanged
-abbrev pub NeighboursMayChange : Type 0
-NeighboursMayChange = (front back : List Item) (first second : Item) (app blocks : List ℕ) (flags : Flags)
-    → settings_of (codes "run" ∷ words_of (front ++ first ∷ second ∷ back)) ≡ Some (Run app blocks flags)
-    → settings_of (codes "run" ∷ words_of (front ++ second ∷ first ∷ back)) ≡ Some (Run app blocks flags)
+-- and no other words are read
+abbrev pub OnlyLines : Type 0
+OnlyLines = (words : List (List ℕ)) (settings : Settings) → settings_of words ≡ Some settings
+    → (command : Command) × (items : List Item) × (words ≡ line_of command items) × IsLine command items × (settings ≡ made command (values_in items))
 
 -- the words are those of a seal of this file, and no more
 abbrev pub IsSeal : List (List ℕ) → List ℕ → Type 0

@@ -1,3 +1,3 @@
+pub mod Table
 pub mod Language
-pub mod Given
 pub mod Laws

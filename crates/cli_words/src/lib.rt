@@ -1,13 +1,16 @@
 //! The words of the command line, and the settings that they say.
 #![tactic(auto)]
 
+pub mod command;
 pub mod flags;
+pub mod given;
 pub mod laws;
 pub mod options;
 pub mod read;
 pub mod settings;
 #[cfg(test)]
 mod tests;
+pub mod value;
 pub mod word;
 
 pub use flags::Flags;

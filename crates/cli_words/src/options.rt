@@ -1,151 +1,127 @@
-//! The options of the commands.
+//! The options of the command line: what each takes, and which commands have it.
 
 ghost use Rattle.std.specs.Prelude.{◌≡◌, Option};
-ghost use Rattle.std.specs.Option.{option_copied, option_map};
-ghost use Rattle.cli_words.specs.Language.{Said, say, say_choice, say_flag, say_named, say_value, is_value, named_by, nothing_said};
-ghost use Rattle.cli_words.specs.Given.{said};
+ghost use Rattle.cli_words.specs.Table.{is_same, option_in, option_of, takes_of, use_of, word_of};
 
-use crate::flags::{Flag, Flags};
+use crate::command::Command;
 
-/// An option that takes a value.
+/// An option, by its word.
 #[derive(Clone, Copy, Debug, PartialEq, Eq)]
-pub enum Choice {
+pub enum CommandOption {
     /// `--app`, the application's file.
     App,
     /// `--blocks`, the file of blocks.
     Blocks,
+    /// `--orders`: the report shows the serial orders.
+    Orders,
+    /// `--digests`: the report shows the digests.
+    Digests,
 }
 
-/// An option, by its word.
+/// All options.
+pub const OPTIONS: [CommandOption; 4] = [
+    CommandOption::App,
+    CommandOption::Blocks,
+    CommandOption::Orders,
+    CommandOption::Digests,
+];
+
+/// What follows the word of an option.
 #[derive(Clone, Copy, Debug, PartialEq, Eq)]
-pub enum Named {
-    /// The next word is its value.
-    Choice(Choice),
-    /// It stands alone.
-    Flag(Flag),
+pub enum Takes {
+    /// Nothing.
+    Nothing,
+    /// A text, as the name of a file.
+    Text,
 }
 
-/// What the words so far say.
-#[derive(Clone, Copy)]
-pub struct Given<'a> {
-    /// The value of `--app`.
-    pub app: Option<&'a str>,
-    /// The value of `--blocks`.
-    pub blocks: Option<&'a str>,
-    /// The flags that were given.
-    pub flags: Flags,
-    /// The option whose value comes next.
-    pub waiting: Option<Choice>,
+/// How often a command takes an option.
+#[derive(Clone, Copy, Debug, PartialEq, Eq)]
+pub enum Use {
+    /// Never.
+    No,
+    /// At most once.
+    May,
+    /// Once.
+    Must,
 }
 
-/// Whether a word may be the value of an option: it is not empty and does not begin with `-`.
-pub fn is_value(word: &str) -> bool
-    ensures { result ≡ is_value word.now }
-{
-    match word.as_bytes() {
-        [first, ..] => *first != b'-',
-        [] => false,
+impl CommandOption {
+    /// Its word.
+    pub fn word(self) -> &'static str
+        ensures { result.now ≡ word_of self }
+    {
+        match self {
+            CommandOption::App => "--app",
+            CommandOption::Blocks => "--blocks",
+            CommandOption::Orders => "--orders",
+            CommandOption::Digests => "--digests",
+        }
     }
+
+    /// Whether this is the option.
+    pub fn is(self, other: CommandOption) -> bool
+        ensures { result ≡ is_same self other }
+    {
+        self.word() == other.word()
+    }
+
+    /// What it takes.
+    pub fn takes(self) -> Takes
+        ensures { result ≡ takes_of self }
+    {
+        match self {
+            CommandOption::App | CommandOption::Blocks => Takes::Text,
+            CommandOption::Orders | CommandOption::Digests => Takes::Nothing,
+        }
+    }
+}
+
+// How often `run` takes an option.
+fn use_in_run(option: CommandOption) -> Use
+    ensures { result ≡ use_of Command.Run option }
+{
+    match option {
+        CommandOption::App | CommandOption::Blocks => Use::Must,
+        CommandOption::Orders | CommandOption::Digests => Use::May,
+    }
+}
+
+// How often `seal` takes an option.
+fn use_in_seal(option: CommandOption) -> Use
+    ensures { result ≡ use_of Command.Seal option }
+{
+    match option {
+        CommandOption::Blocks => Use::Must,
+        _ => Use::No,
+    }
+}
+
+/// How often a command takes an option.
+pub fn use_of(command: Command, option: CommandOption) -> Use
+    ensures { result ≡ use_of command option }
+{
+    match command {
+        Command::Run => use_in_run(option),
+        Command::Seal => use_in_seal(option),
+    }
+}
+
+// The first of some options that a word names.
+fn option_in(options: &[CommandOption], word: &str) -> Option<CommandOption>
+    ensures { result ≡ option_in options.now word.now }
+{
+    for option in options {
+        if option.word() == word {
+            return Some(*option);
+        }
+    }
+    None
 }
 
 /// The option that a word names.
-pub fn named_by(word: &str) -> Option<Named>
-    ensures { result ≡ named_by word.now }
+pub fn option_of(word: &str) -> Option<CommandOption>
+    ensures { result ≡ option_of word.now }
 {
-    match word {
-        "--app" => Some(Named::Choice(Choice::App)),
-        "--blocks" => Some(Named::Choice(Choice::Blocks)),
-        "--orders" => Some(Named::Flag(Flag::Orders)),
-        "--digests" => Some(Named::Flag(Flag::Digests)),
-        _ => None,
-    }
-}
-
-impl<'a> Given<'a> {
-    /// Nothing yet.
-    pub fn new() -> Given<'a>
-        ensures { said result ≡ nothing_said }
-    {
-        Given {
-            app: None,
-            blocks: None,
-            flags: Flags::none(),
-            waiting: None,
-        }
-    }
-
-    /// Waits for the value of an option, unless it was given before.
-    fn with_choice(self, choice: Choice) -> Option<Given<'a>>
-        ensures { option_map said result ≡ say_choice (said self.entry) choice }
-    {
-        let before = match choice {
-            Choice::App => self.app,
-            Choice::Blocks => self.blocks,
-        };
-        if before.is_some() {
-            return None;
-        }
-        Some(Given {
-            waiting: Some(choice),
-            ..self
-        })
-    }
-
-    /// Takes a flag, unless it was given before.
-    fn with_flag(self, flag: Flag) -> Option<Given<'a>>
-        ensures { option_map said result ≡ say_flag (said self.entry) flag }
-    {
-        if self.flags.has(flag) {
-            return None;
-        }
-        Some(Given {
-            flags: self.flags.with(flag),
-            ..self
-        })
-    }
-
-    /// Takes the option that a word names.
-    fn with_named(self, named: Option<Named>) -> Option<Given<'a>>
-        ensures { option_map said result ≡ say_named (said self.entry) named }
-    {
-        match named {
-            Some(Named::Choice(choice)) => self.with_choice(choice),
-            Some(Named::Flag(flag)) => self.with_flag(flag),
-            None => None,
-        }
-    }
-
-    /// Gives an option its value.
-    fn with_value(self, choice: Choice, word: &'a str) -> Given<'a>
-        ensures { said result ≡ say_value (said self.entry) choice word.now }
-    {
-        match choice {
-            Choice::App => Given {
-                app: Some(word),
-                waiting: None,
-                ..self
-            },
-            Choice::Blocks => Given {
-                blocks: Some(word),
-                waiting: None,
-                ..self
-            },
-        }
-    }
-
-    /// One more word: the value of the option before it, or else the name of an option.
-    pub fn with_word(self, word: &'a str) -> Option<Given<'a>>
-        ensures { option_map said result ≡ say self.entry.waiting (said self.entry) word.now }
-    {
-        match self.waiting {
-            Some(choice) => {
-                if is_value(word) {
-                    Some(self.with_value(choice, word))
-                } else {
-                    None
-                }
-            }
-            None => self.with_named(named_by(word)),
-        }
-    }
+    option_in(&OPTIONS, word)
 }

@@ -1,95 +1,109 @@
 //! From words to settings.
 
-ghost use Rattle.std.specs.Prelude.{◌≡◌, ◌↔◌, IfOk, IsErrOf, Option, Some, None};
-ghost use Rattle.std.specs.Option.{option_copied, option_map};
-ghost use Rattle.cli_words.specs.Language.{texts, say_all, nothing_said, command_of, run_of, seal_of, settings_of, settled};
-ghost use Rattle.cli_words.specs.Given.{said};
+ghost use Rattle.std.specs.Prelude.{◌≡◌, ◌↔◌, IfOk, IsErrOf, Option, Some, None, length};
+ghost use Rattle.cli_words.specs.Language.{are_taken, flags_of, given, is_allowed, is_given, is_line, made, settings_of, settled, text_or_none, texts};
 
+use crate::command::{Command, command_of};
 use crate::flags::Flags;
-use crate::options::Given;
+use crate::given::{count, find, is_read};
+use crate::options::{CommandOption, OPTIONS, Use, use_of};
 use crate::settings::{Settings, WordsFault};
 use crate::word::Word;
+use rel_base::NoMemory;
 use std::alloc::Global;
 
-/// A command, by its word.
-#[derive(Clone, Copy, Debug, PartialEq, Eq)]
-pub enum Command {
-    /// `run`
-    Run,
-    /// `seal`
-    Seal,
-}
-
-// The command that a word names.
-fn command_of(word: &str) -> Option<Command>
-    ensures { result ≡ command_of word.now }
+// Whether an option may be given so often.
+fn is_allowed(how: Use, times: usize) -> bool
+    ensures { result ≡ is_allowed how times }
 {
-    match word {
-        "run" => Some(Command::Run),
-        "seal" => Some(Command::Seal),
-        _ => None,
+    match how {
+        Use::No => times == 0,
+        Use::May => times <= 1,
+        Use::Must => times == 1,
     }
 }
 
-// Each option comes at most once, so that only few words are read before one is refused.
-fn read_options<'a>(given: Given<'a>, words: &[&'a str]) -> Option<Given<'a>>
-    ensures { option_map said result ≡ say_all (said given.entry) (texts words.now) }
+// Whether a command takes each of some options as often as the words give it.
+fn are_taken(command: Command, options: &[CommandOption], words: &[&str]) -> bool
+    ensures { result ≡ are_taken command options.now (given (texts words.now)) }
 {
-    match words.split_first() {
-        None => Some(given),
-        Some((word, rest)) => read_options(given.with_word(word)?, rest),
+    for option in options {
+        if !is_allowed(use_of(command, *option), count(words, *option)) {
+            return false;
+        }
+    }
+    true
+}
+
+// Whether a command takes each option so.
+fn is_line(command: Command, words: &[&str]) -> bool
+    ensures { result ≡ is_line command (given (texts words.now)) }
+{
+    are_taken(command, &OPTIONS, words)
+}
+
+// The value of an option that the words give.
+fn text_of(alloc: Global, words: &[&str], option: CommandOption) -> Result<Word, NoMemory>
+    ensures { IfOk result (λ made. made ≡ text_or_none (given (texts words.now) option)) }
+{
+    Word::new(alloc, find(words, option).unwrap_or(""))
+}
+
+// Whether the words give an option.
+fn is_given(words: &[&str], option: CommandOption) -> bool
+    ensures { result ≡ is_given (given (texts words.now) option) }
+{
+    find(words, option).is_some()
+}
+
+// The flags that the words give.
+fn flags_of(words: &[&str]) -> Flags
+    ensures { result ≡ flags_of (given (texts words.now)) }
+{
+    Flags {
+        orders: is_given(words, CommandOption::Orders),
+        digests: is_given(words, CommandOption::Digests),
     }
 }
 
-fn to_run(alloc: Global, given: Given<'_>) -> Result<Settings, WordsFault>
-    ensures ok { IfOk result (λ settings. run_of (said given.entry) ≡ Some settings) }
-    ensures usage { IsErrOf result WordsFault.Usage ↔ (run_of (said given.entry) ≡ None) }
+fn to_run(alloc: Global, words: &[&str]) -> Result<Settings, NoMemory>
+    ensures { IfOk result (λ settings. settings ≡ made Command.Run (given (texts words.now))) }
 {
-    match given {
-        Given {
-            app: Some(app),
-            blocks: Some(blocks),
-            flags,
-            waiting: None,
-        } => Ok(Settings::Run {
-            app: Word::new(alloc, app)?,
-            blocks: Word::new(alloc, blocks)?,
-            flags,
-        }),
-        _ => Err(WordsFault::Usage),
-    }
+    Ok(Settings::Run {
+        app: text_of(alloc, words, CommandOption::App)?,
+        blocks: text_of(alloc, words, CommandOption::Blocks)?,
+        flags: flags_of(words),
+    })
 }
 
-fn to_seal(alloc: Global, given: Given<'_>) -> Result<Settings, WordsFault>
-    ensures ok { IfOk result (λ settings. seal_of (said given.entry) ≡ Some settings) }
-    ensures usage { IsErrOf result WordsFault.Usage ↔ (seal_of (said given.entry) ≡ None) }
+fn to_seal(alloc: Global, words: &[&str]) -> Result<Settings, NoMemory>
+    ensures { IfOk result (λ settings. settings ≡ made Command.Seal (given (texts words.now))) }
 {
-    match given {
-        Given {
-            app: None,
-            blocks: Some(blocks),
-            flags: Flags {
-                orders: false,
-                digests: false,
-            },
-            waiting: None,
-        } => Ok(Settings::Seal {
-            blocks: Word::new(alloc, blocks)?,
-        }),
-        _ => Err(WordsFault::Usage),
-    }
+    Ok(Settings::Seal {
+        blocks: text_of(alloc, words, CommandOption::Blocks)?,
+    })
 }
 
-// What a command and its options come to.
-fn settle(alloc: Global, command: Option<Command>, given: Given<'_>) -> Result<Settings, WordsFault>
-    ensures ok { IfOk result (λ settings. settled command (said given.entry) ≡ Some settings) }
-    ensures usage { IsErrOf result WordsFault.Usage ↔ (settled command (said given.entry) ≡ None) }
+// The settings of a command by what the words give its options.
+fn to_settings(alloc: Global, command: Command, words: &[&str]) -> Result<Settings, NoMemory>
+    ensures { IfOk result (λ settings. settings ≡ made command (given (texts words.now))) }
 {
     match command {
-        Some(Command::Run) => to_run(alloc, given),
-        Some(Command::Seal) => to_seal(alloc, given),
-        None => Err(WordsFault::Usage),
+        Command::Run => to_run(alloc, words),
+        Command::Seal => to_seal(alloc, words),
     }
+}
+
+// What a command and the words behind it come to.
+fn settle(alloc: Global, command: Command, words: &[&str]) -> Result<Settings, WordsFault>
+    ensures ok { IfOk result (λ settings. settled (Some command) (texts words.now) ≡ Some settings) }
+    ensures usage { IsErrOf result WordsFault.Usage ↔ (settled (Some command) (texts words.now) ≡ None) }
+{
+    if !is_read(words) || !is_line(command, words) {
+        return Err(WordsFault::Usage);
+    }
+    let settings = to_settings(alloc, command, words)?;
+    Ok(settings)
 }
 
 /// Reads the words after the program's name. The fault `Usage` comes exactly where the words are not in the language of
@@ -101,8 +115,8 @@ pub fn read_words(alloc: Global, words: &[&str]) -> Result<Settings, WordsFault>
     let Some((word, options)) = words.split_first() else {
         return Err(WordsFault::Usage);
     };
-    match read_options(Given::new(), options) {
-        Some(given) => settle(alloc, command_of(word), given),
+    match command_of(word) {
+        Some(command) => settle(alloc, command, options),
         None => Err(WordsFault::Usage),
     }
 }

@@ -1,0 +1,57 @@
+-- Commands and options are told apart by their words.
+use Rattle.std.proofs.Common.{◌≡◌, ℕ, List, [], ◌∷◌, ◌++◌, Bool, true, false, cond, Some, take, drop, refl, ◌∙◌, sym, ap}
+use Rattle.std.specs.Prelude.{bytes_eq}
+use Rattle.std.specs.List.{find, list_all}
+use Rattle.std.proofs.lemmas.Bool.{and_parts}
+use Rattle.std.proofs.lemmas.Slice.Eq.{bytes_eq-Decides}
+use Rattle.cli_words.specs.declared.command.Command.{Command}
+use Rattle.cli_words.specs.declared.command.Command.TheVariants.{Run, Seal}
+use Rattle.cli_words.specs.declared.options.CommandOption.{CommandOption}
+use Rattle.cli_words.specs.declared.options.CommandOption.TheVariants as option
+use Rattle.cli_words.specs.Table.{command_of, command_word, commands, is_same, option_of, options, word_of}
+
+pub same_bytes : (xs ys : List ℕ) → bytes_eq xs ys ≡ true → xs ≡ ys
+same_bytes xs ys e = (bytes_eq-Decides xs ys).0 e
+
+-- what is found passes the test
+found_by : {A : Type 0} (test : A → Bool) (first : A) (rest : List A) (x : A) (b : Bool) → test first ≡ b → (find test rest ≡ Some x → test x ≡ true) → cond b (Some first) (find test rest) ≡ Some x → test x ≡ true
+found_by test first rest x true is more e = let same : first ≡ x = cc in ap test (sym same) ∙ is
+found_by test first rest x false is more e = more e
+
+pub find_true : {A : Type 0} (test : A → Bool) (xs : List A) (x : A) → find test xs ≡ Some x → test x ≡ true
+find_true test [] x e = absurd (cc)
+find_true test (first ∷ rest) x e = found_by test first rest x (test first) refl (find_true test rest x) e
+
+-- a word names the command and the option that has it
+pub command_back : (command : Command) → command_of (command_word command) ≡ Some command
+command_back Run = refl
+command_back Seal = refl
+
+pub named_command : (word : List ℕ) (command : Command) → command_of word ≡ Some command → word ≡ command_word command
+named_command word command e = sym (same_bytes (command_word command) word (find_true (λ other. bytes_eq (command_word other) word) commands command e))
+
+pub option_back : (x : CommandOption) → option_of (word_of x) ≡ Some x
+option_back option.App = refl
+option_back option.Blocks = refl
+option_back option.Orders = refl
+option_back option.Digests = refl
+
+pub named_option : (word : List ℕ) (x : CommandOption) → option_of word ≡ Some x → word ≡ word_of x
+named_option word x e = sym (same_bytes (word_of x) word (find_true (λ other. bytes_eq (word_of other) word) options x e))
+
+-- options with one word are one
+pub one_option : (x y : CommandOption) → is_same x y ≡ true → x ≡ y
+one_option x y e =
+    let same : Some x ≡ Some y = sym (option_back x) ∙ ap option_of (same_bytes (word_of x) (word_of y) e) ∙ option_back y in
+    cc
+
+-- what holds of all options holds of each
+in_list : (test : CommandOption → Bool) (front back : List CommandOption) (x : CommandOption) → list_all test (front ++ x ∷ back) ≡ true → test x ≡ true
+in_list test [] back x all = (and_parts (test x) (list_all test back) all).0
+in_list test (first ∷ front) back x all = in_list test front back x (and_parts (test first) (list_all test (front ++ x ∷ back)) all).1
+
+pub of_each : (test : CommandOption → Bool) → list_all test options ≡ true → (x : CommandOption) → test x ≡ true
+of_each test all option.App = in_list test (take 0 options) (drop 1 options) option.App all
+of_each test all option.Blocks = in_list test (take 1 options) (drop 2 options) option.Blocks all
+of_each test all option.Orders = in_list test (take 2 options) (drop 3 options) option.Orders all
+of_each test all option.Digests = in_list test (take 3 options) (drop 4 options) option.Digests all

@@ -1,0 +1,73 @@
+-- The commands and the options of the command line, as data.
+use Rattle.std.specs.Prelude.{ℕ, List, [], ◌∷◌, Bool, cond, Option, codes, bytes_eq}
+use Rattle.std.specs.List.{find, list_any}
+use Rattle.cli_words.specs.declared.command.Command.{Command}
+use Rattle.cli_words.specs.declared.command.Command.TheVariants.{Run, Seal}
+use Rattle.cli_words.specs.declared.options.CommandOption.{CommandOption}
+use Rattle.cli_words.specs.declared.options.CommandOption.TheVariants as option
+use Rattle.cli_words.specs.declared.options.Takes.{Takes}
+use Rattle.cli_words.specs.declared.options.Takes.TheVariants.{Nothing, Text}
+use Rattle.cli_words.specs.declared.options.Use.{Use}
+use Rattle.cli_words.specs.declared.options.Use.TheVariants.{No, May, Must}
+
+-- ---- commands
+
+abbrev pub command_word : Command → List ℕ
+command_word Run = codes "run"
+command_word Seal = codes "seal"
+
+abbrev pub commands : List Command
+commands = Run ∷ Seal ∷ []
+
+-- the command that a word names
+abbrev pub command_in : List Command → List ℕ → Option Command
+command_in listed word = find (λ command. bytes_eq (command_word command) word) listed
+
+abbrev pub command_of : List ℕ → Option Command
+command_of word = command_in commands word
+
+-- ---- options
+
+-- an option: its word, what follows it, the commands that need it, and those that may have it
+pub record Rule : Type 0 where
+  pub word : List ℕ
+  pub takes : Takes
+  pub needed : List Command
+  pub optional : List Command
+
+abbrev rule : List ℕ → Takes → List Command → List Command → Rule
+rule word takes needed optional = record { word = word; takes = takes; needed = needed; optional = optional }
+
+abbrev pub rule_of : CommandOption → Rule
+rule_of option.App = rule (codes "--app") Text (Run ∷ []) []
+rule_of option.Blocks = rule (codes "--blocks") Text (Run ∷ Seal ∷ []) []
+rule_of option.Orders = rule (codes "--orders") Nothing [] (Run ∷ [])
+rule_of option.Digests = rule (codes "--digests") Nothing [] (Run ∷ [])
+
+abbrev pub options : List CommandOption
+options = option.App ∷ option.Blocks ∷ option.Orders ∷ option.Digests ∷ []
+
+abbrev pub word_of : CommandOption → List ℕ
+word_of x = (rule_of x).word
+
+abbrev pub takes_of : CommandOption → Takes
+takes_of x = (rule_of x).takes
+
+-- the option that a word names
+abbrev pub option_in : List CommandOption → List ℕ → Option CommandOption
+option_in listed word = find (λ x. bytes_eq (word_of x) word) listed
+
+abbrev pub option_of : List ℕ → Option CommandOption
+option_of word = option_in options word
+
+-- two options are one: they have one word
+abbrev pub is_same : CommandOption → CommandOption → Bool
+is_same x y = bytes_eq (word_of x) (word_of y)
+
+-- a command stands in a list
+abbrev pub is_among : List Command → Command → Bool
+is_among listed command = list_any (λ other. bytes_eq (command_word other) (command_word command)) listed
+
+-- how often a command takes an option: once, at most once, or never
+abbrev pub use_of : Command → CommandOption → Use
+use_of command x = cond (is_among (rule_of x).needed command) Must (cond (is_among (rule_of x).optional command) May No)

@@ -1,0 +1,47 @@
+//! The commands of the program.
+
+ghost use Rattle.std.specs.Prelude.{◌≡◌, Option};
+ghost use Rattle.cli_words.specs.Table.{command_in, command_of, command_word};
+
+/// A command, by its word.
+#[derive(Clone, Copy, Debug, PartialEq, Eq)]
+pub enum Command {
+    /// `run`: runs the blocks of a file on an application.
+    Run,
+    /// `seal`: writes them as a chain.
+    Seal,
+}
+
+/// All commands.
+pub const COMMANDS: [Command; 2] = [Command::Run, Command::Seal];
+
+impl Command {
+    /// Its word.
+    pub fn word(self) -> &'static str
+        ensures { result.now ≡ command_word self }
+    {
+        match self {
+            Command::Run => "run",
+            Command::Seal => "seal",
+        }
+    }
+}
+
+// The first of some commands that a word names.
+fn command_in(commands: &[Command], word: &str) -> Option<Command>
+    ensures { result ≡ command_in commands.now word.now }
+{
+    for command in commands {
+        if command.word() == word {
+            return Some(*command);
+        }
+    }
+    None
+}
+
+/// The command that a word names.
+pub fn command_of(word: &str) -> Option<Command>
+    ensures { result ≡ command_of word.now }
+{
+    command_in(&COMMANDS, word)
+}
