@@ -7,13 +7,13 @@ use Rattle.bcdb.specs.Answer.{over_app, read_refused, says}
 use Rattle.bcdb.specs.Reply.{Means}
 use Rattle.bcdb.specs.declared.decide.Reply.{Reply}
 use Rattle.bcdb.specs.declared.status.Status.TheVariants.{AppRefused}
+use Rattle.bcdb.specs.declared.task.Task.{Task}
 use Rattle.edge_traits.specs.Shelf.{Files}
 use Rattle.bcdb.specs.Refusals.{refusal_line}
 use Rattle.bcdb.specs.declared.refusal.Refusal.{Refusal}
 use Rattle.proc_parse.specs.Grammar.{application}
 use Rattle.proc_parse.specs.Tokens.{tokens_of}
 use Rattle.proc_syntax.specs.declared.tree.App.{App}
-use Rattle.report_text.specs.declared.look.Look.{Look}
 
 pub has_turn : (told : Option Files) (name bytes : List ℕ) (app : App) → IfSome told (λ files. bytes ≡ files name) → accepted bytes ≡ Ok app
     → IfSome told (λ files. IsOk (accepted (files name)))
@@ -36,8 +36,8 @@ too_long_told None name long = tt
 too_long_told (Some files) name long = refused (nat_le (length (files name)) 1048576) (typed (application (tokens_of (files name)))) (not_short 1048576 (length (files name)) long)
 
 -- bytes that are no application are refused
-pub refused_told : (look : Look) (told : Option Files) (app_name name bytes : List ℕ) (refusal : Refusal) (reply : Reply) → IfSome told (λ files. bytes ≡ files app_name) → accepted bytes ≡ Err refusal
-    → Means (says AppRefused (refusal_line refusal)) reply → IfSome told (λ files. Means (over_app look (accepted (files app_name)) (files name)) reply)
-refused_told look None app_name name bytes refusal reply same is means = tt
-refused_told look (Some files) app_name name bytes refusal reply same is means =
-    subst (λ found. Means (over_app look found (files name)) reply) (sym (ap accepted (sym same) ∙ is)) means
+pub refused_told : (task : Task) (told : Option Files) (app_name name bytes : List ℕ) (refusal : Refusal) (reply : Reply) → IfSome told (λ files. bytes ≡ files app_name) → accepted bytes ≡ Err refusal
+    → Means (says AppRefused (refusal_line refusal)) reply → IfSome told (λ files. Means (over_app task (accepted (files app_name)) (files name)) reply)
+refused_told task None app_name name bytes refusal reply same is means = tt
+refused_told task (Some files) app_name name bytes refusal reply same is means =
+    subst (λ found. Means (over_app task found (files name)) reply) (sym (ap accepted (sym same) ∙ is)) means

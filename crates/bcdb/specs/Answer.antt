@@ -1,25 +1,34 @@
--- What the program means to answer, over whole files: the report of the fold of the blocks on the application, or the blocks as a chain.
-use Rattle.std.specs.Prelude.{Err, List, None, Ok, Option, Result, Some, [], codes, false, ◌≡◌, ◌∷◌, ℕ}
+-- What the program means to answer, over whole files: the report of the fold of the blocks on the application, or the versions that a query
+-- selects in it, or the blocks as a chain.
+use Rattle.std.specs.Prelude.{Err, List, None, Ok, Option, Result, Some, [], codes, false, ◌++◌, ◌≡◌, ◌∷◌, ℕ}
 use Rattle.bcdb.specs.Accepted.{accepted}
-use Rattle.bcdb.specs.Refusals.{refusal_line}
+use Rattle.bcdb.specs.Refusals.{query_refusal, refusal_line}
+use Rattle.bcdb.specs.Selected.{selected}
 use Rattle.bcdb.specs.declared.refusal.Refusal.{Refusal}
-use Rattle.bcdb.specs.declared.status.Status.TheVariants.{AppRefused, ChainRefused, Done, NoMemory, ReadFault, Usage, WriteFault}
+use Rattle.bcdb.specs.declared.status.Status.TheVariants.{AppRefused, ChainRefused, Done, NoMemory, QueryRefused, ReadFault, Usage, WriteFault}
 use Rattle.bcdb.specs.declared.status.Status.{Status}
+use Rattle.bcdb.specs.declared.task.Task.{Task}
+use Rattle.bcdb.specs.declared.task.Task.TheVariants.{Query, Report}
 use Rattle.chain_file.specs.Chain.{chain}
 use Rattle.chain_file.specs.ChainText.{chain_text}
 use Rattle.cli_words.specs.Language.{settings_of}
 use Rattle.cli_words.specs.declared.flags.Flags.{Flags}
-use Rattle.cli_words.specs.declared.settings.Settings.TheVariants.{Run, Seal}
+use Rattle.cli_words.specs.declared.settings.Settings.TheVariants.{Provenance, Run, Seal}
 use Rattle.cli_words.specs.declared.settings.Settings.{Settings}
 use Rattle.edge_traits.specs.Shelf.{Files}
 use Rattle.edge_traits.specs.Sink.{WroteFront, appended}
 use Rattle.node_model.specs.Fold.{node_result}
+use Rattle.node_model.specs.declared.version.Version.{Version}
 use Rattle.proc_syntax.specs.Declaring.{tables_of}
 use Rattle.proc_syntax.specs.declared.call.Block.{Block}
 use Rattle.proc_syntax.specs.declared.tree.App.{App}
 use Rattle.proc_syntax.specs.declared.chain_fault.ChainFault.{ChainFault}
-use Rattle.report_text.specs.Ending.{stopped_line}
+use Rattle.provenance.specs.Grammar.{query_of}
+use Rattle.provenance.specs.declared.query.QueryFault.{QueryFault}
+use Rattle.rel_base.specs.declared.schema.TableDef.{TableDef}
+use Rattle.report_text.specs.Ending.{end_line, stopped_line}
 use Rattle.report_text.specs.Report.{report_text}
+use Rattle.report_text.specs.Versions.{versions_text}
 use Rattle.report_text.specs.declared.look.Look.{Look}
 
 -- a status, and all that is written
@@ -39,14 +48,20 @@ status_of (Some fault) = ChainRefused
 abbrev pub look_of : Flags → Look
 look_of flags = record { orders = flags.orders; digests = flags.digests; json = false; trace = false }
 
--- the blocks decide last: the report of those before the first fault, and where the file stopped
-abbrev pub over_blocks : Look → App → List Block → Option ChainFault → Answer
-over_blocks look app blocks stop = says (status_of stop) (report_text look (tables_of app) (node_result app blocks ∷ []) stop)
+-- the versions that a query selects, and how the block file ended; or why the query is refused, also where the block file has a fault
+abbrev pub over_versions : List TableDef → Option ChainFault → Result (List Version) QueryFault → Answer
+over_versions tables stop (Ok versions) = says (status_of stop) (versions_text tables versions ++ end_line stop)
+over_versions tables stop (Err fault) = says QueryRefused (query_refusal fault)
+
+-- the blocks decide after the application: what is asked is answered over those before the first fault
+abbrev pub over_blocks : Task → App → List Block → Option ChainFault → Answer
+over_blocks (Report look) app blocks stop = says (status_of stop) (report_text look (tables_of app) (node_result app blocks ∷ []) stop)
+over_blocks (Query text) app blocks stop = over_versions (tables_of app) stop (selected app blocks (query_of text))
 
 -- the application decides before the blocks
-abbrev pub over_app : Look → Result App Refusal → List ℕ → Answer
-over_app look (Err refusal) bytes = says AppRefused (refusal_line refusal)
-over_app look (Ok app) bytes = over_blocks look app (chain bytes).0 (chain bytes).1
+abbrev pub over_app : Task → Result App Refusal → List ℕ → Answer
+over_app task (Err refusal) bytes = says AppRefused (refusal_line refusal)
+over_app task (Ok app) bytes = over_blocks task app (chain bytes).0 (chain bytes).1
 
 -- a seal is the chain file of the blocks of a file without a fault, and else where the file stopped
 abbrev pub sealed : List Block → Option ChainFault → Answer
@@ -60,7 +75,8 @@ usage_refused = says Usage (codes "refused usage\n")
 -- the words decide first
 abbrev pub over_settings : Option Settings → Files → Answer
 over_settings None files = usage_refused
-over_settings (Some (Run app blocks flags)) files = over_app (look_of flags) (accepted (files app)) (files blocks)
+over_settings (Some (Run app blocks flags)) files = over_app (Report (look_of flags)) (accepted (files app)) (files blocks)
+over_settings (Some (Provenance app blocks query)) files = over_app (Query query) (accepted (files app)) (files blocks)
 over_settings (Some (Seal blocks)) files = sealed (chain (files blocks)).0 (chain (files blocks)).1
 
 -- what the words mean over files

@@ -3,7 +3,7 @@ use Rattle.std.specs.Prelude.{Err, List, None, Ok, Option, Result, Some, ℕ}
 use Rattle.bcdb.specs.Accepted.{accepted}
 use Rattle.bcdb.specs.declared.refusal.Refusal.{Refusal}
 use Rattle.chain_file.specs.Chain.{chain}
-use Rattle.cli_words.specs.declared.settings.Settings.TheVariants.{Run, Seal}
+use Rattle.cli_words.specs.declared.settings.Settings.TheVariants.{Run}
 use Rattle.cli_words.specs.declared.settings.Settings.{Settings}
 use Rattle.edge_traits.specs.Shelf.{Files}
 use Rattle.node_model.specs.Fold.{node_result}
@@ -20,4 +20,4 @@ BlocksInOrder (Ok app) bytes = EachInOrder app (chain bytes).0 (node_result app 
 abbrev pub RunsInOrder : Option Settings → Files → Type 0
 RunsInOrder None files = Unit {0}
 RunsInOrder (Some (Run app blocks flags)) files = BlocksInOrder (accepted (files app)) (files blocks)
-RunsInOrder (Some (Seal blocks)) files = Unit {0}
+RunsInOrder (Some _) files = Unit {0}

@@ -1,5 +1,6 @@
 pub mod Refusals
 pub mod Accepted
+pub mod Selected
 pub mod Told
 pub mod Answer
 pub mod Causes

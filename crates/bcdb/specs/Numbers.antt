@@ -1,7 +1,7 @@
 -- The numbers that the process ends with.
 use Rattle.std.specs.Prelude.{ℕ}
 use Rattle.bcdb.specs.declared.status.Status.{Status}
-use Rattle.bcdb.specs.declared.status.Status.TheVariants.{AppRefused, ChainRefused, Done, NoMemory, ReadFault, Usage, WriteFault}
+use Rattle.bcdb.specs.declared.status.Status.TheVariants.{AppRefused, ChainRefused, Done, NoMemory, QueryRefused, ReadFault, Usage, WriteFault}
 
 -- the number of a status
 abbrev pub number_of : Status → ℕ
@@ -12,3 +12,4 @@ number_of AppRefused = 4
 number_of ChainRefused = 5
 number_of WriteFault = 7
 number_of NoMemory = 8
+number_of QueryRefused = 9

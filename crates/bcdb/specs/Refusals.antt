@@ -1,9 +1,11 @@
--- The line that says why an application is refused.
+-- The lines that say why an application or a query is refused.
 use Rattle.std.specs.Prelude.{List, codes, decimal, ◌++◌, ℕ}
 use Rattle.bcdb.specs.declared.refusal.Refusal.{Refusal}
 use Rattle.bcdb.specs.declared.refusal.RefusalKind.TheVariants.{Bad, Syntax, TooLong}
 use Rattle.bcdb.specs.declared.refusal.RefusalKind.{RefusalKind}
 use Rattle.proc_check.specs.declared.fault.BadKind.TheVariants.{KeySet, Limit, NameTwice, NoIndex, UnknownName, WrongCount, WrongKind}
+use Rattle.provenance.specs.declared.query.QueryFault.{QueryFault}
+use Rattle.provenance.specs.declared.query.QueryFault.TheVariants as fault
 
 -- what is wrong, by its name
 abbrev pub kind_text : RefusalKind → List ℕ
@@ -24,3 +26,15 @@ place_text refusal = codes " " ++ decimal refusal.line ++ codes " " ++ kind_text
 -- `refused application LINE KIND`
 abbrev pub refusal_line : Refusal → List ℕ
 refusal_line refusal = codes "refused application" ++ place_text refusal
+
+-- why a query is refused, by its name; want of memory has a name too, and refuses none
+abbrev pub fault_text : QueryFault → List ℕ
+fault_text fault.NoMemory = codes "NoMemory"
+fault_text fault.BadQuery = codes "BadQuery"
+fault_text fault.UnknownTable = codes "UnknownTable"
+fault_text fault.BadKey = codes "BadKey"
+fault_text fault.BadRange = codes "BadRange"
+
+-- `refused query KIND`
+abbrev pub query_refusal : QueryFault → List ℕ
+query_refusal fault = codes "refused query " ++ fault_text fault ++ codes "\n"

@@ -4,10 +4,9 @@ ghost use Rattle.std.specs.Result.{IsOk};
 ghost use Rattle.bcdb.specs.Accepted.{accepted};
 ghost use Rattle.bcdb.specs.Refusals.{refusal_line};
 ghost use Rattle.bcdb.specs.Answer.{look_of, over_app, over_settings, says, sealed};
-ghost use Rattle.bcdb.specs.Causes.{AllowsBlocks, AllowsNamed, Counted, RoseAtNamed, RoseInTurn};
+ghost use Rattle.bcdb.specs.Causes.{AllowsBlocks, AllowsNamed, AllowsRun, Counted, RoseAtNamed, RoseAtRun, RoseInRun, RoseInTurn};
 ghost use Rattle.bcdb.specs.Reply.{Means, is_answer};
 ghost use Rattle.chain_file.specs.Chain.{chain};
-ghost use Rattle.cli_words.specs.declared.settings.Settings.TheVariants.{Run};
 ghost use Rattle.edge_traits.specs.Causes.{Rose};
 
 use crate::blocks::read_blocks;
@@ -16,6 +15,7 @@ use crate::files::{AppFault, LONGEST_APPLICATION, read_application};
 use crate::refusal::{Refusal, TOO_LONG, refusal_line};
 use crate::run::{answer_blocks, answer_seal};
 use crate::status::Status;
+use crate::task::Task;
 use cli_words::{Flags, Settings};
 use edge_traits::{FetchFault, Shelf, read_whole};
 use proc_check::Checked;
@@ -47,15 +47,15 @@ fn run_app<S: Shelf>(
     shelf: &mut S,
     app: Checked,
     name: &str,
-    look: Look,
+    task: &Task,
 ) -> Result<Reply, FilesFault>
     requires allowed { AllowsBlocks (S.told shelf.old) (S.may_read shelf.old) name.now }
-    ensures told { IfOk result (λ reply. IfSome (S.told shelf.old) (λ files. Means (over_app look (Ok app.app) (files name.now)) reply)) }
+    ensures told { IfOk result (λ reply. IfSome (S.told shelf.old) (λ files. Means (over_app task.now (Ok app.app) (files name.now)) reply)) }
     ensures counted { Counted result (Rose (S.faults shelf.old name.now) (S.faults shelf.new name.now)) (S.faults shelf.old) (S.faults shelf.new) }
     ensures kind { IfOk result (λ reply. is_answer reply.status ≡ true) }
 {
     let read = read_blocks(alloc, shelf, name)?;
-    let reply = answer_blocks(alloc, look, app, &read)?;
+    let reply = answer_blocks(alloc, task, app, &read)?;
     Ok(reply)
 }
 
@@ -79,17 +79,17 @@ fn check_app<S: Shelf>(
     app_name: &str,
     app: &[u8],
     name: &str,
-    look: Look,
+    task: &Task,
 ) -> Result<Reply, FilesFault>
     requires bytes { IfSome (S.told shelf.old) (λ files. app.now ≡ files app_name.now) }
     requires allowed { IfSome (S.told shelf.old) (λ files. IsOk (accepted (files app_name.now))) → AllowsBlocks (S.told shelf.old) (S.may_read shelf.old) name.now }
-    ensures told { IfOk result (λ reply. IfSome (S.told shelf.old) (λ files. Means (over_app look (accepted (files app_name.now)) (files name.now)) reply)) }
+    ensures told { IfOk result (λ reply. IfSome (S.told shelf.old) (λ files. Means (over_app task.now (accepted (files app_name.now)) (files name.now)) reply)) }
     ensures turn { IsErrOf result FilesFault.Failed → IfSome (S.told shelf.old) (λ files. IsOk (accepted (files app_name.now))) }
     ensures counted { Counted result (Rose (S.faults shelf.old name.now) (S.faults shelf.new name.now)) (S.faults shelf.old) (S.faults shelf.new) }
     ensures kind { IfOk result (λ reply. is_answer reply.status ≡ true) }
 {
     match read_application(alloc, app) {
-        Ok(checked) => run_app(alloc, shelf, checked, name, look),
+        Ok(checked) => run_app(alloc, shelf, checked, name, task),
         Err(AppFault::Refused(refusal)) => {
             let reply = refuse_app(alloc, refusal)?;
             Ok(reply)
@@ -117,16 +117,16 @@ fn read_app<S: Shelf>(
     shelf: &mut S,
     app_name: &str,
     name: &str,
-    flags: Flags,
+    task: &Task,
 ) -> Result<Reply, FilesFault>
-    requires allowed { AllowsNamed (Some (Run app_name.now name.now flags)) (S.told shelf.old) (S.may_read shelf.old) }
-    ensures told { IfOk result (λ reply. IfSome (S.told shelf.old) (λ files. Means (over_app (look_of flags) (accepted (files app_name.now)) (files name.now)) reply)) }
-    ensures turn { IsErrOf result FilesFault.Failed → IfSome (S.told shelf.old) (λ files. RoseInTurn (Some (Run app_name.now name.now flags)) files (S.faults shelf.old) (S.faults shelf.new)) }
-    ensures counted { Counted result (RoseAtNamed (Some (Run app_name.now name.now flags)) (S.faults shelf.old) (S.faults shelf.new)) (S.faults shelf.old) (S.faults shelf.new) }
+    requires allowed { AllowsRun app_name.now name.now (S.told shelf.old) (S.may_read shelf.old) }
+    ensures told { IfOk result (λ reply. IfSome (S.told shelf.old) (λ files. Means (over_app task.now (accepted (files app_name.now)) (files name.now)) reply)) }
+    ensures turn { IsErrOf result FilesFault.Failed → IfSome (S.told shelf.old) (λ files. RoseInRun app_name.now name.now files (S.faults shelf.old) (S.faults shelf.new)) }
+    ensures counted { Counted result (RoseAtRun app_name.now name.now (S.faults shelf.old) (S.faults shelf.new)) (S.faults shelf.old) (S.faults shelf.new) }
     ensures kind { IfOk result (λ reply. is_answer reply.status ≡ true) }
 {
     match read_whole(alloc, shelf, app_name, LONGEST_APPLICATION) {
-        Ok(app) => check_app(alloc, shelf, app_name, app.as_slice(), name, look_of(flags)),
+        Ok(app) => check_app(alloc, shelf, app_name, app.as_slice(), name, task),
         Err(FetchFault::TooLong) => {
             let reply = refuse_app(alloc, TOO_LONG)?;
             Ok(reply)
@@ -151,7 +151,12 @@ pub fn decide<S: Shelf>(
 {
     match settings {
         Settings::Run { app, blocks, flags } => {
-            read_app(alloc, shelf, app.as_str(), blocks.as_str(), flags)
+            let task = Task::Report(look_of(flags));
+            read_app(alloc, shelf, app.as_str(), blocks.as_str(), &task)
+        }
+        Settings::Provenance { app, blocks, query } => {
+            let task = Task::Query(query);
+            read_app(alloc, shelf, app.as_str(), blocks.as_str(), &task)
         }
         Settings::Seal { blocks } => seal_file(alloc, shelf, blocks.as_str()),
     }

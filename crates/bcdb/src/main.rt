@@ -1,14 +1,16 @@
-//! A permissioned blockchain database: runs a file of blocks on an application and prints outcomes and tables, or writes the
-//! blocks as a chain.
+//! A permissioned blockchain database: runs a file of blocks on an application and prints outcomes and tables, or the versions that a
+//! query selects; or writes the blocks as a chain.
 #![tactic(auto)]
 
 pub mod blocks;
 pub mod decide;
 pub mod fault;
 pub mod files;
+pub mod query;
 pub mod refusal;
 pub mod run;
 pub mod status;
+pub mod task;
 #[cfg(test)]
 mod tests;
 pub mod top;

@@ -1,10 +1,11 @@
-//! Why an application is refused, and the line that says so.
+//! Why an application or a query is refused, and the line that says so.
 
 ghost use Rattle.std.specs.Prelude.{◌≡◌, ◌++◌, IfOk, OnOk};
-ghost use Rattle.bcdb.specs.Refusals.{kind_text, place_text, refusal_line};
+ghost use Rattle.bcdb.specs.Refusals.{fault_text, kind_text, place_text, query_refusal, refusal_line};
 
 use literals::push_number;
 use proc_check::BadKind;
+use provenance::QueryFault;
 use rel_base::{List, NoMemory};
 use std::alloc::Global;
 
@@ -75,5 +76,28 @@ pub fn refusal_line(alloc: Global, refusal: Refusal) -> Result<List<u8>, NoMemor
 {
     let mut out = b"refused application".to_vec(alloc)?;
     push_place(&mut out, refusal)?;
+    Ok(List::from_vec(out))
+}
+
+// The word for what is wrong with a query.
+fn fault_text(fault: QueryFault) -> &'static [u8]
+    ensures { result.now ≡ fault_text fault }
+{
+    match fault {
+        QueryFault::NoMemory => b"NoMemory",
+        QueryFault::BadQuery => b"BadQuery",
+        QueryFault::UnknownTable => b"UnknownTable",
+        QueryFault::BadKey => b"BadKey",
+        QueryFault::BadRange => b"BadRange",
+    }
+}
+
+/// The line that says why a query is refused.
+pub fn query_refusal(alloc: Global, fault: QueryFault) -> Result<List<u8>, NoMemory>
+    ensures { IfOk result (λ bytes. bytes ≡ query_refusal fault) }
+{
+    let mut out = b"refused query ".to_vec(alloc)?;
+    push(&mut out, fault_text(fault))?;
+    push(&mut out, b"\n")?;
     Ok(List::from_vec(out))
 }

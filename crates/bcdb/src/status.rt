@@ -23,6 +23,8 @@ pub enum Status {
     WriteFault = 7,
     /// Memory ran out.
     NoMemory = 8,
+    /// The query is not in its grammar, or asks for what there is not.
+    QueryRefused = 9,
 }
 
 /// What the process ends with: the number of the status.

@@ -25,6 +25,7 @@ seal_read blocks is = rw is refl
 other_than : (x : CommandOption) → (use_of command.Seal x ≡ No) ⊎ (x ≡ option.Blocks)
 other_than option.App = inl refl
 other_than option.Blocks = inr refl
+other_than option.Query = inl refl
 other_than option.Orders = inl refl
 other_than option.Digests = inl refl
 
@@ -102,6 +103,7 @@ seal_of words items blocks spelled line same =
 
 by_command : (words : List (List ℕ)) (c : Command) (items : List Item) (blocks : List ℕ) → words ≡ line_of c items → IsLine c items → Seal blocks ≡ made c (values_in items) → IsSeal words blocks
 by_command words command.Run items blocks spelled line same = absurd (cc)
+by_command words command.Provenance items blocks spelled line same = absurd (cc)
 by_command words command.Seal items blocks spelled line same = seal_of words items blocks spelled line same
 
 pub only_seals : (words : List (List ℕ)) (blocks : List ℕ) → settings_of words ≡ Some (Seal blocks) → IsSeal words blocks

@@ -15,7 +15,7 @@ use Rattle.cli_words.specs.declared.options.Takes.TheVariants.{Nothing, Text}
 use Rattle.cli_words.specs.declared.options.Use.{Use}
 use Rattle.cli_words.specs.declared.options.Use.TheVariants.{No, May, Must}
 use Rattle.cli_words.specs.declared.settings.Settings.{Settings}
-use Rattle.cli_words.specs.declared.settings.Settings.TheVariants.{Run, Seal}
+use Rattle.cli_words.specs.declared.settings.Settings.TheVariants.{Run, Provenance, Seal}
 
 -- the words of a `&[&str]`
 abbrev pub texts : List (Bor (List ℕ)) → List (List ℕ)
@@ -127,6 +127,7 @@ no_flags = record { orders = false; digests = false }
 -- the settings of a command, by the values of its options
 abbrev pub made : Command → (CommandOption → List (List ℕ)) → Settings
 made command.Run values = Run (text_or_none (values option.App)) (text_or_none (values option.Blocks)) (flags_of values)
+made command.Provenance values = Provenance (text_or_none (values option.App)) (text_or_none (values option.Blocks)) (text_or_none (values option.Query))
 made command.Seal values = Seal (text_or_none (values option.Blocks))
 
 -- what a command and the words behind it come to

@@ -2,7 +2,7 @@
 use Rattle.std.specs.Prelude.{ℕ, List, [], ◌∷◌, Bool, cond, Option, codes, bytes_eq}
 use Rattle.std.specs.List.{find, list_any}
 use Rattle.cli_words.specs.declared.command.Command.{Command}
-use Rattle.cli_words.specs.declared.command.Command.TheVariants.{Run, Seal}
+use Rattle.cli_words.specs.declared.command.Command.TheVariants.{Run, Provenance, Seal}
 use Rattle.cli_words.specs.declared.options.CommandOption.{CommandOption}
 use Rattle.cli_words.specs.declared.options.CommandOption.TheVariants as option
 use Rattle.cli_words.specs.declared.options.Takes.{Takes}
@@ -14,10 +14,11 @@ use Rattle.cli_words.specs.declared.options.Use.TheVariants.{No, May, Must}
 
 abbrev pub command_word : Command → List ℕ
 command_word Run = codes "run"
+command_word Provenance = codes "provenance"
 command_word Seal = codes "seal"
 
 abbrev pub commands : List Command
-commands = Run ∷ Seal ∷ []
+commands = Run ∷ Provenance ∷ Seal ∷ []
 
 -- the command that a word names
 abbrev pub command_in : List Command → List ℕ → Option Command
@@ -39,13 +40,14 @@ abbrev rule : List ℕ → Takes → List Command → List Command → Rule
 rule word takes needed optional = record { word = word; takes = takes; needed = needed; optional = optional }
 
 abbrev pub rule_of : CommandOption → Rule
-rule_of option.App = rule (codes "--app") Text (Run ∷ []) []
-rule_of option.Blocks = rule (codes "--blocks") Text (Run ∷ Seal ∷ []) []
+rule_of option.App = rule (codes "--app") Text (Run ∷ Provenance ∷ []) []
+rule_of option.Blocks = rule (codes "--blocks") Text (Run ∷ Provenance ∷ Seal ∷ []) []
+rule_of option.Query = rule (codes "--query") Text (Provenance ∷ []) []
 rule_of option.Orders = rule (codes "--orders") Nothing [] (Run ∷ [])
 rule_of option.Digests = rule (codes "--digests") Nothing [] (Run ∷ [])
 
 abbrev pub options : List CommandOption
-options = option.App ∷ option.Blocks ∷ option.Orders ∷ option.Digests ∷ []
+options = option.App ∷ option.Blocks ∷ option.Query ∷ option.Orders ∷ option.Digests ∷ []
 
 abbrev pub word_of : CommandOption → List ℕ
 word_of x = (rule_of x).word

@@ -8,12 +8,14 @@ ghost use Rattle.cli_words.specs.Table.{command_in, command_of, command_word};
 pub enum Command {
     /// `run`: runs the blocks of a file on an application.
     Run,
+    /// `provenance`: answers a query about the versions that they made.
+    Provenance,
     /// `seal`: writes them as a chain.
     Seal,
 }
 
 /// All commands.
-pub const COMMANDS: [Command; 2] = [Command::Run, Command::Seal];
+pub const COMMANDS: [Command; 3] = [Command::Run, Command::Provenance, Command::Seal];
 
 impl Command {
     /// Its word.
@@ -22,6 +24,7 @@ impl Command {
     {
         match self {
             Command::Run => "run",
+            Command::Provenance => "provenance",
             Command::Seal => "seal",
         }
     }

@@ -12,6 +12,8 @@ pub enum CommandOption {
     App,
     /// `--blocks`, the file of blocks.
     Blocks,
+    /// `--query`, a query about versions.
+    Query,
     /// `--orders`: the report shows the serial orders.
     Orders,
     /// `--digests`: the report shows the digests.
@@ -19,9 +21,10 @@ pub enum CommandOption {
 }
 
 /// All options.
-pub const OPTIONS: [CommandOption; 4] = [
+pub const OPTIONS: [CommandOption; 5] = [
     CommandOption::App,
     CommandOption::Blocks,
+    CommandOption::Query,
     CommandOption::Orders,
     CommandOption::Digests,
 ];
@@ -54,6 +57,7 @@ impl CommandOption {
         match self {
             CommandOption::App => "--app",
             CommandOption::Blocks => "--blocks",
+            CommandOption::Query => "--query",
             CommandOption::Orders => "--orders",
             CommandOption::Digests => "--digests",
         }
@@ -71,7 +75,7 @@ impl CommandOption {
         ensures { result ≡ takes_of self }
     {
         match self {
-            CommandOption::App | CommandOption::Blocks => Takes::Text,
+            CommandOption::App | CommandOption::Blocks | CommandOption::Query => Takes::Text,
             CommandOption::Orders | CommandOption::Digests => Takes::Nothing,
         }
     }
@@ -84,6 +88,17 @@ fn use_in_run(option: CommandOption) -> Use
     match option {
         CommandOption::App | CommandOption::Blocks => Use::Must,
         CommandOption::Orders | CommandOption::Digests => Use::May,
+        CommandOption::Query => Use::No,
+    }
+}
+
+// How often `provenance` takes an option.
+fn use_in_provenance(option: CommandOption) -> Use
+    ensures { result ≡ use_of Command.Provenance option }
+{
+    match option {
+        CommandOption::App | CommandOption::Blocks | CommandOption::Query => Use::Must,
+        CommandOption::Orders | CommandOption::Digests => Use::No,
     }
 }
 
@@ -103,6 +118,7 @@ pub fn use_of(command: Command, option: CommandOption) -> Use
 {
     match command {
         Command::Run => use_in_run(option),
+        Command::Provenance => use_in_provenance(option),
         Command::Seal => use_in_seal(option),
     }
 }

@@ -76,6 +76,16 @@ fn to_run(alloc: Global, words: &[&str]) -> Result<Settings, NoMemory>
     })
 }
 
+fn to_provenance(alloc: Global, words: &[&str]) -> Result<Settings, NoMemory>
+    ensures { IfOk result (λ settings. settings ≡ made Command.Provenance (given (texts words.now))) }
+{
+    Ok(Settings::Provenance {
+        app: text_of(alloc, words, CommandOption::App)?,
+        blocks: text_of(alloc, words, CommandOption::Blocks)?,
+        query: text_of(alloc, words, CommandOption::Query)?,
+    })
+}
+
 fn to_seal(alloc: Global, words: &[&str]) -> Result<Settings, NoMemory>
     ensures { IfOk result (λ settings. settings ≡ made Command.Seal (given (texts words.now))) }
 {
@@ -90,6 +100,7 @@ fn to_settings(alloc: Global, command: Command, words: &[&str]) -> Result<Settin
 {
     match command {
         Command::Run => to_run(alloc, words),
+        Command::Provenance => to_provenance(alloc, words),
         Command::Seal => to_seal(alloc, words),
     }
 }

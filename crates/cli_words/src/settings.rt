@@ -16,6 +16,15 @@ pub enum Settings {
         /// What the report shows besides.
         flags: Flags,
     },
+    /// Answers a query about the versions that the blocks of a file make on an application.
+    Provenance {
+        /// The name of the application's file.
+        app: Word,
+        /// The name of the file of blocks.
+        blocks: Word,
+        /// The text of the query.
+        query: Word,
+    },
     /// Writes the blocks of a file as a chain.
     Seal {
         /// The name of the file of blocks.

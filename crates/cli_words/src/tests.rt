@@ -8,6 +8,16 @@ fn commands(rt: HostRuntime) -> Result<(), Fail> {
     let alloc = rt.alloc();
     let run = read_words(alloc, &["run", "--orders", "--blocks", "b", "--app", "a"]);
     assert!(rt; matches!(run, Ok(Settings::Run { .. })));
+    let provenance = [
+        "provenance",
+        "--query",
+        "written p1",
+        "--app",
+        "a",
+        "--blocks",
+        "b",
+    ];
+    assert!(rt; matches!(read_words(alloc, &provenance), Ok(Settings::Provenance { .. })));
     let seal = read_words(alloc, &["seal", "--blocks", "b"]);
     assert!(rt; matches!(seal, Ok(Settings::Seal { .. })));
     let refused = read_words(alloc, &["seal", "--blocks", "b", "--orders"]);
