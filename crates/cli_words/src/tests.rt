@@ -17,7 +17,12 @@ fn commands(rt: HostRuntime) -> Result<(), Fail> {
         "--blocks",
         "b",
     ];
-    assert!(rt; matches!(read_words(alloc, &provenance), Ok(Settings::Provenance { .. })));
+    assert!(rt;
+        matches!(
+            read_words(alloc, &provenance),
+            Ok(Settings::Provenance { .. })
+        )
+    );
     let seal = read_words(alloc, &["seal", "--blocks", "b"]);
     assert!(rt; matches!(seal, Ok(Settings::Seal { .. })));
     let refused = read_words(alloc, &["seal", "--blocks", "b", "--orders"]);
