@@ -1,0 +1,73 @@
+//! The shared node and its passes.
+
+ghost use Rattle.std.specs.Prelude.{◌≡◌, ◌+◌, ◌-◌, ◌<◌, ◌^◌, [], IfOk};
+ghost use mathlib.Core.List.{IsPrefix};
+ghost use Rattle.schedule_laws.specs.Stable.{entries_by};
+ghost use Rattle.turn_lock.specs.Passes.{HoldsNoTurn, IsNewPass, IsPassOf, IsSameHolder, left, made, mine, pass_base, pass_number, seen};
+
+use node_core::NodeCore;
+use rel_base::NoMemory;
+use row_sets::Versions;
+use std::alloc::Global;
+use turn_lock::{Pass, TurnLock};
+
+/// A node that threads share by reference, each with a pass of its own.
+#[derive(Drop)]
+pub struct SharedNode<V: Versions> {
+    pub(crate) lock: TurnLock<NodeCore<V>>,
+}
+
+/// One caller's pass to a node.
+pub type NodePass<V> = Pass<NodeCore<V>>;
+
+impl<V: Versions> SharedNode<V> {
+    /// A node to which nothing has happened, shared, and its first pass, which is the processor's. Where memory runs out the node is
+    /// dropped.
+    pub fn new(alloc: Global, core: NodeCore<V>) -> Result<(SharedNode<V>, NodePass<V>), NoMemory>
+        requires empty { core.journal ≡ [] }
+        ensures pass { IfOk result (λ made. IsNewPass made.0.lock made.1 0 core.app []) }
+    {
+        let (lock, pass) = TurnLock::new(alloc, core)?;
+        Ok((SharedNode { lock }, pass))
+    }
+
+    /// A new pass for another caller, which has seen what this one has. Only the processor's pass splits.
+    pub fn split(&self, pass: &mut NodePass<V>) -> NodePass<V>
+        requires lock { IsPassOf self.now.lock pass.old }
+        requires processor { pass_number pass.old ≡ 0 }
+        requires no_turn { HoldsNoTurn pass.old }
+        requires room { made pass.old < 2 ^ 32 - 1 }
+        ensures same { IsSameHolder pass.old pass.new × HoldsNoTurn pass.new }
+        ensures stories { (seen pass.new ≡ seen pass.old) × (mine pass.new ≡ mine pass.old) }
+        ensures counts { (made pass.new ≡ made pass.old + 1) × (left pass.new ≡ left pass.old + 1) }
+        ensures fresh { IsNewPass self.now.lock result (made pass.old + 1) (pass_base pass.old) (seen pass.old) }
+    {
+        self.lock.split(pass)
+    }
+
+    /// Takes back a pass that was split off. What it had seen, the processor's pass has seen from now on.
+    pub fn join(&self, pass: &mut NodePass<V>, other: NodePass<V>)
+        requires locks { IsPassOf self.now.lock pass.old × IsPassOf self.now.lock other }
+        requires processor { pass_number pass.old ≡ 0 }
+        requires no_turn { HoldsNoTurn pass.old × HoldsNoTurn other }
+        ensures same { IsSameHolder pass.old pass.new × HoldsNoTurn pass.new }
+        ensures later { IsPrefix (seen pass.old) (seen pass.new) × IsPrefix (seen other) (seen pass.new) }
+        ensures own { (mine pass.new ≡ mine pass.old) × (entries_by 0 (seen pass.new) ≡ mine pass.new) }
+        ensures made { made pass.new ≡ made pass.old }
+        ensures left { (0 < left pass.old) × (left pass.new ≡ left pass.old - 1) }
+    {
+        self.lock.join(pass, other);
+    }
+
+    /// Ends the sharing, once each pass that was split off was joined: the node, whose journal is what the pass has seen.
+    pub fn close(self, pass: NodePass<V>) -> NodeCore<V>
+        requires lock { IsPassOf self.lock pass }
+        requires processor { pass_number pass ≡ 0 }
+        requires no_turn { HoldsNoTurn pass }
+        requires joined { left pass ≡ 0 }
+        ensures node { result ≡ record { app = pass_base pass; journal = seen pass } }
+        ensures own { entries_by 0 (seen pass) ≡ mine pass }
+    {
+        self.lock.close(pass)
+    }
+}
