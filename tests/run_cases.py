@@ -5,7 +5,8 @@ A case is a folder: `words` (one word a line), the files that the words name, `s
 The folder `prefixes-of-a-draft` has one draft, of which each prefix is a case of its own: a prefix that ends with the
 first line or with an `end` line is a whole draft; of every other one the report is that of the whole draft at its front,
 and ends with the line in which the next byte would stand. Cases at the limits are made by
-tests/limits.py, since their files are large and regular. Usage: run_cases.py PROGRAM
+tests/limits.py, since their files are large and regular. Loads are drawn by tests/loads.py, and `load` has to
+count what `run` reports of them. Usage: run_cases.py PROGRAM
 """
 import os
 import shutil
@@ -14,6 +15,7 @@ import sys
 import tempfile
 
 import limits
+import loads
 
 HERE = os.path.dirname(os.path.abspath(__file__))
 CASES = os.path.join(HERE, "cases")
@@ -90,6 +92,18 @@ def run_limits(program, tally):
             tally.note(name, (wanted_status, True), (status, is_wanted(out)))
 
 
+def run_loads(program, tally):
+    app = read(os.path.join(CASES, "stale-pay", "a.app"))
+    for number in loads.NUMBERS:
+        with tempfile.TemporaryDirectory() as scratch:
+            for file_name, content in (("a.app", app), ("b.draft", loads.draft(number))):
+                with open(os.path.join(scratch, file_name), "wb") as file:
+                    file.write(content)
+            status, report = run(program, scratch, ["run", "--app", "a.app", "--blocks", "b.draft", "--digests"])
+            wanted = status, loads.summary(number, report)
+            tally.note(f"load {number}", wanted, run(program, scratch, ["load", "--number", str(number)]))
+
+
 def main():
     program = os.path.abspath(sys.argv[1])
     tally = Tally()
@@ -99,6 +113,7 @@ def main():
         else:
             run_folder(program, name, tally)
     run_limits(program, tally)
+    run_loads(program, tally)
     print(f"{tally.passed} passed, {tally.failed} failed")
     sys.exit(1 if tally.failed or not tally.passed else 0)
 

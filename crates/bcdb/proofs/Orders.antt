@@ -7,7 +7,7 @@ use Rattle.bcdb.specs.declared.refusal.Refusal.{Refusal}
 use Rattle.chain_file.proofs.Counted.{file_numbered}
 use Rattle.chain_file.specs.Chain.{chain}
 use Rattle.chain_file.specs.Numbered.{NumberedFrom}
-use Rattle.cli_words.specs.declared.settings.Settings.TheVariants.{Provenance, Run, Seal}
+use Rattle.cli_words.specs.declared.settings.Settings.TheVariants.{Load, Provenance, Run, Seal}
 use Rattle.cli_words.specs.declared.settings.Settings.{Settings}
 use Rattle.edge_traits.specs.Shelf.{Files}
 use Rattle.proc_syntax.specs.declared.call.Block.{Block}
@@ -28,6 +28,7 @@ runs_in_order None files = tt
 runs_in_order (Some (Run app blocks flags)) files = blocks_in_order (accepted (files app)) (files blocks)
 runs_in_order (Some (Provenance app blocks query)) files = tt
 runs_in_order (Some (Seal blocks)) files = tt
+runs_in_order (Some (Load number)) files = tt
 
 pub told_in_order : (settings : Option Settings) (told : Option Files) → IfSome told (RunsInOrder settings)
 told_in_order settings None = tt

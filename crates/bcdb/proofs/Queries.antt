@@ -1,5 +1,5 @@
 -- What a node that holds a fold is asked, and what it answers.
-use Rattle.std.proofs.Common.{List, None, Option, Some, [], ap, map, refl, subst, sym, ◌+◌, ◌∙◌, ◌∷◌, ◌≡◌, ℕ}
+use Rattle.std.proofs.Common.{List, Option, Some, [], ap, map, refl, subst, sym, ◌+◌, ◌∙◌, ◌∷◌, ◌≡◌, ℕ}
 use Rattle.std.specs.List.{range_with_len}
 use Rattle.std.specs.Prelude.{Err, Ok, Result, length}
 use Rattle.bcdb.specs.Selected.{Tells, selected}
@@ -15,7 +15,6 @@ use Rattle.proc_syntax.specs.declared.tree.App.{App}
 use Rattle.provenance.proofs.Folded.{folds_told, histories_told}
 use Rattle.provenance.specs.Answer.{answer}
 use Rattle.provenance.specs.Asked.{Answers, Asks}
-use Rattle.provenance.specs.Laws.{RunFromOne}
 use Rattle.provenance.specs.Versions.{AreTold, history_of}
 use Rattle.provenance.specs.declared.query.Query.{Query}
 use Rattle.provenance.specs.declared.query.QueryFault.{QueryFault}

@@ -1,9 +1,9 @@
 -- The block file has its turn where the bytes that were read are an application.
-use Rattle.std.proofs.Common.{Bool, IfOk, IfSome, List, None, Option, Some, ap, arith, cond, false, inl, inr, length, refl, subst, sym, true, ◌<◌, ◌∙◌, ◌≡◌, ◌⊎◌, ℕ}
+use Rattle.std.proofs.Common.{Bool, IfSome, List, None, Option, Some, ap, arith, cond, false, length, refl, subst, sym, true, ◌<◌, ◌∙◌, ◌≡◌, ℕ}
 use Rattle.std.specs.Prelude.{Err, Ok, Result, nat_le}
 use Rattle.std.specs.Result.{IsOk}
 use Rattle.bcdb.specs.Accepted.{accepted, too_long, typed}
-use Rattle.bcdb.specs.Answer.{over_app, read_refused, says}
+use Rattle.bcdb.specs.Answer.{over_app, says}
 use Rattle.bcdb.specs.Reply.{Means}
 use Rattle.bcdb.specs.declared.decide.Reply.{Reply}
 use Rattle.bcdb.specs.declared.status.Status.TheVariants.{AppRefused}

@@ -13,10 +13,12 @@ use Rattle.chain_file.specs.Chain.{chain}
 use Rattle.chain_file.specs.ChainText.{chain_text}
 use Rattle.cli_words.specs.Language.{settings_of}
 use Rattle.cli_words.specs.declared.flags.Flags.{Flags}
-use Rattle.cli_words.specs.declared.settings.Settings.TheVariants.{Provenance, Run, Seal}
+use Rattle.cli_words.specs.declared.settings.Settings.TheVariants.{Load, Provenance, Run, Seal}
 use Rattle.cli_words.specs.declared.settings.Settings.{Settings}
 use Rattle.edge_traits.specs.Shelf.{Files}
 use Rattle.edge_traits.specs.Sink.{WroteFront, appended}
+use Rattle.load_gen.specs.Application.{app_text}
+use Rattle.load_gen.specs.Blocks.{load_blocks}
 use Rattle.node_model.specs.Fold.{node_result}
 use Rattle.node_model.specs.declared.version.Version.{Version}
 use Rattle.proc_syntax.specs.Declaring.{tables_of}
@@ -28,6 +30,7 @@ use Rattle.provenance.specs.declared.query.QueryFault.{QueryFault}
 use Rattle.rel_base.specs.declared.schema.TableDef.{TableDef}
 use Rattle.report_text.specs.Ending.{end_line, stopped_line}
 use Rattle.report_text.specs.Report.{report_text}
+use Rattle.report_text.specs.Summary.{summary_text}
 use Rattle.report_text.specs.Versions.{versions_text}
 use Rattle.report_text.specs.declared.look.Look.{Look}
 
@@ -68,6 +71,11 @@ abbrev pub sealed : List Block → Option ChainFault → Answer
 sealed blocks None = says Done (chain_text blocks)
 sealed blocks (Some fault) = says ChainRefused (stopped_line fault)
 
+-- a load is the summary of the fold of its blocks on its application, which is read as that of a file
+abbrev pub over_load : ℕ → Result App Refusal → Answer
+over_load number (Err refusal) = says AppRefused (refusal_line refusal)
+over_load number (Ok app) = says Done (summary_text number (node_result app (load_blocks number)).blocks)
+
 -- words that are not in the language
 abbrev pub usage_refused : Answer
 usage_refused = says Usage (codes "refused usage\n")
@@ -78,6 +86,7 @@ over_settings None files = usage_refused
 over_settings (Some (Run app blocks flags)) files = over_app (Report (look_of flags)) (accepted (files app)) (files blocks)
 over_settings (Some (Provenance app blocks query)) files = over_app (Query query) (accepted (files app)) (files blocks)
 over_settings (Some (Seal blocks)) files = sealed (chain (files blocks)).0 (chain (files blocks)).1
+over_settings (Some (Load number)) files = over_load number (accepted app_text)
 
 -- what the words mean over files
 abbrev pub answer : List (List ℕ) → Files → Answer

@@ -12,6 +12,7 @@ ghost use Rattle.edge_traits.specs.Causes.{Rose};
 use crate::blocks::read_blocks;
 use crate::fault::FilesFault;
 use crate::files::{AppFault, LONGEST_APPLICATION, read_application};
+use crate::load::answer_load;
 use crate::refusal::{Refusal, TOO_LONG, refusal_line};
 use crate::run::{answer_blocks, answer_seal};
 use crate::status::Status;
@@ -30,9 +31,10 @@ pub struct Reply {
     pub bytes: List<u8>,
 }
 
-// The reply that refuses an application.
-fn refuse_app(alloc: Global, refusal: Refusal) -> Result<Reply, NoMemory>
-    ensures { IfOk result (λ reply. Means (says Status.AppRefused (refusal_line refusal)) reply) }
+/// The reply that refuses an application.
+pub fn refuse_app(alloc: Global, refusal: Refusal) -> Result<Reply, NoMemory>
+    ensures means { IfOk result (λ reply. Means (says Status.AppRefused (refusal_line refusal)) reply) }
+    ensures kind { IfOk result (λ reply. is_answer reply.status ≡ true) }
 {
     let bytes = refusal_line(alloc, refusal)?;
     Ok(Reply {
@@ -159,5 +161,6 @@ pub fn decide<S: Shelf>(
             read_app(alloc, shelf, app.as_str(), blocks.as_str(), &task)
         }
         Settings::Seal { blocks } => seal_file(alloc, shelf, blocks.as_str()),
+        Settings::Load { number } => Ok(answer_load(alloc, number)?),
     }
 }

@@ -1,11 +1,12 @@
 //! A permissioned blockchain database: runs a file of blocks on an application and prints outcomes and tables, or the versions that a
-//! query selects; or writes the blocks as a chain.
+//! query selects; or writes the blocks as a chain. It also runs blocks that are generated from a number.
 #![tactic(auto)]
 
 pub mod blocks;
 pub mod decide;
 pub mod fault;
 pub mod files;
+pub mod load;
 pub mod query;
 pub mod refusal;
 pub mod run;

@@ -62,10 +62,11 @@ fn serve<S: Shelf, W: Sink>(alloc: Global, settings: Settings, shelf: &mut S, ou
     }
 }
 
-/// Runs the blocks of the file that the words name on the application that they name, and writes the report.
+/// Does what the words ask for, over the files that they name, and writes the answer.
 ///
 /// The answer to the words over the files of the shelf is a definition that shares no code with the program: the report of one
-/// fold over the blocks, or the refusal that comes first. Over a shelf that tells its files, either no read failed and the call
+/// fold over the blocks, the versions that a query selects in it, the blocks as a chain or the summary of a load; or the refusal that
+/// comes first. Over a shelf that tells its files, either no read failed and the call
 /// ends with the status and all the bytes of that answer; or the count of a named file rose in its turn, and it ends with those
 /// of a failed read. At `WriteFault` and `NoMemory` a front of the bytes was written. Nothing is asked for but bytes of the
 /// named files, of the blocks only once the application is accepted, and none behind the first fault: that is what `allowed`,

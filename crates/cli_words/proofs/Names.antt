@@ -5,7 +5,7 @@ use Rattle.std.specs.List.{find, list_all}
 use Rattle.std.proofs.lemmas.Bool.{and_parts}
 use Rattle.std.proofs.lemmas.Slice.Eq.{bytes_eq-Decides}
 use Rattle.cli_words.specs.declared.command.Command.{Command}
-use Rattle.cli_words.specs.declared.command.Command.TheVariants.{Run, Provenance, Seal}
+use Rattle.cli_words.specs.declared.command.Command.TheVariants.{Run, Provenance, Seal, Load}
 use Rattle.cli_words.specs.declared.options.CommandOption.{CommandOption}
 use Rattle.cli_words.specs.declared.options.CommandOption.TheVariants as option
 use Rattle.cli_words.specs.Table.{command_of, command_word, commands, is_same, option_of, options, word_of}
@@ -27,6 +27,7 @@ pub command_back : (command : Command) → command_of (command_word command) ≡
 command_back Run = refl
 command_back Provenance = refl
 command_back Seal = refl
+command_back Load = refl
 
 pub named_command : (word : List ℕ) (command : Command) → command_of word ≡ Some command → word ≡ command_word command
 named_command word command e = sym (same_bytes (command_word command) word (find_true (λ other. bytes_eq (command_word other) word) commands command e))
@@ -35,6 +36,7 @@ pub option_back : (x : CommandOption) → option_of (word_of x) ≡ Some x
 option_back option.App = refl
 option_back option.Blocks = refl
 option_back option.Query = refl
+option_back option.Number = refl
 option_back option.Orders = refl
 option_back option.Digests = refl
 
@@ -56,5 +58,6 @@ pub of_each : (test : CommandOption → Bool) → list_all test options ≡ true
 of_each test all option.App = in_list test (take 0 options) (drop 1 options) option.App all
 of_each test all option.Blocks = in_list test (take 1 options) (drop 2 options) option.Blocks all
 of_each test all option.Query = in_list test (take 2 options) (drop 3 options) option.Query all
-of_each test all option.Orders = in_list test (take 3 options) (drop 4 options) option.Orders all
-of_each test all option.Digests = in_list test (take 4 options) (drop 5 options) option.Digests all
+of_each test all option.Number = in_list test (take 3 options) (drop 4 options) option.Number all
+of_each test all option.Orders = in_list test (take 4 options) (drop 5 options) option.Orders all
+of_each test all option.Digests = in_list test (take 5 options) (drop 6 options) option.Digests all

@@ -26,6 +26,7 @@ other_than : (x : CommandOption) → (use_of command.Seal x ≡ No) ⊎ (x ≡ o
 other_than option.App = inl refl
 other_than option.Blocks = inr refl
 other_than option.Query = inl refl
+other_than option.Number = inl refl
 other_than option.Orders = inl refl
 other_than option.Digests = inl refl
 
@@ -105,6 +106,7 @@ by_command : (words : List (List ℕ)) (c : Command) (items : List Item) (blocks
 by_command words command.Run items blocks spelled line same = absurd (cc)
 by_command words command.Provenance items blocks spelled line same = absurd (cc)
 by_command words command.Seal items blocks spelled line same = seal_of words items blocks spelled line same
+by_command words command.Load items blocks spelled line same = absurd (cc)
 
 pub only_seals : (words : List (List ℕ)) (blocks : List ℕ) → settings_of words ≡ Some (Seal blocks) → IsSeal words blocks
 only_seals words blocks e =

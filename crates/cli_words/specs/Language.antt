@@ -1,7 +1,8 @@
 -- The language of the command line.
-use Rattle.std.specs.Prelude.{ℕ, List, [], ◌∷◌, Bool, true, false, not, ◌&&◌, ◌==◌, cond, length, nat_le, Option, Some, None, is_none}
+use Rattle.std.specs.Prelude.{ℕ, List, [], ◌∷◌, Bool, true, false, not, ◌&&◌, ◌==◌, cond, length, nat_le, Option, Some, None, is_none, is_some, unwrap_or}
 use Rattle.std.specs.Borrow.{Bor}
 use Rattle.std.specs.List.{list_all}
+use Rattle.literals.specs.Number.{u64_at}
 use Rattle.cli_words.specs.Table.{command_of, is_same, option_of, options, takes_of, use_of}
 use Rattle.cli_words.specs.declared.command.Command.{Command}
 use Rattle.cli_words.specs.declared.command.Command.TheVariants as command
@@ -11,11 +12,11 @@ use Rattle.cli_words.specs.declared.given.Step.TheVariants.{Bad, Awaits, Ends}
 use Rattle.cli_words.specs.declared.options.CommandOption.{CommandOption}
 use Rattle.cli_words.specs.declared.options.CommandOption.TheVariants as option
 use Rattle.cli_words.specs.declared.options.Takes.{Takes}
-use Rattle.cli_words.specs.declared.options.Takes.TheVariants.{Nothing, Text}
+use Rattle.cli_words.specs.declared.options.Takes.TheVariants.{Nothing, Text, Number}
 use Rattle.cli_words.specs.declared.options.Use.{Use}
 use Rattle.cli_words.specs.declared.options.Use.TheVariants.{No, May, Must}
 use Rattle.cli_words.specs.declared.settings.Settings.{Settings}
-use Rattle.cli_words.specs.declared.settings.Settings.TheVariants.{Run, Provenance, Seal}
+use Rattle.cli_words.specs.declared.settings.Settings.TheVariants.{Run, Provenance, Seal, Load}
 
 -- the words of a `&[&str]`
 abbrev pub texts : List (Bor (List ℕ)) → List (List ℕ)
@@ -29,10 +30,21 @@ abbrev pub is_value : List ℕ → Bool
 is_value [] = false
 is_value (byte ∷ bytes) = not (byte == 45)
 
+-- a number with nothing behind it
+abbrev pub alone : Option (ℕ × List ℕ) → Option ℕ
+alone None = None
+alone (Some (number, [])) = Some number
+alone (Some (number, byte ∷ bytes)) = None
+
+-- the number below 2 ^ 64 that a word is in canonical decimal
+abbrev pub whole_number : List ℕ → Option ℕ
+whole_number word = alone (u64_at word)
+
 -- a word is a value for an option that takes this
 abbrev pub fits : Takes → List ℕ → Bool
 fits Nothing word = false
 fits Text word = is_value word
+fits Number word = is_some (whole_number word)
 
 -- ---- the words behind the command
 
@@ -113,6 +125,10 @@ abbrev pub text_or_none : List (List ℕ) → List ℕ
 text_or_none [] = []
 text_or_none (value ∷ values) = value
 
+abbrev pub number_or_none : List (List ℕ) → ℕ
+number_or_none [] = 0
+number_or_none (value ∷ values) = unwrap_or (whole_number value) 0
+
 abbrev pub is_given : List (List ℕ) → Bool
 is_given [] = false
 is_given (value ∷ values) = true
@@ -129,6 +145,7 @@ abbrev pub made : Command → (CommandOption → List (List ℕ)) → Settings
 made command.Run values = Run (text_or_none (values option.App)) (text_or_none (values option.Blocks)) (flags_of values)
 made command.Provenance values = Provenance (text_or_none (values option.App)) (text_or_none (values option.Blocks)) (text_or_none (values option.Query))
 made command.Seal values = Seal (text_or_none (values option.Blocks))
+made command.Load values = Load (number_or_none (values option.Number))
 
 -- what a command and the words behind it come to
 abbrev pub settled : Option Command → List (List ℕ) → Option Settings

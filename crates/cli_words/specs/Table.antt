@@ -2,11 +2,11 @@
 use Rattle.std.specs.Prelude.{ℕ, List, [], ◌∷◌, Bool, cond, Option, codes, bytes_eq}
 use Rattle.std.specs.List.{find, list_any}
 use Rattle.cli_words.specs.declared.command.Command.{Command}
-use Rattle.cli_words.specs.declared.command.Command.TheVariants.{Run, Provenance, Seal}
+use Rattle.cli_words.specs.declared.command.Command.TheVariants.{Run, Provenance, Seal, Load}
 use Rattle.cli_words.specs.declared.options.CommandOption.{CommandOption}
 use Rattle.cli_words.specs.declared.options.CommandOption.TheVariants as option
 use Rattle.cli_words.specs.declared.options.Takes.{Takes}
-use Rattle.cli_words.specs.declared.options.Takes.TheVariants.{Nothing, Text}
+use Rattle.cli_words.specs.declared.options.Takes.TheVariants.{Nothing, Text, Number}
 use Rattle.cli_words.specs.declared.options.Use.{Use}
 use Rattle.cli_words.specs.declared.options.Use.TheVariants.{No, May, Must}
 
@@ -16,9 +16,10 @@ abbrev pub command_word : Command → List ℕ
 command_word Run = codes "run"
 command_word Provenance = codes "provenance"
 command_word Seal = codes "seal"
+command_word Load = codes "load"
 
 abbrev pub commands : List Command
-commands = Run ∷ Provenance ∷ Seal ∷ []
+commands = Run ∷ Provenance ∷ Seal ∷ Load ∷ []
 
 -- the command that a word names
 abbrev pub command_in : List Command → List ℕ → Option Command
@@ -43,11 +44,12 @@ abbrev pub rule_of : CommandOption → Rule
 rule_of option.App = rule (codes "--app") Text (Run ∷ Provenance ∷ []) []
 rule_of option.Blocks = rule (codes "--blocks") Text (Run ∷ Provenance ∷ Seal ∷ []) []
 rule_of option.Query = rule (codes "--query") Text (Provenance ∷ []) []
+rule_of option.Number = rule (codes "--number") Number (Load ∷ []) []
 rule_of option.Orders = rule (codes "--orders") Nothing [] (Run ∷ [])
 rule_of option.Digests = rule (codes "--digests") Nothing [] (Run ∷ [])
 
 abbrev pub options : List CommandOption
-options = option.App ∷ option.Blocks ∷ option.Query ∷ option.Orders ∷ option.Digests ∷ []
+options = option.App ∷ option.Blocks ∷ option.Query ∷ option.Number ∷ option.Orders ∷ option.Digests ∷ []
 
 abbrev pub word_of : CommandOption → List ℕ
 word_of x = (rule_of x).word

@@ -12,10 +12,17 @@ pub enum Command {
     Provenance,
     /// `seal`: writes them as a chain.
     Seal,
+    /// `load`: runs blocks that are generated from a number.
+    Load,
 }
 
 /// All commands.
-pub const COMMANDS: [Command; 3] = [Command::Run, Command::Provenance, Command::Seal];
+pub const COMMANDS: [Command; 4] = [
+    Command::Run,
+    Command::Provenance,
+    Command::Seal,
+    Command::Load,
+];
 
 impl Command {
     /// Its word.
@@ -26,6 +33,7 @@ impl Command {
             Command::Run => "run",
             Command::Provenance => "provenance",
             Command::Seal => "seal",
+            Command::Load => "load",
         }
     }
 }

@@ -14,6 +14,8 @@ pub enum CommandOption {
     Blocks,
     /// `--query`, a query about versions.
     Query,
+    /// `--number`, from which blocks are generated.
+    Number,
     /// `--orders`: the report shows the serial orders.
     Orders,
     /// `--digests`: the report shows the digests.
@@ -21,10 +23,11 @@ pub enum CommandOption {
 }
 
 /// All options.
-pub const OPTIONS: [CommandOption; 5] = [
+pub const OPTIONS: [CommandOption; 6] = [
     CommandOption::App,
     CommandOption::Blocks,
     CommandOption::Query,
+    CommandOption::Number,
     CommandOption::Orders,
     CommandOption::Digests,
 ];
@@ -36,6 +39,8 @@ pub enum Takes {
     Nothing,
     /// A text, as the name of a file.
     Text,
+    /// A number below 2^64, in canonical decimal.
+    Number,
 }
 
 /// How often a command takes an option.
@@ -58,6 +63,7 @@ impl CommandOption {
             CommandOption::App => "--app",
             CommandOption::Blocks => "--blocks",
             CommandOption::Query => "--query",
+            CommandOption::Number => "--number",
             CommandOption::Orders => "--orders",
             CommandOption::Digests => "--digests",
         }
@@ -76,6 +82,7 @@ impl CommandOption {
     {
         match self {
             CommandOption::App | CommandOption::Blocks | CommandOption::Query => Takes::Text,
+            CommandOption::Number => Takes::Number,
             CommandOption::Orders | CommandOption::Digests => Takes::Nothing,
         }
     }
@@ -88,7 +95,7 @@ fn use_in_run(option: CommandOption) -> Use
     match option {
         CommandOption::App | CommandOption::Blocks => Use::Must,
         CommandOption::Orders | CommandOption::Digests => Use::May,
-        CommandOption::Query => Use::No,
+        CommandOption::Query | CommandOption::Number => Use::No,
     }
 }
 
@@ -98,7 +105,7 @@ fn use_in_provenance(option: CommandOption) -> Use
 {
     match option {
         CommandOption::App | CommandOption::Blocks | CommandOption::Query => Use::Must,
-        CommandOption::Orders | CommandOption::Digests => Use::No,
+        CommandOption::Number | CommandOption::Orders | CommandOption::Digests => Use::No,
     }
 }
 
@@ -112,6 +119,20 @@ fn use_in_seal(option: CommandOption) -> Use
     }
 }
 
+// How often `load` takes an option.
+fn use_in_load(option: CommandOption) -> Use
+    ensures { result ≡ use_of Command.Load option }
+{
+    match option {
+        CommandOption::Number => Use::Must,
+        CommandOption::App
+        | CommandOption::Blocks
+        | CommandOption::Query
+        | CommandOption::Orders
+        | CommandOption::Digests => Use::No,
+    }
+}
+
 /// How often a command takes an option.
 pub fn use_of(command: Command, option: CommandOption) -> Use
     ensures { result ≡ use_of command option }
@@ -120,6 +141,7 @@ pub fn use_of(command: Command, option: CommandOption) -> Use
         Command::Run => use_in_run(option),
         Command::Provenance => use_in_provenance(option),
         Command::Seal => use_in_seal(option),
+        Command::Load => use_in_load(option),
     }
 }
 

@@ -1,13 +1,14 @@
 //! From words to settings.
 
 ghost use Rattle.std.specs.Prelude.{◌≡◌, ◌↔◌, IfOk, IsErrOf, Option, Some, None, length};
-ghost use Rattle.cli_words.specs.Language.{are_taken, flags_of, given, is_allowed, is_given, is_line, made, settings_of, settled, text_or_none, texts};
+ghost use Rattle.cli_words.specs.Language.{are_taken, flags_of, given, is_allowed, is_given, is_line, made, number_or_none, settings_of, settled, text_or_none, texts};
 
 use crate::command::{Command, command_of};
 use crate::flags::Flags;
 use crate::given::{count, find, is_read};
 use crate::options::{CommandOption, OPTIONS, Use, use_of};
 use crate::settings::{Settings, WordsFault};
+use crate::value::whole_number;
 use crate::word::Word;
 use rel_base::NoMemory;
 use std::alloc::Global;
@@ -47,6 +48,16 @@ fn text_of(alloc: Global, words: &[&str], option: CommandOption) -> Result<Word,
     ensures { IfOk result (λ made. made ≡ text_or_none (given (texts words.now) option)) }
 {
     Word::new(alloc, find(words, option).unwrap_or(""))
+}
+
+// The number that the words give an option.
+fn number_of(words: &[&str], option: CommandOption) -> u64
+    ensures { result ≡ number_or_none (given (texts words.now) option) }
+{
+    match find(words, option) {
+        None => 0,
+        Some(value) => whole_number(value).unwrap_or(0),
+    }
 }
 
 // Whether the words give an option.
@@ -102,6 +113,9 @@ fn to_settings(alloc: Global, command: Command, words: &[&str]) -> Result<Settin
         Command::Run => to_run(alloc, words),
         Command::Provenance => to_provenance(alloc, words),
         Command::Seal => to_seal(alloc, words),
+        Command::Load => Ok(Settings::Load {
+            number: number_of(words, CommandOption::Number),
+        }),
     }
 }
 

@@ -30,6 +30,11 @@ pub enum Settings {
         /// The name of the file of blocks.
         blocks: Word,
     },
+    /// Runs blocks that are generated from a number.
+    Load {
+        /// The number.
+        number: u64,
+    },
 }
 
 /// Why there are no settings.

@@ -25,6 +25,8 @@ fn commands(rt: HostRuntime) -> Result<(), Fail> {
     );
     let seal = read_words(alloc, &["seal", "--blocks", "b"]);
     assert!(rt; matches!(seal, Ok(Settings::Seal { .. })));
+    let load = read_words(alloc, &["load", "--number", "18446744073709551615"]);
+    assert!(rt; matches!(load, Ok(Settings::Load { number: u64::MAX })));
     let refused = read_words(alloc, &["seal", "--blocks", "b", "--orders"]);
     assert!(rt; matches!(refused, Err(WordsFault::Usage)));
     Ok(())

@@ -1,9 +1,10 @@
 //! The values of options.
 
-ghost use Rattle.std.specs.Prelude.{◌≡◌};
-ghost use Rattle.cli_words.specs.Language.{fits, is_value};
+ghost use Rattle.std.specs.Prelude.{◌≡◌, Option};
+ghost use Rattle.cli_words.specs.Language.{fits, is_value, whole_number};
 
 use crate::options::Takes;
+use literals::read_number;
 
 /// Whether a word may be a value: it is not empty and does not begin with `-`.
 pub fn is_value(word: &str) -> bool
@@ -15,6 +16,16 @@ pub fn is_value(word: &str) -> bool
     }
 }
 
+/// The number that a word is in canonical decimal, if it is below 2^64.
+pub fn whole_number(word: &str) -> Option<u64>
+    ensures { result ≡ whole_number word.now }
+{
+    match read_number(word.as_bytes()) {
+        Some((number, [])) => Some(number),
+        _ => None,
+    }
+}
+
 /// Whether a word is a value for an option that takes this.
 pub fn fits(takes: Takes, word: &str) -> bool
     ensures { result ≡ fits takes word.now }
@@ -22,5 +33,6 @@ pub fn fits(takes: Takes, word: &str) -> bool
     match takes {
         Takes::Nothing => false,
         Takes::Text => is_value(word),
+        Takes::Number => whole_number(word).is_some(),
     }
 }

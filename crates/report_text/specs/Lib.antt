@@ -5,3 +5,4 @@ pub mod Ending
 pub mod Versions
 pub mod JsonReport
 pub mod JsonTokens
+pub mod Summary

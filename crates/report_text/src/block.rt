@@ -67,7 +67,7 @@ fn push_order_line(out: &mut Text, block: &BlockResult) -> Result<(), NoMemory>
 }
 
 /// The digest of a block.
-fn push_digest_line(out: &mut Text, block: &BlockResult) -> Result<(), NoMemory>
+pub fn push_digest_line(out: &mut Text, block: &BlockResult) -> Result<(), NoMemory>
     ensures { OnOk result (out.new ≡ out.old ++ digest_line block.now) }
 {
     out.push("digest ")?;

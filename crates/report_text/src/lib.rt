@@ -2,6 +2,7 @@
 #![tactic(auto)]
 
 mod block;
+mod counts;
 mod ending;
 mod journal_lines;
 #[cfg(test)]
@@ -22,6 +23,7 @@ mod version;
 #[cfg(test)]
 mod version_tests;
 
+pub use counts::summary;
 pub use ending::stopped_line;
 pub use look::Look;
 pub use node::report;
