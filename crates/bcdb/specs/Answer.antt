@@ -49,7 +49,7 @@ status_of (Some fault) = ChainRefused
 
 -- what the flags of a run ask the report to show
 abbrev pub look_of : Flags → Look
-look_of flags = record { orders = flags.orders; digests = flags.digests; json = false; trace = false }
+look_of flags = record { orders = flags.orders; digests = flags.digests; json = flags.json; trace = false }
 
 -- the versions that a query selects, and how the block file ended; or why the query is refused, also where the block file has a fault
 abbrev pub over_versions : List TableDef → Option ChainFault → Result (List Version) QueryFault → Answer

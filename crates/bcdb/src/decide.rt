@@ -107,7 +107,7 @@ fn look_of(flags: Flags) -> Look
     Look {
         orders: flags.orders,
         digests: flags.digests,
-        json: false,
+        json: flags.json,
         trace: false,
     }
 }

@@ -39,6 +39,7 @@ option_back option.Query = refl
 option_back option.Number = refl
 option_back option.Orders = refl
 option_back option.Digests = refl
+option_back option.Json = refl
 
 pub named_option : (word : List ℕ) (x : CommandOption) → option_of word ≡ Some x → word ≡ word_of x
 named_option word x e = sym (same_bytes (word_of x) word (find_true (λ other. bytes_eq (word_of other) word) options x e))
@@ -61,3 +62,4 @@ of_each test all option.Query = in_list test (take 2 options) (drop 3 options) o
 of_each test all option.Number = in_list test (take 3 options) (drop 4 options) option.Number all
 of_each test all option.Orders = in_list test (take 4 options) (drop 5 options) option.Orders all
 of_each test all option.Digests = in_list test (take 5 options) (drop 6 options) option.Digests all
+of_each test all option.Json = in_list test (take 6 options) (drop 7 options) option.Json all

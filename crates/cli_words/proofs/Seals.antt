@@ -29,6 +29,7 @@ other_than option.Query = inl refl
 other_than option.Number = inl refl
 other_than option.Orders = inl refl
 other_than option.Digests = inl refl
+other_than option.Json = inl refl
 
 -- an option that stands first has a value
 first_has : (next : Item) (rest : List Item) → values_in (next ∷ rest) next.option ≡ next.value ∷ values_in rest next.option

@@ -134,11 +134,11 @@ is_given [] = false
 is_given (value ∷ values) = true
 
 abbrev pub flags_of : (CommandOption → List (List ℕ)) → Flags
-flags_of values = record { orders = is_given (values option.Orders); digests = is_given (values option.Digests) }
+flags_of values = record { orders = is_given (values option.Orders); digests = is_given (values option.Digests); json = is_given (values option.Json) }
 
 -- no flag is on
 abbrev pub no_flags : Flags
-no_flags = record { orders = false; digests = false }
+no_flags = record { orders = false; digests = false; json = false }
 
 -- the settings of a command, by the values of its options
 abbrev pub made : Command → (CommandOption → List (List ℕ)) → Settings

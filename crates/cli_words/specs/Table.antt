@@ -47,9 +47,10 @@ rule_of option.Query = rule (codes "--query") Text (Provenance ∷ []) []
 rule_of option.Number = rule (codes "--number") Number (Load ∷ []) []
 rule_of option.Orders = rule (codes "--orders") Nothing [] (Run ∷ [])
 rule_of option.Digests = rule (codes "--digests") Nothing [] (Run ∷ [])
+rule_of option.Json = rule (codes "--json") Nothing [] (Run ∷ [])
 
 abbrev pub options : List CommandOption
-options = option.App ∷ option.Blocks ∷ option.Query ∷ option.Number ∷ option.Orders ∷ option.Digests ∷ []
+options = option.App ∷ option.Blocks ∷ option.Query ∷ option.Number ∷ option.Orders ∷ option.Digests ∷ option.Json ∷ []
 
 abbrev pub word_of : CommandOption → List ℕ
 word_of x = (rule_of x).word

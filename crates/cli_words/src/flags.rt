@@ -3,13 +3,15 @@
 ghost use Rattle.std.specs.Prelude.{◌≡◌};
 ghost use Rattle.cli_words.specs.Language.{no_flags};
 
-/// What the report shows of each block besides the outcomes of its transactions. A flag is on exactly where its option was given.
+/// The form of a report, and what it shows of each block besides the outcomes of its transactions. A flag is on exactly where its option was given.
 #[derive(Clone, Copy, Debug, PartialEq, Eq)]
 pub struct Flags {
     /// `--orders`: the positions of the committed transactions in their serial order.
     pub orders: bool,
     /// `--digests`: the digest of the block's result.
     pub digests: bool,
+    /// `--json`: the report is one line of JSON.
+    pub json: bool,
 }
 
 impl Flags {
@@ -20,6 +22,7 @@ impl Flags {
         Flags {
             orders: false,
             digests: false,
+            json: false,
         }
     }
 }

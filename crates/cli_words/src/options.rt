@@ -20,16 +20,19 @@ pub enum CommandOption {
     Orders,
     /// `--digests`: the report shows the digests.
     Digests,
+    /// `--json`: the report is written as JSON.
+    Json,
 }
 
 /// All options.
-pub const OPTIONS: [CommandOption; 6] = [
+pub const OPTIONS: [CommandOption; 7] = [
     CommandOption::App,
     CommandOption::Blocks,
     CommandOption::Query,
     CommandOption::Number,
     CommandOption::Orders,
     CommandOption::Digests,
+    CommandOption::Json,
 ];
 
 /// What follows the word of an option.
@@ -66,6 +69,7 @@ impl CommandOption {
             CommandOption::Number => "--number",
             CommandOption::Orders => "--orders",
             CommandOption::Digests => "--digests",
+            CommandOption::Json => "--json",
         }
     }
 
@@ -83,7 +87,7 @@ impl CommandOption {
         match self {
             CommandOption::App | CommandOption::Blocks | CommandOption::Query => Takes::Text,
             CommandOption::Number => Takes::Number,
-            CommandOption::Orders | CommandOption::Digests => Takes::Nothing,
+            CommandOption::Orders | CommandOption::Digests | CommandOption::Json => Takes::Nothing,
         }
     }
 }
@@ -94,7 +98,7 @@ fn use_in_run(option: CommandOption) -> Use
 {
     match option {
         CommandOption::App | CommandOption::Blocks => Use::Must,
-        CommandOption::Orders | CommandOption::Digests => Use::May,
+        CommandOption::Orders | CommandOption::Digests | CommandOption::Json => Use::May,
         CommandOption::Query | CommandOption::Number => Use::No,
     }
 }
@@ -105,7 +109,10 @@ fn use_in_provenance(option: CommandOption) -> Use
 {
     match option {
         CommandOption::App | CommandOption::Blocks | CommandOption::Query => Use::Must,
-        CommandOption::Number | CommandOption::Orders | CommandOption::Digests => Use::No,
+        CommandOption::Number
+        | CommandOption::Orders
+        | CommandOption::Digests
+        | CommandOption::Json => Use::No,
     }
 }
 
@@ -129,7 +136,8 @@ fn use_in_load(option: CommandOption) -> Use
         | CommandOption::Blocks
         | CommandOption::Query
         | CommandOption::Orders
-        | CommandOption::Digests => Use::No,
+        | CommandOption::Digests
+        | CommandOption::Json => Use::No,
     }
 }
 

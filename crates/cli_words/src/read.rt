@@ -74,6 +74,7 @@ fn flags_of(words: &[&str]) -> Flags
     Flags {
         orders: is_given(words, CommandOption::Orders),
         digests: is_given(words, CommandOption::Digests),
+        json: is_given(words, CommandOption::Json),
     }
 }
 

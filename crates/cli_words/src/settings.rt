@@ -13,7 +13,7 @@ pub enum Settings {
         app: Word,
         /// The name of the file of blocks.
         blocks: Word,
-        /// What the report shows besides.
+        /// The form of the report, and what it shows besides.
         flags: Flags,
     },
     /// Answers a query about the versions that the blocks of a file make on an application.
