@@ -5,7 +5,7 @@ use Rattle.std.specs.List.{find, list_all}
 use Rattle.std.proofs.lemmas.Bool.{and_parts}
 use Rattle.std.proofs.lemmas.Slice.Eq.{bytes_eq-Decides}
 use Rattle.cli_words.specs.declared.command.Command.{Command}
-use Rattle.cli_words.specs.declared.command.Command.TheVariants.{Run, Provenance, Seal, Load}
+use Rattle.cli_words.specs.declared.command.Command.TheVariants.{Run, Simulate, Provenance, Seal, Load}
 use Rattle.cli_words.specs.declared.options.CommandOption.{CommandOption}
 use Rattle.cli_words.specs.declared.options.CommandOption.TheVariants as option
 use Rattle.cli_words.specs.Table.{command_of, command_word, commands, is_same, option_of, options, word_of}
@@ -25,6 +25,7 @@ find_true test (first ∷ rest) x e = found_by test first rest x (test first) re
 -- a word names the command and the option that has it
 pub command_back : (command : Command) → command_of (command_word command) ≡ Some command
 command_back Run = refl
+command_back Simulate = refl
 command_back Provenance = refl
 command_back Seal = refl
 command_back Load = refl
@@ -35,11 +36,14 @@ named_command word command e = sym (same_bytes (command_word command) word (find
 pub option_back : (x : CommandOption) → option_of (word_of x) ≡ Some x
 option_back option.App = refl
 option_back option.Blocks = refl
+option_back option.Schedule = refl
+option_back option.Arrivals = refl
 option_back option.Query = refl
 option_back option.Number = refl
 option_back option.Orders = refl
 option_back option.Digests = refl
 option_back option.Json = refl
+option_back option.Trace = refl
 
 pub named_option : (word : List ℕ) (x : CommandOption) → option_of word ≡ Some x → word ≡ word_of x
 named_option word x e = sym (same_bytes (word_of x) word (find_true (λ other. bytes_eq (word_of other) word) options x e))
@@ -58,8 +62,11 @@ in_list test (first ∷ front) back x all = in_list test front back x (and_parts
 pub of_each : (test : CommandOption → Bool) → list_all test options ≡ true → (x : CommandOption) → test x ≡ true
 of_each test all option.App = in_list test (take 0 options) (drop 1 options) option.App all
 of_each test all option.Blocks = in_list test (take 1 options) (drop 2 options) option.Blocks all
-of_each test all option.Query = in_list test (take 2 options) (drop 3 options) option.Query all
-of_each test all option.Number = in_list test (take 3 options) (drop 4 options) option.Number all
-of_each test all option.Orders = in_list test (take 4 options) (drop 5 options) option.Orders all
-of_each test all option.Digests = in_list test (take 5 options) (drop 6 options) option.Digests all
-of_each test all option.Json = in_list test (take 6 options) (drop 7 options) option.Json all
+of_each test all option.Schedule = in_list test (take 2 options) (drop 3 options) option.Schedule all
+of_each test all option.Arrivals = in_list test (take 3 options) (drop 4 options) option.Arrivals all
+of_each test all option.Query = in_list test (take 4 options) (drop 5 options) option.Query all
+of_each test all option.Number = in_list test (take 5 options) (drop 6 options) option.Number all
+of_each test all option.Orders = in_list test (take 6 options) (drop 7 options) option.Orders all
+of_each test all option.Digests = in_list test (take 7 options) (drop 8 options) option.Digests all
+of_each test all option.Json = in_list test (take 8 options) (drop 9 options) option.Json all
+of_each test all option.Trace = in_list test (take 9 options) (drop 10 options) option.Trace all

@@ -25,11 +25,14 @@ seal_read blocks is = rw is refl
 other_than : (x : CommandOption) → (use_of command.Seal x ≡ No) ⊎ (x ≡ option.Blocks)
 other_than option.App = inl refl
 other_than option.Blocks = inr refl
+other_than option.Schedule = inl refl
+other_than option.Arrivals = inl refl
 other_than option.Query = inl refl
 other_than option.Number = inl refl
 other_than option.Orders = inl refl
 other_than option.Digests = inl refl
 other_than option.Json = inl refl
+other_than option.Trace = inl refl
 
 -- an option that stands first has a value
 first_has : (next : Item) (rest : List Item) → values_in (next ∷ rest) next.option ≡ next.value ∷ values_in rest next.option
@@ -105,6 +108,7 @@ seal_of words items blocks spelled line same =
 
 by_command : (words : List (List ℕ)) (c : Command) (items : List Item) (blocks : List ℕ) → words ≡ line_of c items → IsLine c items → Seal blocks ≡ made c (values_in items) → IsSeal words blocks
 by_command words command.Run items blocks spelled line same = absurd (cc)
+by_command words command.Simulate items blocks spelled line same = absurd (cc)
 by_command words command.Provenance items blocks spelled line same = absurd (cc)
 by_command words command.Seal items blocks spelled line same = seal_of words items blocks spelled line same
 by_command words command.Load items blocks spelled line same = absurd (cc)

@@ -16,7 +16,7 @@ use Rattle.cli_words.specs.declared.options.Takes.TheVariants.{Nothing, Text, Nu
 use Rattle.cli_words.specs.declared.options.Use.{Use}
 use Rattle.cli_words.specs.declared.options.Use.TheVariants.{No, May, Must}
 use Rattle.cli_words.specs.declared.settings.Settings.{Settings}
-use Rattle.cli_words.specs.declared.settings.Settings.TheVariants.{Run, Provenance, Seal, Load}
+use Rattle.cli_words.specs.declared.settings.Settings.TheVariants.{Run, Simulate, Provenance, Seal, Load}
 
 -- the words of a `&[&str]`
 abbrev pub texts : List (Bor (List ℕ)) → List (List ℕ)
@@ -134,15 +134,21 @@ is_given [] = false
 is_given (value ∷ values) = true
 
 abbrev pub flags_of : (CommandOption → List (List ℕ)) → Flags
-flags_of values = record { orders = is_given (values option.Orders); digests = is_given (values option.Digests); json = is_given (values option.Json) }
+flags_of values = record {
+  orders = is_given (values option.Orders);
+  digests = is_given (values option.Digests);
+  json = is_given (values option.Json);
+  trace = is_given (values option.Trace);
+}
 
 -- no flag is on
 abbrev pub no_flags : Flags
-no_flags = record { orders = false; digests = false; json = false }
+no_flags = record { orders = false; digests = false; json = false; trace = false }
 
 -- the settings of a command, by the values of its options
 abbrev pub made : Command → (CommandOption → List (List ℕ)) → Settings
 made command.Run values = Run (text_or_none (values option.App)) (text_or_none (values option.Blocks)) (flags_of values)
+made command.Simulate values = Simulate (text_or_none (values option.App)) (text_or_none (values option.Blocks)) (text_or_none (values option.Schedule)) (first (values option.Arrivals)) (flags_of values)
 made command.Provenance values = Provenance (text_or_none (values option.App)) (text_or_none (values option.Blocks)) (text_or_none (values option.Query))
 made command.Seal values = Seal (text_or_none (values option.Blocks))
 made command.Load values = Load (number_or_none (values option.Number))

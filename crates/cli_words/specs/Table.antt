@@ -2,7 +2,7 @@
 use Rattle.std.specs.Prelude.{ℕ, List, [], ◌∷◌, Bool, cond, Option, codes, bytes_eq}
 use Rattle.std.specs.List.{find, list_any}
 use Rattle.cli_words.specs.declared.command.Command.{Command}
-use Rattle.cli_words.specs.declared.command.Command.TheVariants.{Run, Provenance, Seal, Load}
+use Rattle.cli_words.specs.declared.command.Command.TheVariants.{Run, Simulate, Provenance, Seal, Load}
 use Rattle.cli_words.specs.declared.options.CommandOption.{CommandOption}
 use Rattle.cli_words.specs.declared.options.CommandOption.TheVariants as option
 use Rattle.cli_words.specs.declared.options.Takes.{Takes}
@@ -14,12 +14,13 @@ use Rattle.cli_words.specs.declared.options.Use.TheVariants.{No, May, Must}
 
 abbrev pub command_word : Command → List ℕ
 command_word Run = codes "run"
+command_word Simulate = codes "simulate"
 command_word Provenance = codes "provenance"
 command_word Seal = codes "seal"
 command_word Load = codes "load"
 
 abbrev pub commands : List Command
-commands = Run ∷ Provenance ∷ Seal ∷ Load ∷ []
+commands = Run ∷ Simulate ∷ Provenance ∷ Seal ∷ Load ∷ []
 
 -- the command that a word names
 abbrev pub command_in : List Command → List ℕ → Option Command
@@ -41,16 +42,19 @@ abbrev rule : List ℕ → Takes → List Command → List Command → Rule
 rule word takes needed optional = record { word = word; takes = takes; needed = needed; optional = optional }
 
 abbrev pub rule_of : CommandOption → Rule
-rule_of option.App = rule (codes "--app") Text (Run ∷ Provenance ∷ []) []
-rule_of option.Blocks = rule (codes "--blocks") Text (Run ∷ Provenance ∷ Seal ∷ []) []
+rule_of option.App = rule (codes "--app") Text (Run ∷ Simulate ∷ Provenance ∷ []) []
+rule_of option.Blocks = rule (codes "--blocks") Text (Run ∷ Simulate ∷ Provenance ∷ Seal ∷ []) []
+rule_of option.Schedule = rule (codes "--schedule") Text (Simulate ∷ []) []
+rule_of option.Arrivals = rule (codes "--arrivals") Text [] (Simulate ∷ [])
 rule_of option.Query = rule (codes "--query") Text (Provenance ∷ []) []
 rule_of option.Number = rule (codes "--number") Number (Load ∷ []) []
-rule_of option.Orders = rule (codes "--orders") Nothing [] (Run ∷ [])
-rule_of option.Digests = rule (codes "--digests") Nothing [] (Run ∷ [])
-rule_of option.Json = rule (codes "--json") Nothing [] (Run ∷ [])
+rule_of option.Orders = rule (codes "--orders") Nothing [] (Run ∷ Simulate ∷ [])
+rule_of option.Digests = rule (codes "--digests") Nothing [] (Run ∷ Simulate ∷ [])
+rule_of option.Json = rule (codes "--json") Nothing [] (Run ∷ Simulate ∷ [])
+rule_of option.Trace = rule (codes "--trace") Nothing [] (Simulate ∷ [])
 
 abbrev pub options : List CommandOption
-options = option.App ∷ option.Blocks ∷ option.Query ∷ option.Number ∷ option.Orders ∷ option.Digests ∷ option.Json ∷ []
+options = option.App ∷ option.Blocks ∷ option.Schedule ∷ option.Arrivals ∷ option.Query ∷ option.Number ∷ option.Orders ∷ option.Digests ∷ option.Json ∷ option.Trace ∷ []
 
 abbrev pub word_of : CommandOption → List ℕ
 word_of x = (rule_of x).word

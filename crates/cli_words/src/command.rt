@@ -8,6 +8,8 @@ ghost use Rattle.cli_words.specs.Table.{command_in, command_of, command_word};
 pub enum Command {
     /// `run`: runs the blocks of a file on an application.
     Run,
+    /// `simulate`: runs them as a schedule says.
+    Simulate,
     /// `provenance`: answers a query about the versions that they made.
     Provenance,
     /// `seal`: writes them as a chain.
@@ -17,8 +19,9 @@ pub enum Command {
 }
 
 /// All commands.
-pub const COMMANDS: [Command; 4] = [
+pub const COMMANDS: [Command; 5] = [
     Command::Run,
+    Command::Simulate,
     Command::Provenance,
     Command::Seal,
     Command::Load,
@@ -31,6 +34,7 @@ impl Command {
     {
         match self {
             Command::Run => "run",
+            Command::Simulate => "simulate",
             Command::Provenance => "provenance",
             Command::Seal => "seal",
             Command::Load => "load",

@@ -1,4 +1,4 @@
-//! The flags of a run.
+//! The flags of a report.
 
 ghost use Rattle.std.specs.Prelude.{◌≡◌};
 ghost use Rattle.cli_words.specs.Language.{no_flags};
@@ -12,6 +12,8 @@ pub struct Flags {
     pub digests: bool,
     /// `--json`: the report is one line of JSON.
     pub json: bool,
+    /// `--trace`: behind the report, what the actors of the node did.
+    pub trace: bool,
 }
 
 impl Flags {
@@ -23,6 +25,7 @@ impl Flags {
             orders: false,
             digests: false,
             json: false,
+            trace: false,
         }
     }
 }

@@ -12,6 +12,10 @@ pub enum CommandOption {
     App,
     /// `--blocks`, the file of blocks.
     Blocks,
+    /// `--schedule`, the file of a schedule.
+    Schedule,
+    /// `--arrivals`, the files of what arrives, by the front of their names.
+    Arrivals,
     /// `--query`, a query about versions.
     Query,
     /// `--number`, from which blocks are generated.
@@ -22,17 +26,22 @@ pub enum CommandOption {
     Digests,
     /// `--json`: the report is written as JSON.
     Json,
+    /// `--trace`: the journals follow the report.
+    Trace,
 }
 
 /// All options.
-pub const OPTIONS: [CommandOption; 7] = [
+pub const OPTIONS: [CommandOption; 10] = [
     CommandOption::App,
     CommandOption::Blocks,
+    CommandOption::Schedule,
+    CommandOption::Arrivals,
     CommandOption::Query,
     CommandOption::Number,
     CommandOption::Orders,
     CommandOption::Digests,
     CommandOption::Json,
+    CommandOption::Trace,
 ];
 
 /// What follows the word of an option.
@@ -65,11 +74,14 @@ impl CommandOption {
         match self {
             CommandOption::App => "--app",
             CommandOption::Blocks => "--blocks",
+            CommandOption::Schedule => "--schedule",
+            CommandOption::Arrivals => "--arrivals",
             CommandOption::Query => "--query",
             CommandOption::Number => "--number",
             CommandOption::Orders => "--orders",
             CommandOption::Digests => "--digests",
             CommandOption::Json => "--json",
+            CommandOption::Trace => "--trace",
         }
     }
 
@@ -86,8 +98,12 @@ impl CommandOption {
     {
         match self {
             CommandOption::App | CommandOption::Blocks | CommandOption::Query => Takes::Text,
+            CommandOption::Schedule | CommandOption::Arrivals => Takes::Text,
             CommandOption::Number => Takes::Number,
-            CommandOption::Orders | CommandOption::Digests | CommandOption::Json => Takes::Nothing,
+            CommandOption::Orders
+            | CommandOption::Digests
+            | CommandOption::Json
+            | CommandOption::Trace => Takes::Nothing,
         }
     }
 }
@@ -99,6 +115,19 @@ fn use_in_run(option: CommandOption) -> Use
     match option {
         CommandOption::App | CommandOption::Blocks => Use::Must,
         CommandOption::Orders | CommandOption::Digests | CommandOption::Json => Use::May,
+        _ => Use::No,
+    }
+}
+
+// How often `simulate` takes an option.
+fn use_in_simulate(option: CommandOption) -> Use
+    ensures { result ≡ use_of Command.Simulate option }
+{
+    match option {
+        CommandOption::App | CommandOption::Blocks | CommandOption::Schedule => Use::Must,
+        CommandOption::Arrivals => Use::May,
+        CommandOption::Orders | CommandOption::Digests => Use::May,
+        CommandOption::Json | CommandOption::Trace => Use::May,
         CommandOption::Query | CommandOption::Number => Use::No,
     }
 }
@@ -109,10 +138,7 @@ fn use_in_provenance(option: CommandOption) -> Use
 {
     match option {
         CommandOption::App | CommandOption::Blocks | CommandOption::Query => Use::Must,
-        CommandOption::Number
-        | CommandOption::Orders
-        | CommandOption::Digests
-        | CommandOption::Json => Use::No,
+        _ => Use::No,
     }
 }
 
@@ -147,6 +173,7 @@ pub fn use_of(command: Command, option: CommandOption) -> Use
 {
     match command {
         Command::Run => use_in_run(option),
+        Command::Simulate => use_in_simulate(option),
         Command::Provenance => use_in_provenance(option),
         Command::Seal => use_in_seal(option),
         Command::Load => use_in_load(option),

@@ -1,7 +1,7 @@
 //! From words to settings.
 
 ghost use Rattle.std.specs.Prelude.{◌≡◌, ◌↔◌, IfOk, IsErrOf, Option, Some, None, length};
-ghost use Rattle.cli_words.specs.Language.{are_taken, flags_of, given, is_allowed, is_given, is_line, made, number_or_none, settings_of, settled, text_or_none, texts};
+ghost use Rattle.cli_words.specs.Language.{are_taken, first, flags_of, given, is_allowed, is_given, is_line, made, number_or_none, settings_of, settled, text_or_none, texts};
 
 use crate::command::{Command, command_of};
 use crate::flags::Flags;
@@ -60,6 +60,20 @@ fn number_of(words: &[&str], option: CommandOption) -> u64
     }
 }
 
+// The value of an option, if the words give it.
+fn text_if_given(
+    alloc: Global,
+    words: &[&str],
+    option: CommandOption,
+) -> Result<Option<Word>, NoMemory>
+    ensures { IfOk result (λ made. made ≡ first (given (texts words.now) option)) }
+{
+    match find(words, option) {
+        None => Ok(None),
+        Some(text) => Ok(Some(Word::new(alloc, text)?)),
+    }
+}
+
 // Whether the words give an option.
 fn is_given(words: &[&str], option: CommandOption) -> bool
     ensures { result ≡ is_given (given (texts words.now) option) }
@@ -75,6 +89,7 @@ fn flags_of(words: &[&str]) -> Flags
         orders: is_given(words, CommandOption::Orders),
         digests: is_given(words, CommandOption::Digests),
         json: is_given(words, CommandOption::Json),
+        trace: is_given(words, CommandOption::Trace),
     }
 }
 
@@ -84,6 +99,18 @@ fn to_run(alloc: Global, words: &[&str]) -> Result<Settings, NoMemory>
     Ok(Settings::Run {
         app: text_of(alloc, words, CommandOption::App)?,
         blocks: text_of(alloc, words, CommandOption::Blocks)?,
+        flags: flags_of(words),
+    })
+}
+
+fn to_simulate(alloc: Global, words: &[&str]) -> Result<Settings, NoMemory>
+    ensures { IfOk result (λ settings. settings ≡ made Command.Simulate (given (texts words.now))) }
+{
+    Ok(Settings::Simulate {
+        app: text_of(alloc, words, CommandOption::App)?,
+        blocks: text_of(alloc, words, CommandOption::Blocks)?,
+        schedule: text_of(alloc, words, CommandOption::Schedule)?,
+        arrivals: text_if_given(alloc, words, CommandOption::Arrivals)?,
         flags: flags_of(words),
     })
 }
@@ -112,6 +139,7 @@ fn to_settings(alloc: Global, command: Command, words: &[&str]) -> Result<Settin
 {
     match command {
         Command::Run => to_run(alloc, words),
+        Command::Simulate => to_simulate(alloc, words),
         Command::Provenance => to_provenance(alloc, words),
         Command::Seal => to_seal(alloc, words),
         Command::Load => Ok(Settings::Load {

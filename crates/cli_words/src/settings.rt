@@ -16,6 +16,19 @@ pub enum Settings {
         /// The form of the report, and what it shows besides.
         flags: Flags,
     },
+    /// Runs the blocks of a file on the application of another, as a schedule says.
+    Simulate {
+        /// The name of the application's file.
+        app: Word,
+        /// The name of the file of blocks.
+        blocks: Word,
+        /// The name of the schedule's file.
+        schedule: Word,
+        /// The front of the name of the file of what arrives, if there is one.
+        arrivals: Option<Word>,
+        /// What the report shows besides.
+        flags: Flags,
+    },
     /// Answers a query about the versions that the blocks of a file make on an application.
     Provenance {
         /// The name of the application's file.

@@ -8,6 +8,22 @@ fn commands(rt: HostRuntime) -> Result<(), Fail> {
     let alloc = rt.alloc();
     let run = read_words(alloc, &["run", "--orders", "--blocks", "b", "--app", "a"]);
     assert!(rt; matches!(run, Ok(Settings::Run { .. })));
+    let simulate = [
+        "simulate",
+        "--schedule",
+        "s",
+        "--trace",
+        "--app",
+        "a",
+        "--blocks",
+        "b",
+    ];
+    assert!(rt;
+        matches!(
+            read_words(alloc, &simulate),
+            Ok(Settings::Simulate { arrivals: None, .. })
+        )
+    );
     let provenance = [
         "provenance",
         "--query",
