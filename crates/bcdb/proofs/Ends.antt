@@ -5,7 +5,7 @@ use Rattle.edge_traits.specs.Sink.{appended}
 use Rattle.bcdb.specs.Answer.{Answer, Ends, Writes, says}
 use Rattle.bcdb.specs.Reply.{Means}
 use Rattle.bcdb.specs.declared.decide.Reply.{Reply}
-use Rattle.bcdb.specs.declared.status.Status.TheVariants.{AppRefused, ChainRefused, Done, NoMemory, QueryRefused, ReadFault, Usage, WriteFault}
+use Rattle.bcdb.specs.declared.status.Status.TheVariants.{AppRefused, ArrivalRefused, ChainRefused, Done, NoMemory, QueryRefused, ReadFault, ScheduleRefused, Usage, WriteFault}
 use Rattle.bcdb.specs.declared.status.Status.{Status}
 
 pub writes_whole : (meant : Answer) (status : Status) (before now : Option (List ℕ)) → status ≡ meant.status → now ≡ appended before meant.bytes → Writes meant status before now
@@ -14,6 +14,8 @@ writes_whole meant Usage before now same wrote = (same, wrote)
 writes_whole meant ReadFault before now same wrote = (same, wrote)
 writes_whole meant AppRefused before now same wrote = (same, wrote)
 writes_whole meant ChainRefused before now same wrote = (same, wrote)
+writes_whole meant ArrivalRefused before now same wrote = (same, wrote)
+writes_whole meant ScheduleRefused before now same wrote = (same, wrote)
 writes_whole meant QueryRefused before now same wrote = (same, wrote)
 writes_whole meant NoMemory before now same wrote = (same, wrote)
 writes_whole meant WriteFault before now same wrote = whole_is_front before now meant.bytes wrote
@@ -25,6 +27,8 @@ ends_written meant Usage before now wrote = wrote
 ends_written meant ReadFault before now wrote = wrote
 ends_written meant AppRefused before now wrote = wrote
 ends_written meant ChainRefused before now wrote = wrote
+ends_written meant ArrivalRefused before now wrote = wrote
+ends_written meant ScheduleRefused before now wrote = wrote
 ends_written meant QueryRefused before now wrote = wrote
 ends_written meant WriteFault before now wrote = wrote
 ends_written meant NoMemory before now wrote = whole_is_front before now meant.bytes wrote.1

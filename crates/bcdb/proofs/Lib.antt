@@ -5,3 +5,7 @@ pub mod Queries
 pub mod Loads
 pub mod Taken
 pub mod Orders
+pub mod Simulated
+pub mod Arriving
+pub mod Long
+pub mod Asked

@@ -13,13 +13,13 @@ use Rattle.proc_syntax.specs.declared.call.Block.{Block}
 use Rattle.proc_syntax.specs.declared.chain_fault.ChainFault.{ChainFault}
 
 -- what was read and a piece behind it are a front of the file
-front_by : (told : Option Files) (name bytes buffer : List ℕ) (at count : ℕ) → length bytes ≡ at → count ≤ length buffer → IfSome told (λ files. IsPiece (files name) at count buffer)
+pub front_by : (told : Option Files) (name bytes buffer : List ℕ) (at count : ℕ) → length bytes ≡ at → count ≤ length buffer → IfSome told (λ files. IsPiece (files name) at count buffer)
     → IfSome told (λ files. bytes ≡ take at (files name)) → IfSome told (λ files. bytes ++ take count buffer ≡ take (length (bytes ++ take count buffer)) (files name))
 front_by None name bytes buffer at count size le piece front = tt
 front_by (Some files) name bytes buffer at count size le piece front =
     told_grows (Some files) name bytes buffer count le (subst (λ n. IsPiece (files name) n count buffer) (sym size) piece) (front ∙ ap (λ n. take n (files name)) (sym size))
 
-at_size : (told : Option Files) (name bytes : List ℕ) (n : ℕ) → length bytes ≡ n → IfSome told (λ files. bytes ≡ take (length bytes) (files name)) → IfSome told (λ files. bytes ≡ take n (files name))
+pub at_size : (told : Option Files) (name bytes : List ℕ) (n : ℕ) → length bytes ≡ n → IfSome told (λ files. bytes ≡ take (length bytes) (files name)) → IfSome told (λ files. bytes ≡ take n (files name))
 at_size None name bytes n size front = tt
 at_size (Some files) name bytes n size front = front ∙ ap (λ n. take n (files name)) size
 
@@ -62,7 +62,7 @@ module _ (told : Option Files) (name buffer : List ℕ) (at count : ℕ) (old : 
   pub numbered : FilesAreNumbered → (new : Reader) (blocks : List Block) (fault : Option ChainFault) → TakesPiece both new blocks fault → NumberedFrom 1 blocks
   numbered all new blocks fault takes = subst (NumberedFrom 1) takes.blocks_are (all both)
 
-end_by : (told : Option Files) (name bytes buffer : List ℕ) (at count : ℕ) → 0 < length buffer → count ≡ 0 → IfSome told (λ files. IsPiece (files name) at count buffer)
+pub end_by : (told : Option Files) (name bytes buffer : List ℕ) (at count : ℕ) → 0 < length buffer → count ≡ 0 → IfSome told (λ files. IsPiece (files name) at count buffer)
     → IfSome told (λ files. bytes ≡ take at (files name)) → IfSome told (λ files. bytes ≡ files name)
 end_by None name bytes buffer at count room none piece begins = tt
 end_by (Some files) name bytes buffer at count room none piece begins = begins ∙ take_all at (files name) ((piece.end room).0 none)

@@ -5,12 +5,14 @@ use Rattle.std.specs.Result.{IsOk}
 use Rattle.bcdb.specs.Accepted.{accepted, too_long, typed}
 use Rattle.bcdb.specs.Answer.{over_app, says}
 use Rattle.bcdb.specs.Reply.{Means}
+use Rattle.bcdb.specs.Taking.{GivesApp}
 use Rattle.bcdb.specs.declared.decide.Reply.{Reply}
 use Rattle.bcdb.specs.declared.status.Status.TheVariants.{AppRefused}
 use Rattle.bcdb.specs.declared.task.Task.{Task}
 use Rattle.edge_traits.specs.Shelf.{Files}
 use Rattle.bcdb.specs.Refusals.{refusal_line}
 use Rattle.bcdb.specs.declared.refusal.Refusal.{Refusal}
+use Rattle.proc_check.specs.declared.checked.Checked.{Checked}
 use Rattle.proc_parse.specs.Grammar.{application}
 use Rattle.proc_parse.specs.Tokens.{tokens_of}
 use Rattle.proc_syntax.specs.declared.tree.App.{App}
@@ -41,3 +43,9 @@ pub refused_told : (task : Task) (told : Option Files) (app_name name bytes : Li
 refused_told task None app_name name bytes refusal reply same is means = tt
 refused_told task (Some files) app_name name bytes refusal reply same is means =
     subst (λ found. Means (over_app task found (files name)) reply) (sym (ap accepted (sym same) ∙ is)) means
+
+-- what the bytes of a file are read as is what the file is
+pub given_told : (told : Option Files) (name bytes : List ℕ) (read : Result Checked Refusal) → IfSome told (λ files. bytes ≡ files name) → GivesApp read (accepted bytes)
+    → IfSome told (λ files. GivesApp read (accepted (files name)))
+given_told None name bytes read same gives = tt
+given_told (Some files) name bytes read same gives = subst (λ found. GivesApp read (accepted found)) same gives

@@ -1,11 +1,12 @@
--- What the program means to answer, over whole files: the report of the fold of the blocks on the application, or the versions that a query
--- selects in it, or the blocks as a chain.
+-- What the program means to answer, over whole files: the report of the fold of the blocks on the application, or of a node that a schedule drives,
+-- or the versions that a query selects, or the blocks as a chain.
 use Rattle.std.specs.Prelude.{Err, List, None, Ok, Option, Result, Some, [], codes, false, ◌++◌, ◌≡◌, ◌∷◌, ℕ}
 use Rattle.bcdb.specs.Accepted.{accepted}
-use Rattle.bcdb.specs.Refusals.{query_refusal, refusal_line}
+use Rattle.bcdb.specs.Refusals.{arrivals_refusal, query_refusal, refusal_line, schedule_refusal, short_refusal}
 use Rattle.bcdb.specs.Selected.{selected}
 use Rattle.bcdb.specs.declared.refusal.Refusal.{Refusal}
-use Rattle.bcdb.specs.declared.status.Status.TheVariants.{AppRefused, ChainRefused, Done, NoMemory, QueryRefused, ReadFault, Usage, WriteFault}
+use Rattle.bcdb.specs.declared.simulation.Simulation.{Simulation}
+use Rattle.bcdb.specs.declared.status.Status.TheVariants.{AppRefused, ArrivalRefused, ChainRefused, Done, NoMemory, QueryRefused, ReadFault, ScheduleRefused, Usage, WriteFault}
 use Rattle.bcdb.specs.declared.status.Status.{Status}
 use Rattle.bcdb.specs.declared.task.Task.{Task}
 use Rattle.bcdb.specs.declared.task.Task.TheVariants.{Query, Report}
@@ -13,16 +14,18 @@ use Rattle.chain_file.specs.Chain.{chain}
 use Rattle.chain_file.specs.ChainText.{chain_text}
 use Rattle.cli_words.specs.Language.{settings_of}
 use Rattle.cli_words.specs.declared.flags.Flags.{Flags}
-use Rattle.cli_words.specs.declared.settings.Settings.TheVariants.{Load, Provenance, Run, Seal}
+use Rattle.cli_words.specs.declared.settings.Settings.TheVariants.{Load, Provenance, Run, Seal, Simulate}
 use Rattle.cli_words.specs.declared.settings.Settings.{Settings}
 use Rattle.edge_traits.specs.Shelf.{Files}
 use Rattle.edge_traits.specs.Sink.{WroteFront, appended}
 use Rattle.load_gen.specs.Application.{app_text}
 use Rattle.load_gen.specs.Blocks.{load_blocks}
 use Rattle.node_model.specs.Fold.{node_result}
+use Rattle.node_model.specs.declared.result.NodeResult.{NodeResult}
 use Rattle.node_model.specs.declared.version.Version.{Version}
 use Rattle.proc_syntax.specs.Declaring.{tables_of}
 use Rattle.proc_syntax.specs.declared.call.Block.{Block}
+use Rattle.proc_syntax.specs.declared.call.Tx.{Tx}
 use Rattle.proc_syntax.specs.declared.tree.App.{App}
 use Rattle.proc_syntax.specs.declared.chain_fault.ChainFault.{ChainFault}
 use Rattle.provenance.specs.Grammar.{query_of}
@@ -33,6 +36,11 @@ use Rattle.report_text.specs.Report.{report_text}
 use Rattle.report_text.specs.Summary.{summary_text}
 use Rattle.report_text.specs.Versions.{versions_text}
 use Rattle.report_text.specs.declared.look.Look.{Look}
+use Rattle.schedule_sim.specs.Running.{simulated}
+use Rattle.schedule_sim.specs.Schedules.{schedule_of}
+use Rattle.schedule_sim.specs.declared.step.Step.{Step}
+use Rattle.std.specs.Option.{option_map}
+use Rattle.tx_text.specs.Arrivals.{arrivals}
 
 -- a status, and all that is written
 pub record Answer : Type 0 where
@@ -49,7 +57,7 @@ status_of (Some fault) = ChainRefused
 
 -- what the flags of a run ask the report to show
 abbrev pub look_of : Flags → Look
-look_of flags = record { orders = flags.orders; digests = flags.digests; json = flags.json; trace = false }
+look_of flags = record { orders = flags.orders; digests = flags.digests; json = flags.json; trace = flags.trace }
 
 -- the versions that a query selects, and how the block file ended; or why the query is refused, also where the block file has a fault
 abbrev pub over_versions : List TableDef → Option ChainFault → Result (List Version) QueryFault → Answer
@@ -76,6 +84,40 @@ abbrev pub over_load : ℕ → Result App Refusal → Answer
 over_load number (Err refusal) = says AppRefused (refusal_line refusal)
 over_load number (Ok app) = says Done (summary_text number (node_result app (load_blocks number)).blocks)
 
+-- ---- a simulation
+
+-- what the node tells is reported; or so many blocks are sealed by a schedule that is short, also where the block file has a fault
+abbrev pub over_told : Look → App → Option ChainFault → Result NodeResult ℕ → Answer
+over_told look app stop (Ok told) = says (status_of stop) (report_text look (tables_of app) (told ∷ []) stop)
+over_told look app stop (Err sealed) = says ScheduleRefused (short_refusal sealed)
+
+-- the schedule decides before the blocks
+abbrev pub over_schedule : Look → App → List Tx → Result (List Step) ℕ → List ℕ → Answer
+over_schedule look app txs (Err line) bytes = says ScheduleRefused (schedule_refusal line)
+over_schedule look app txs (Ok steps) bytes = over_told look app (chain bytes).1 (simulated (record { app = app; blocks = (chain bytes).0; arrivals = txs }) steps)
+
+-- what arrives decides before the schedule
+abbrev pub over_arrivals : Look → App → Result (List Tx) ℕ → (schedule blocks : List ℕ) → Answer
+over_arrivals look app (Err line) schedule blocks = says ArrivalRefused (arrivals_refusal line)
+over_arrivals look app (Ok txs) schedule blocks = over_schedule look app txs (schedule_of schedule) blocks
+
+-- what arrives by a file, if one is named
+abbrev pub arrived_in : Option (List ℕ) → Files → Result (List Tx) ℕ
+arrived_in None files = Ok []
+arrived_in (Some name) files = arrivals (files name)
+
+-- the application decides before all of these
+abbrev pub over_simulation : Simulation → Result App Refusal → Files → Answer
+over_simulation asked (Err refusal) files = says AppRefused (refusal_line refusal)
+over_simulation asked (Ok app) files = over_arrivals asked.look app (arrived_in asked.arrivals files) (files asked.schedule) (files asked.blocks)
+
+-- the file of what arrives at the first node is named by the words, and behind these the node's number
+abbrev pub first_node : List ℕ → List ℕ
+first_node front = front ++ codes "1"
+
+abbrev pub simulation_of : (app blocks schedule : List ℕ) → Option (List ℕ) → Flags → Simulation
+simulation_of app blocks schedule front flags = record { app = app; arrivals = option_map first_node front; schedule = schedule; blocks = blocks; look = look_of flags }
+
 -- words that are not in the language
 abbrev pub usage_refused : Answer
 usage_refused = says Usage (codes "refused usage\n")
@@ -84,6 +126,7 @@ usage_refused = says Usage (codes "refused usage\n")
 abbrev pub over_settings : Option Settings → Files → Answer
 over_settings None files = usage_refused
 over_settings (Some (Run app blocks flags)) files = over_app (Report (look_of flags)) (accepted (files app)) (files blocks)
+over_settings (Some (Simulate app blocks schedule front flags)) files = over_simulation (simulation_of app blocks schedule front flags) (accepted (files app)) files
 over_settings (Some (Provenance app blocks query)) files = over_app (Query query) (accepted (files app)) (files blocks)
 over_settings (Some (Seal blocks)) files = sealed (chain (files blocks)).0 (chain (files blocks)).1
 over_settings (Some (Load number)) files = over_load number (accepted app_text)

@@ -9,3 +9,5 @@ pub mod Reading
 pub mod InOrder
 pub mod Numbers
 pub mod Collecting
+pub mod ArrivalReading
+pub mod Taking

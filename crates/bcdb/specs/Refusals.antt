@@ -1,4 +1,4 @@
--- The lines that say why an application or a query is refused.
+-- The lines that say why an application, what arrives, a schedule or a query is refused.
 use Rattle.std.specs.Prelude.{List, codes, decimal, ◌++◌, ℕ}
 use Rattle.bcdb.specs.declared.refusal.Refusal.{Refusal}
 use Rattle.bcdb.specs.declared.refusal.RefusalKind.TheVariants.{Bad, Syntax, TooLong}
@@ -38,3 +38,19 @@ fault_text fault.BadRange = codes "BadRange"
 -- `refused query KIND`
 abbrev pub query_refusal : QueryFault → List ℕ
 query_refusal fault = codes "refused query " ++ fault_text fault ++ codes "\n"
+
+-- `refused`, what is refused, and a number
+abbrev pub numbered_refusal : List ℕ → ℕ → List ℕ
+numbered_refusal what number = codes "refused " ++ what ++ codes " " ++ decimal number ++ codes "\n"
+
+-- `refused arrivals NODE LINE`, of the one node that there is
+abbrev pub arrivals_refusal : ℕ → List ℕ
+arrivals_refusal line = numbered_refusal (codes "arrivals 1") line
+
+-- `refused schedule line LINE`
+abbrev pub schedule_refusal : ℕ → List ℕ
+schedule_refusal line = numbered_refusal (codes "schedule line") line
+
+-- `refused schedule short SEALED`: so many blocks are sealed
+abbrev pub short_refusal : ℕ → List ℕ
+short_refusal sealed = numbered_refusal (codes "schedule short") sealed

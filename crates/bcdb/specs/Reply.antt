@@ -2,7 +2,7 @@
 use Rattle.std.specs.Prelude.{Bool, false, true, ◌≡◌}
 use Rattle.bcdb.specs.Answer.{Answer}
 use Rattle.bcdb.specs.declared.decide.Reply.{Reply}
-use Rattle.bcdb.specs.declared.status.Status.TheVariants.{AppRefused, ChainRefused, Done, QueryRefused}
+use Rattle.bcdb.specs.declared.status.Status.TheVariants.{AppRefused, ArrivalRefused, ChainRefused, Done, QueryRefused, ScheduleRefused}
 use Rattle.bcdb.specs.declared.status.Status.{Status}
 
 pub record Means (meant : Answer) (reply : Reply) : Type 0 where
@@ -14,5 +14,7 @@ abbrev pub is_answer : Status → Bool
 is_answer Done = true
 is_answer AppRefused = true
 is_answer ChainRefused = true
+is_answer ArrivalRefused = true
 is_answer QueryRefused = true
+is_answer ScheduleRefused = true
 is_answer _ = false

@@ -20,8 +20,8 @@ use std::alloc::{AllocError, Global};
 // How many bytes are asked for at once.
 const PIECE: usize = 65536;
 
-// A buffer on the heap, where the stack would pay for it at each call.
-fn make_buffer(alloc: Global) -> Result<Vec<u8>, AllocError>
+/// A buffer of 65,536 bytes on the heap, where the stack would pay for it at each call.
+pub fn make_buffer(alloc: Global) -> Result<Vec<u8>, AllocError>
     ensures { IfOk result (λ buffer. length buffer.items ≡ 65536) }
 {
     vec![in alloc; 0; PIECE]

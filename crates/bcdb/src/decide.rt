@@ -15,6 +15,8 @@ use crate::files::{AppFault, LONGEST_APPLICATION, read_application};
 use crate::load::answer_load;
 use crate::refusal::{Refusal, TOO_LONG, refusal_line};
 use crate::run::{answer_blocks, answer_seal};
+use crate::simulating::answer_simulation;
+use crate::simulation::{Simulation, arrivals_name};
 use crate::status::Status;
 use crate::task::Task;
 use cli_words::{Flags, Settings};
@@ -108,7 +110,7 @@ fn look_of(flags: Flags) -> Look
         orders: flags.orders,
         digests: flags.digests,
         json: flags.json,
-        trace: false,
+        trace: flags.trace,
     }
 }
 
@@ -155,6 +157,22 @@ pub fn decide<S: Shelf>(
         Settings::Run { app, blocks, flags } => {
             let task = Task::Report(look_of(flags));
             read_app(alloc, shelf, app.as_str(), blocks.as_str(), &task)
+        }
+        Settings::Simulate {
+            app,
+            blocks,
+            schedule,
+            arrivals,
+            flags,
+        } => {
+            let simulation = Simulation {
+                app,
+                arrivals: arrivals_name(alloc, &arrivals)?,
+                schedule,
+                blocks,
+                look: look_of(flags),
+            };
+            answer_simulation(alloc, shelf, &simulation)
         }
         Settings::Provenance { app, blocks, query } => {
             let task = Task::Query(query);

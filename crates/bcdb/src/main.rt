@@ -1,7 +1,8 @@
-//! A permissioned blockchain database: runs a file of blocks on an application and prints outcomes and tables, or the versions that a
-//! query selects; or writes the blocks as a chain. It also runs blocks that are generated from a number.
+//! A permissioned blockchain database: runs a file of blocks on an application, as a schedule says if one is given, and prints outcomes
+//! and tables, or the versions that a query selects; or writes the blocks as a chain. It also runs blocks that are generated from a number.
 #![tactic(auto)]
 
+pub mod arrivals;
 pub mod blocks;
 pub mod decide;
 pub mod fault;
@@ -10,6 +11,9 @@ pub mod load;
 pub mod query;
 pub mod refusal;
 pub mod run;
+pub mod schedule;
+pub mod simulating;
+pub mod simulation;
 pub mod status;
 pub mod task;
 #[cfg(test)]

@@ -1,7 +1,7 @@
-//! Why an application or a query is refused, and the line that says so.
+//! Why an application, what arrives, a schedule or a query is refused, and the line that says so.
 
 ghost use Rattle.std.specs.Prelude.{◌≡◌, ◌++◌, IfOk, OnOk};
-ghost use Rattle.bcdb.specs.Refusals.{fault_text, kind_text, place_text, query_refusal, refusal_line};
+ghost use Rattle.bcdb.specs.Refusals.{arrivals_refusal, fault_text, kind_text, numbered_refusal, place_text, query_refusal, refusal_line, schedule_refusal, short_refusal};
 
 use literals::push_number;
 use proc_check::BadKind;
@@ -100,4 +100,37 @@ pub fn query_refusal(alloc: Global, fault: QueryFault) -> Result<List<u8>, NoMem
     push(&mut out, fault_text(fault))?;
     push(&mut out, b"\n")?;
     Ok(List::from_vec(out))
+}
+
+// The line that refuses something with a number.
+fn numbered_refusal(alloc: Global, what: &[u8], number: u64) -> Result<List<u8>, NoMemory>
+    ensures { IfOk result (λ bytes. bytes ≡ numbered_refusal what.now number) }
+{
+    let mut out = b"refused ".to_vec(alloc)?;
+    push(&mut out, what)?;
+    push(&mut out, b" ")?;
+    push_number(&mut out, number)?;
+    push(&mut out, b"\n")?;
+    Ok(List::from_vec(out))
+}
+
+/// The line that says in which line what arrives at the node is wrong.
+pub fn arrivals_refusal(alloc: Global, line: u64) -> Result<List<u8>, NoMemory>
+    ensures { IfOk result (λ bytes. bytes ≡ arrivals_refusal line) }
+{
+    numbered_refusal(alloc, b"arrivals 1", line)
+}
+
+/// The line that says in which line a schedule is wrong.
+pub fn schedule_refusal(alloc: Global, line: u64) -> Result<List<u8>, NoMemory>
+    ensures { IfOk result (λ bytes. bytes ≡ schedule_refusal line) }
+{
+    numbered_refusal(alloc, b"schedule line", line)
+}
+
+/// The line that says how many blocks a schedule seals that does not seal all.
+pub fn short_refusal(alloc: Global, sealed: u64) -> Result<List<u8>, NoMemory>
+    ensures { IfOk result (λ bytes. bytes ≡ short_refusal sealed) }
+{
+    numbered_refusal(alloc, b"schedule short", sealed)
 }

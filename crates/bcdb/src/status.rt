@@ -19,12 +19,16 @@ pub enum Status {
     AppRefused = 4,
     /// The block file stops at a fault, before its end.
     ChainRefused = 5,
+    /// A file of what arrives is outside its grammar.
+    ArrivalRefused = 6,
     /// The output could not be written.
     WriteFault = 7,
     /// Memory ran out.
     NoMemory = 8,
     /// The query is not in its grammar, or asks for what there is not.
     QueryRefused = 9,
+    /// The schedule has a bad line, or ends before all blocks are sealed.
+    ScheduleRefused = 10,
 }
 
 /// What the process ends with: the number of the status.

@@ -125,10 +125,8 @@ fn use_in_simulate(option: CommandOption) -> Use
 {
     match option {
         CommandOption::App | CommandOption::Blocks | CommandOption::Schedule => Use::Must,
-        CommandOption::Arrivals => Use::May,
-        CommandOption::Orders | CommandOption::Digests => Use::May,
-        CommandOption::Json | CommandOption::Trace => Use::May,
         CommandOption::Query | CommandOption::Number => Use::No,
+        _ => Use::May,
     }
 }
 
@@ -158,12 +156,7 @@ fn use_in_load(option: CommandOption) -> Use
 {
     match option {
         CommandOption::Number => Use::Must,
-        CommandOption::App
-        | CommandOption::Blocks
-        | CommandOption::Query
-        | CommandOption::Orders
-        | CommandOption::Digests
-        | CommandOption::Json => Use::No,
+        _ => Use::No,
     }
 }
 

@@ -1,0 +1,78 @@
+-- Pieces of an arrival file, one after another: what was read stays a front of the file, and a fault that was met is the file's.
+use Rattle.std.proofs.Common.{Bool, IfSome, List, None, Option, Some, ap, arith, cond, drop, false, length, length-append, refl, subst, sym, take, true, ◌&&◌, ◌+◌, ◌++◌, ◌<◌, ◌==◌, ◌∙◌, ◌≡◌, ◌≤◌, ℕ}
+use Rattle.std.proofs.lemmas.List.{length-take-le, take-append-drop}
+use Rattle.std.specs.Prelude.{Err, Ok, Result, nat_lt}
+use Rattle.std.specs.Result.{IsOk}
+use Rattle.bcdb.proofs.Taken.{at_size, end_by, front_by}
+use Rattle.bcdb.specs.ArrivalReading.{HasRead, IsRead, IsWhole, TakesLines}
+use Rattle.edge_traits.specs.Shelf.{Files, IsPiece}
+use Rattle.proc_syntax.specs.declared.call.Tx.{Tx}
+use Rattle.tx_text.specs.Arrivals.{ArrivalFaultsLast, ArrivalsAreBounded, arrivals, arrived}
+use Rattle.tx_text.specs.Feeding.{so_far}
+use Rattle.tx_text.specs.Listing.{Far, longest_listing, whole}
+use Rattle.tx_text.specs.declared.arrival_reader.ArrivalReader.{ArrivalReader}
+
+-- what was read so far has no fault, so the file may be read from there on
+pub may_go_on : (told : Option Files) (name : List ℕ) (at : ℕ) (reader : ArrivalReader) (txs : List Tx) → IsRead told name at reader txs → IfSome told (λ files. IsOk (arrived (take at (files name))))
+may_go_on None name at reader txs read = tt
+may_go_on (Some files) name at reader txs read = subst (λ bytes. IsOk (arrived bytes)) read.front read.has.clear
+
+module _ (told : Option Files) (name buffer : List ℕ) (at count : ℕ) (old : ArrivalReader) (before : List Tx) (read : IsRead told name at old before) (le : count ≤ length buffer)
+    (piece : IfSome told (λ files. IsPiece (files name) at count buffer)) where
+  abbrev both : List ℕ
+  both = read.bytes ++ take count buffer
+
+  size : length both ≡ at + count
+  size = omega (arith, length-append read.bytes (take count buffer), length-take-le count buffer le, read.size)
+
+  front : IfSome told (λ files. both ≡ take (length both) (files name))
+  front = front_by told name read.bytes buffer at count read.size le piece read.front
+
+  -- the reading goes on behind a piece without a fault
+  pub goes_on : (new : ArrivalReader) (txs : List Tx) → HasRead both new txs → IsRead told name (at + count) new txs
+  goes_on new txs has = record { bytes = both; size = size; has = has; front = at_size told name both (at + count) size front }
+
+  -- and has not gone past the longest file
+  pub within : ArrivalsAreBounded → (new : ArrivalReader) (txs : List Tx) → HasRead both new txs → at + count ≤ longest_listing
+  within bounded new txs has = subst (λ n. n ≤ longest_listing) size (bounded both has.clear)
+
+  whole_by : (told : Option Files) → IfSome told (λ files. both ≡ take (length both) (files name)) → ArrivalFaultsLast → (line : ℕ) → arrived both ≡ Err line
+      → IfSome told (λ files. arrivals (files name) ≡ Err line)
+  whole_by None begins last line is = tt
+  whole_by (Some files) begins last line is =
+      let joined : both ++ drop (length both) (files name) ≡ files name = ap (λ bs. bs ++ drop (length both) (files name)) begins ∙ take-append-drop (length both) (files name) in
+      ap arrivals (sym joined) ∙ last both (drop (length both) (files name)) line is
+
+  -- a fault that was met is the file's
+  pub stops : ArrivalFaultsLast → (line : ℕ) → arrived both ≡ Err line → IfSome told (λ files. arrivals (files name) ≡ Err line)
+  stops last line is = whole_by told front last line is
+
+-- where no byte comes, the file was read whole
+pub ends : (told : Option Files) (name buffer : List ℕ) (at count : ℕ) (reader : ArrivalReader) (txs : List Tx) → (read : IsRead told name at reader txs) → 0 < length buffer → count ≡ 0
+    → IfSome told (λ files. IsPiece (files name) at count buffer) → IsWhole told name reader txs
+ends told name buffer at count reader txs read room none piece =
+    record { bytes = read.bytes; has = read.has; whole = end_by told name read.bytes buffer at count room none piece read.front }
+
+-- a whole file without a fault has the transactions that were read
+whole_read : (far : Result (Far Tx) ℕ) → IsOk (whole far) → whole far ≡ Ok (so_far far)
+whole_read (Err line) ok = absurd (not_ok ok)
+  where
+    not_ok : false ≡ true → ⊥
+    not_ok is = cc
+whole_read (Ok far) ok = by (nat_lt 1 far.line && (length far.rest == 0)) ok
+  where
+    by : (b : Bool) → IsOk (cond {A = Result (List Tx) ℕ} b (Ok far.items) (Err far.line)) → cond {A = Result (List Tx) ℕ} b (Ok far.items) (Err far.line) ≡ Ok far.items
+    by true is = refl
+    by false is = absurd (not_ok is)
+      where
+        not_ok : false ≡ true → ⊥
+        not_ok is = cc
+
+pub read_whole : (bytes : List ℕ) (reader : ArrivalReader) (txs : List Tx) → HasRead bytes reader txs → IsOk (arrivals bytes) → arrivals bytes ≡ Ok txs
+read_whole bytes reader txs has ok = whole_read (arrived bytes) ok ∙ ap (λ read. Ok read) has.txs_are
+
+-- so the file is what was read
+pub told_whole : (told : Option Files) (name : List ℕ) (reader : ArrivalReader) (txs : List Tx) (result : Result (List Tx) ℕ) → (read : IsWhole told name reader txs)
+    → ((bytes : List ℕ) → HasRead bytes reader txs → arrivals bytes ≡ result) → IfSome told (λ files. arrivals (files name) ≡ result)
+told_whole None name reader txs result read gives = tt
+told_whole (Some files) name reader txs result read gives = ap arrivals (sym read.whole) ∙ gives read.bytes read.has
