@@ -9,3 +9,4 @@ pub mod Simulated
 pub mod Arriving
 pub mod Long
 pub mod Asked
+pub mod Leaves

@@ -29,6 +29,7 @@ use top::{bcdb, refuse_words};
 use words::collect_words;
 
 // Answers the words over real files and standard output.
+#[tactic(auto, using(crate::proofs::Leaves::all_may))]
 fn answer_words(rt: &HostRuntime, texts: &[String]) -> Result<Status, AllocError> {
     let mut words = Vec::new(rt.alloc());
     for text in texts {
