@@ -4,7 +4,7 @@ use Rattle.std.specs.Bool.{⊤}
 use Rattle.std.specs.Option.{option_map}
 use Rattle.bcdb.specs.Answer.{first_node}
 use Rattle.bcdb.specs.Causes.{AllowsArrivals, AllowsNamed}
-use Rattle.cli_words.specs.declared.settings.Settings.TheVariants.{Provenance, Run, Seal, Simulate}
+use Rattle.cli_words.specs.declared.settings.Settings.TheVariants.{Load, Provenance, Run, Seal, Simulate}
 use Rattle.cli_words.specs.declared.settings.Settings.{Settings}
 use Rattle.edge_traits.specs.Causes.{Leave}
 use Rattle.edge_traits.specs.Shelf.{Files}
@@ -22,3 +22,4 @@ all_may (Some (Run app blocks flags)) told = (λ at lt. tt, λ ok at clear. tt)
 all_may (Some (Simulate app blocks schedule front flags)) told = (λ at lt. tt, λ ok. (arrivals_may told (option_map first_node front), λ has. (λ at le. tt, λ steps at clear. tt)))
 all_may (Some (Provenance app blocks query)) told = (λ at lt. tt, λ ok at clear. tt)
 all_may (Some (Seal blocks)) told = λ at clear. tt
+all_may (Some (Load number)) told = tt
