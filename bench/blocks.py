@@ -158,4 +158,5 @@ def main():
     files(program, given.megabytes)
 
 
-main()
+if __name__ == "__main__":
+    main()
