@@ -10,3 +10,4 @@ pub mod Arriving
 pub mod Long
 pub mod Asked
 pub mod Leaves
+pub mod Agreeing

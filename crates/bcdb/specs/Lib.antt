@@ -11,3 +11,4 @@ pub mod Numbers
 pub mod Collecting
 pub mod ArrivalReading
 pub mod Taking
+pub mod Agrees

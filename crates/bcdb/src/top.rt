@@ -1,5 +1,6 @@
 //! The top call.
 ghost use Rattle.std.specs.Prelude.{◌≡◌, ◌⊎◌, IfSome, None, Some, Option, List, ℕ};
+ghost use Rattle.bcdb.specs.Agrees.{AnswersAsRun};
 ghost use Rattle.bcdb.specs.Answer.{Ends, Writes, answer, over_settings, read_refused, says, usage_refused};
 ghost use Rattle.bcdb.specs.Causes.{AllowsNamed, RoseAtNamed, RoseInTurn};
 ghost use Rattle.bcdb.specs.InOrder.{RunsInOrder};
@@ -65,13 +66,13 @@ fn serve<S: Shelf, W: Sink>(alloc: Global, settings: Settings, shelf: &mut S, ou
 /// Does what the words ask for, over the files that they name, and writes the answer.
 ///
 /// The answer to the words over the files of the shelf is a definition that shares no code with the program: the report of one
-/// fold over the blocks, the versions that a query selects in it, the blocks as a chain or the summary of a load; or the refusal that
-/// comes first. Over a shelf that tells its files, either no read failed and the call
-/// ends with the status and all the bytes of that answer; or the count of a named file rose in its turn, and it ends with those
-/// of a failed read. At `WriteFault` and `NoMemory` a front of the bytes was written. Nothing is asked for but bytes of the
-/// named files, of the blocks only once the application is accepted, and none behind the first fault: that is what `allowed`,
-/// which every shelf here meets, asks of the body.
-#[tactic(auto, using(crate::proofs::Orders::told_in_order))]
+/// fold over the blocks, or of what a schedule comes to, the versions that a query selects in it, the blocks as a chain or the
+/// summary of a load; or the refusal that comes first. Over a shelf that tells its files, either no read failed and the call ends
+/// with the status and all the bytes of that answer; or the count of a named file rose in its turn, and it ends with those of a
+/// failed read. At `WriteFault` and `NoMemory` a front of the bytes was written. Nothing is asked for but bytes of the named files,
+/// of each only once the one before it is accepted, and none of the blocks or of what arrives behind the first fault: that is what
+/// `allowed`, which every shelf here meets, asks of the body.
+#[tactic(auto, using(crate::proofs::Orders::told_in_order, crate::proofs::Agreeing::told_as_run))]
 pub fn bcdb<S: Shelf, W: Sink>(alloc: Global, words: &[&str], shelf: &mut S, out: &mut W) -> Status
     requires allowed { AllowsNamed (settings_of (texts words.now)) (S.told shelf.old) (S.may_read shelf.old) }
     ensures ends { IfSome (S.told shelf.old) (λ files.
@@ -82,6 +83,10 @@ pub fn bcdb<S: Shelf, W: Sink>(alloc: Global, words: &[&str], shelf: &mut S, out
     // Whether or not the orders are shown, the results that are reported tell for each block an order in which its committed
     // transactions run again one by one, with the same reads, writes and tables.
     ensures replays { IfSome (S.told shelf.old) (RunsInOrder (settings_of (texts words.now))) }
+
+    // Whatever arrives and whatever the schedule: a simulation that is not refused for these, and is not asked for its journal,
+    // answers what a run of the same blocks answers.
+    ensures agrees { IfSome (S.told shelf.old) (AnswersAsRun (settings_of (texts words.now))) }
 
     // Over any shelf: the words alone decide on `Usage`.
     ensures refuses { settings_of (texts words.now) ≡ None → Ends usage_refused result (W.written out.old) (W.written out.new) }
