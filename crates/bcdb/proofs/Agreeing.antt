@@ -5,7 +5,7 @@ use Rattle.std.specs.Option.{option_map}
 use Rattle.std.specs.Prelude.{Err, Ok, Result}
 use Rattle.bcdb.specs.Accepted.{accepted}
 use Rattle.bcdb.specs.Agrees.{AnswersAsRun, is_refused}
-use Rattle.bcdb.specs.Answer.{Answer, arrived_in, first_node, look_of, over_app, over_arrivals, over_blocks, over_schedule, over_simulation, over_told, says, simulation_of, status_of}
+use Rattle.bcdb.specs.Answer.{arrived_in, first_node, look_of, over_app, over_arrivals, over_blocks, over_schedule, over_simulation, over_told, says, simulation_of, status_of}
 use Rattle.bcdb.specs.declared.refusal.Refusal.{Refusal}
 use Rattle.bcdb.specs.declared.task.Task.TheVariants.{Report}
 use Rattle.chain_file.specs.Chain.{chain}

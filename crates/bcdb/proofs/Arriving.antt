@@ -4,7 +4,7 @@ use Rattle.std.proofs.lemmas.List.{length-take-le, take-append-drop}
 use Rattle.std.specs.Prelude.{Err, Ok, Result, nat_lt}
 use Rattle.std.specs.Result.{IsOk}
 use Rattle.bcdb.proofs.Taken.{at_size, end_by, front_by}
-use Rattle.bcdb.specs.ArrivalReading.{HasRead, IsRead, IsWhole, TakesLines}
+use Rattle.bcdb.specs.ArrivalReading.{HasRead, IsRead, IsWhole}
 use Rattle.edge_traits.specs.Shelf.{Files, IsPiece}
 use Rattle.proc_syntax.specs.declared.call.Tx.{Tx}
 use Rattle.tx_text.specs.Arrivals.{ArrivalFaultsLast, ArrivalsAreBounded, arrivals, arrived}

@@ -1,6 +1,6 @@
 -- The files of a simulation in their turn, and which may be read.
-use Rattle.std.proofs.Common.{IfSome, List, None, Option, Some, inl, inr, refl, subst, sym, ◌≡◌, ◌⊎◌, ℕ}
-use Rattle.std.specs.Prelude.{Err, Ok, Result}
+use Rattle.std.proofs.Common.{IfSome, List, None, Option, Some, inl, inr, refl, subst, sym, ◌≡◌, ℕ}
+use Rattle.std.specs.Prelude.{Err, Ok}
 use Rattle.std.specs.Result.{IsOk}
 use Rattle.bcdb.specs.Accepted.{accepted}
 use Rattle.bcdb.specs.Answer.{arrived_in, over_simulation, says}

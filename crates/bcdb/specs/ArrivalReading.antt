@@ -1,5 +1,5 @@
 -- An arrival file that is read piece by piece.
-use Rattle.std.specs.Prelude.{Err, IfSome, List, None, Ok, Option, Result, Some, length, take, ℕ, ◌+◌, ◌<◌, ◌≡◌, ◌≤◌}
+use Rattle.std.specs.Prelude.{Err, IfSome, List, None, Option, Some, length, take, ℕ, ◌+◌, ◌<◌, ◌≡◌, ◌≤◌}
 use Rattle.std.specs.Result.{IsOk}
 use Rattle.bcdb.specs.declared.arrivals.Step.TheVariants as step
 use Rattle.bcdb.specs.declared.arrivals.Step.{Step}

@@ -2,7 +2,6 @@ use Rattle.std.proofs.Common.{IfOk, List, rules, subst, take, ◌++◌, ◌<◌,
 use Rattle.bcdb.proofs.Arriving.{goes_on, stops, within}
 use Rattle.bcdb.proofs.arrivals.read_piece.Goals as goal
 use Rattle.bcdb.specs.ArrivalReading.{HasRead, TakesLines}
-use Rattle.std.specs.Prelude.{None, Some}
 
 pub returns-in-None-clause-goes : goal.returns-in-None-clause-goes
 returns-in-None-clause-goes g c =
