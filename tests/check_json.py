@@ -1,7 +1,7 @@
 #!/usr/bin/env python3
 """Checks the JSON reports of the built program against its reports as text, over the runs of tests/cases and at the limits.
 
-Each case whose words begin with `run` is run as it stands and with `--json` behind its words; a case that answers a report is run so with
+Each case whose words begin with `run` or `simulate` is run as it stands and with `--json` behind its words; a case that answers a report is run so with
 `--orders` and `--digests` turned round too. The lines of text are read into the value that they mean. The line of JSON has to be the one
 compact spelling of that value, byte for byte: keys in byte order, no space, escapes for `"`, `\\` and control characters alone. Journals
 stand behind both as the same lines. The status is the same, and so is all that is written where there is no report.
@@ -194,7 +194,7 @@ def check_prefixes(program, name, tally):
 def check_folder(program, name, tally):
     folder = os.path.join(CASES, name)
     words = read(os.path.join(folder, "words")).decode().split("\n")[:-1]
-    if words[:1] == ["run"] and "--json" not in words:
+    if words[:1] in (["run"], ["simulate"]) and "--json" not in words:
         check_case(program, name, folder, words, tally)
 
 
