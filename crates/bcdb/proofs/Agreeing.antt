@@ -1,11 +1,12 @@
 -- A simulation answers as a run does, where it is not refused.
-use Rattle.std.proofs.Common.{Bool, IfSome, List, None, Option, Some, [], ap, cond, false, length, refl, sym, true, ◌++◌, ◌==◌, ◌∙◌, ◌≡◌, ◌∷◌, ℕ}
+use Rattle.std.proofs.Common.{Bool, IfSome, List, None, Option, Some, [], ap, append-nil, cond, false, length, refl, sym, true, ◌++◌, ◌==◌, ◌∙◌, ◌≡◌, ◌∷◌, ℕ}
 use Rattle.std.proofs.lemmas.Bool.{eqb-true}
 use Rattle.std.specs.Option.{option_map}
 use Rattle.std.specs.Prelude.{Err, Ok, Result}
 use Rattle.bcdb.specs.Accepted.{accepted}
-use Rattle.bcdb.specs.Agrees.{AnswersAsRun, is_refused}
+use Rattle.bcdb.specs.Agrees.{Adds, AnswersAsRun, is_refused, untraced}
 use Rattle.bcdb.specs.Answer.{arrived_in, first_node, look_of, over_app, over_arrivals, over_blocks, over_schedule, over_simulation, over_told, says, simulation_of, status_of}
+use Rattle.bcdb.specs.Refusals.{refusal_line}
 use Rattle.bcdb.specs.declared.refusal.Refusal.{Refusal}
 use Rattle.bcdb.specs.declared.task.Task.TheVariants.{Report}
 use Rattle.chain_file.specs.Chain.{chain}
@@ -26,49 +27,51 @@ use Rattle.schedule_sim.specs.Running.{Given, scheduled, simulated, told_of}
 use Rattle.schedule_sim.specs.Schedules.{schedule_of}
 use Rattle.schedule_sim.specs.declared.step.Step.{Step}
 
--- without journals a report is one of the results and the tables
-without : (look : Look) (app : App) (node : NodeResult) (stop : Option ChainFault) → look.trace ≡ false
-    → report_text look (tables_of app) (node ∷ []) stop ≡ report_lines look (tables_of app) (node ∷ []) stop ++ []
-without look app node stop none = ap (λ b. report_lines look (tables_of app) (node ∷ []) stop ++ shown_if b (numbered journal_lines 1 (node ∷ []))) none
+abbrev quiet : Look → Look
+quiet look = record look { trace = false }
 
 abbrev told_by : App → List Sealed → NodeResult
 told_by app sealed = record { blocks = results_of (tables_of app) sealed; tables = all_rows (snapshot (length sealed) sealed) 0 (tables_of app); journal = [] }
 
-simulated_as_run : (look : Look) (given : Given) (lines : List Step) (stop : Option ChainFault) → look.trace ≡ false → is_refused (over_told look given.app stop (simulated given lines)).status ≡ false
-    → over_told look given.app stop (simulated given lines) ≡ over_blocks (Report look) given.app given.blocks stop
-simulated_as_run look given lines stop none kept = by (length (scheduled given lines).sealed == length given.blocks) refl kept
+simulated_as_run : (look : Look) (given : Given) (lines : List Step) (stop : Option ChainFault) → is_refused (over_told look given.app stop (simulated given lines)).status ≡ false
+    → Adds look.trace (over_blocks (Report (quiet look)) given.app given.blocks stop) (over_told look given.app stop (simulated given lines))
+simulated_as_run look given lines stop kept = by (length (scheduled given lines).sealed == length given.blocks) refl kept
   where
     by : (all : Bool) → (length (scheduled given lines).sealed == length given.blocks) ≡ all
         → is_refused (over_told look given.app stop (cond {A = Result NodeResult ℕ} all (Ok (told_of given.app (scheduled given lines))) (Err (length (scheduled given lines).sealed)))).status ≡ false
-        → over_told look given.app stop (cond {A = Result NodeResult ℕ} all (Ok (told_of given.app (scheduled given lines))) (Err (length (scheduled given lines).sealed)))
-        ≡ over_blocks (Report look) given.app given.blocks stop
+        → Adds look.trace (over_blocks (Report (quiet look)) given.app given.blocks stop)
+        (over_told look given.app stop (cond {A = Result NodeResult ℕ} all (Ok (told_of given.app (scheduled given lines))) (Err (length (scheduled given lines).sealed))))
     by true e kept =
         let sealed = (schedules_seal_the_fold given lines (eqb-true (length (scheduled given lines).sealed) (length given.blocks) e)).1 in
-        ap (λ text. says (status_of stop) text)
-        (without look given.app (told_of given.app (scheduled given lines)) stop none
-        ∙ ap (λ (chain : List Sealed). report_lines look (tables_of given.app) (told_by given.app chain ∷ []) stop ++ []) sealed
-        ∙ sym (without look given.app (node_result given.app given.blocks) stop none))
+        let journals : List ℕ = numbered journal_lines 1 (told_of given.app (scheduled given lines) ∷ []) in
+        record {
+          status = refl;
+          more = shown_if look.trace journals;
+          bytes = ap (λ (chain : List Sealed). report_lines look (tables_of given.app) (told_by given.app chain ∷ []) stop ++ shown_if look.trace journals) sealed
+              ∙ ap (λ text. text ++ shown_if look.trace journals) (sym (append-nil (report_lines look (tables_of given.app) (node_result given.app given.blocks ∷ []) stop)));
+          none = λ silent. ap (λ b. shown_if b journals) silent;
+        }
     by false e kept = absurd (cc)
 
-scheduled_as_run : (look : Look) (app : App) (txs : List Tx) (steps : Result (List Step) ℕ) (bytes : List ℕ) → look.trace ≡ false → is_refused (over_schedule look app txs steps bytes).status ≡ false
-    → over_schedule look app txs steps bytes ≡ over_app (Report look) (Ok app) bytes
-scheduled_as_run look app txs (Err line) bytes none kept = absurd (cc)
-scheduled_as_run look app txs (Ok steps) bytes none kept = simulated_as_run look (record { app = app; blocks = (chain bytes).0; arrivals = txs }) steps (chain bytes).1 none kept
+scheduled_as_run : (look : Look) (app : App) (txs : List Tx) (steps : Result (List Step) ℕ) (bytes : List ℕ) → is_refused (over_schedule look app txs steps bytes).status ≡ false
+    → Adds look.trace (over_app (Report (quiet look)) (Ok app) bytes) (over_schedule look app txs steps bytes)
+scheduled_as_run look app txs (Err line) bytes kept = absurd (cc)
+scheduled_as_run look app txs (Ok steps) bytes kept = simulated_as_run look (record { app = app; blocks = (chain bytes).0; arrivals = txs }) steps (chain bytes).1 kept
 
-arrived_as_run : (look : Look) (app : App) (txs : Result (List Tx) ℕ) (schedule blocks : List ℕ) → look.trace ≡ false → is_refused (over_arrivals look app txs schedule blocks).status ≡ false
-    → over_arrivals look app txs schedule blocks ≡ over_app (Report look) (Ok app) blocks
-arrived_as_run look app (Err line) schedule blocks none kept = absurd (cc)
-arrived_as_run look app (Ok txs) schedule blocks none kept = scheduled_as_run look app txs (schedule_of schedule) blocks none kept
+arrived_as_run : (look : Look) (app : App) (txs : Result (List Tx) ℕ) (schedule blocks : List ℕ) → is_refused (over_arrivals look app txs schedule blocks).status ≡ false
+    → Adds look.trace (over_app (Report (quiet look)) (Ok app) blocks) (over_arrivals look app txs schedule blocks)
+arrived_as_run look app (Err line) schedule blocks kept = absurd (cc)
+arrived_as_run look app (Ok txs) schedule blocks kept = scheduled_as_run look app txs (schedule_of schedule) blocks kept
 
 as_run : (settings : Option Settings) (files : Files) → AnswersAsRun settings files
 as_run None files = tt
 as_run (Some (Run app blocks flags)) files = tt
-as_run (Some (Simulate app blocks schedule front flags)) files = λ none kept. by (accepted (files app)) none kept
+as_run (Some (Simulate app blocks schedule front flags)) files = λ kept. by (accepted (files app)) kept
   where
-    by : (found : Result App Refusal) → flags.trace ≡ false → is_refused (over_simulation (simulation_of app blocks schedule front flags) found files).status ≡ false
-        → over_simulation (simulation_of app blocks schedule front flags) found files ≡ over_app (Report (look_of flags)) found (files blocks)
-    by (Err refusal) none kept = refl
-    by (Ok checked) none kept = arrived_as_run (look_of flags) checked (arrived_in (option_map first_node front) files) (files schedule) (files blocks) none kept
+    by : (found : Result App Refusal) → is_refused (over_simulation (simulation_of app blocks schedule front flags) found files).status ≡ false
+        → Adds flags.trace (over_app (Report (look_of (untraced flags))) found (files blocks)) (over_simulation (simulation_of app blocks schedule front flags) found files)
+    by (Err refusal) kept = record { status = refl; more = []; bytes = sym (append-nil (refusal_line refusal)); none = λ silent. refl }
+    by (Ok checked) kept = arrived_as_run (look_of flags) checked (arrived_in (option_map first_node front) files) (files schedule) (files blocks) kept
 as_run (Some (Provenance app blocks query)) files = tt
 as_run (Some (Seal blocks)) files = tt
 as_run (Some (Load number)) files = tt

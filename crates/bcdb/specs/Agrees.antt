@@ -1,8 +1,9 @@
 -- The answer of a simulation beside that of a run.
-use Rattle.std.specs.Prelude.{Bool, None, Option, Some, false, true, ◌≡◌}
-use Rattle.bcdb.specs.Answer.{over_settings}
+use Rattle.std.specs.Prelude.{Bool, List, None, Option, Some, [], false, true, ◌++◌, ◌≡◌, ℕ}
+use Rattle.bcdb.specs.Answer.{Answer, over_settings}
 use Rattle.bcdb.specs.declared.status.Status.TheVariants.{ArrivalRefused, ScheduleRefused}
 use Rattle.bcdb.specs.declared.status.Status.{Status}
+use Rattle.cli_words.specs.declared.flags.Flags.{Flags}
 use Rattle.cli_words.specs.declared.settings.Settings.TheVariants.{Run, Simulate}
 use Rattle.cli_words.specs.declared.settings.Settings.{Settings}
 use Rattle.edge_traits.specs.Shelf.{Files}
@@ -13,11 +14,22 @@ is_refused ArrivalRefused = true
 is_refused ScheduleRefused = true
 is_refused _ = false
 
--- whatever arrives and whatever the schedule, where these are not refused and no journal is asked for, the answer is that of a run of the same
--- blocks on the same application
+-- the second answer is the first, and then more lines, if these are asked for
+pub record Adds (asked : Bool) (first second : Answer) : Type 0 where
+  pub status : second.status ≡ first.status
+  pub more : List ℕ
+  pub bytes : second.bytes ≡ first.bytes ++ more
+  pub none : asked ≡ false → more ≡ []
+
+-- the flags of a report without journals
+abbrev pub untraced : Flags → Flags
+untraced flags = record flags { trace = false }
+
+-- whatever arrives and whatever the schedule, where these are not refused the answer is that of a run of the same blocks on the same application,
+-- and then the journal, if that is asked for
 abbrev pub AnswersAsRun : Option Settings → Files → Type 0
 AnswersAsRun None files = Unit {0}
 AnswersAsRun (Some (Simulate app blocks schedule front flags)) files =
-    flags.trace ≡ false → is_refused (over_settings (Some (Simulate app blocks schedule front flags)) files).status ≡ false
-    → over_settings (Some (Simulate app blocks schedule front flags)) files ≡ over_settings (Some (Run app blocks flags)) files
+    is_refused (over_settings (Some (Simulate app blocks schedule front flags)) files).status ≡ false
+    → Adds flags.trace (over_settings (Some (Run app blocks (untraced flags))) files) (over_settings (Some (Simulate app blocks schedule front flags)) files)
 AnswersAsRun (Some _) files = Unit {0}

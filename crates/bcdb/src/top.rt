@@ -84,8 +84,8 @@ pub fn bcdb<S: Shelf, W: Sink>(alloc: Global, words: &[&str], shelf: &mut S, out
     // transactions run again one by one, with the same reads, writes and tables.
     ensures replays { IfSome (S.told shelf.old) (RunsInOrder (settings_of (texts words.now))) }
 
-    // Whatever arrives and whatever the schedule: a simulation that is not refused for these, and is not asked for its journal,
-    // answers what a run of the same blocks answers.
+    // Whatever arrives and whatever the schedule: a simulation that is not refused for these answers what a run of the same blocks
+    // answers, and then its journal, if that is asked for.
     ensures agrees { IfSome (S.told shelf.old) (AnswersAsRun (settings_of (texts words.now))) }
 
     // Over any shelf: the words alone decide on `Usage`.
