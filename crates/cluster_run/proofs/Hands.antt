@@ -1,0 +1,136 @@
+-- What a pass has in hand after a turn with a job.
+use Rattle.std.proofs.Common.{Bool, IfSome, List, None, Option, Some, [], ap, cond, false, inl, inr, refl, subst, sym, true, ◌∙◌, ◌≡◌, ◌⊎◌, ℕ}
+use Rattle.std.proofs.lemmas.Bool.{false≢true}
+use Rattle.std.proofs.lemmas.Option.{none-some, same_Some}
+use Rattle.std.specs.List.{list_any}
+use Rattle.cluster_run.proofs.Turning.{answer_is, at, event, finds_held, finds_none, finds_only, step_none, step_state, step_work}
+use Rattle.cluster_run.specs.Standing.{Has, HasNone, HasWork, HoldsNone, HoldsOnly, IsTrue, state_seen}
+use Rattle.node_core.proofs.Claims.{changed_at}
+use Rattle.node_core.specs.Answers.{claimed_as, got_as}
+use Rattle.node_core.specs.Core.{Core, IsHeld, world_of}
+use Rattle.node_core.specs.Hands.{IsAnswered, IsClaimed}
+use Rattle.node_core.specs.InHand.{InHand, job_in}
+use Rattle.node_core.specs.declared.answers.Got.{Got}
+use Rattle.node_model.specs.Decide.{run_at}
+use Rattle.node_model.specs.Events.{claimed, dropped, ended, finished, is_settled, read_on, released, settled_in}
+use Rattle.node_model.specs.Steps as steps
+use Rattle.node_model.specs.Steps.{Answer, Reply, ToClaim, ToFinish, ToRead, ToRelease, chosen, claims, finishes, noted, reads, reads_unless}
+use Rattle.node_model.specs.World.{Done, Held, Holds, Job, World, change_job, is_held, is_held_by, job_at, new_job}
+use Rattle.node_model.specs.declared.journal.Entry.{Entry}
+use Rattle.node_model.specs.declared.journal.Event.TheVariants as event_of
+use Rattle.node_model.specs.declared.journal.Event.{Event}
+use Rattle.node_model.specs.declared.journal.Pick.{Pick}
+use Rattle.node_shared.specs.Turn.{IsTurn, node_seen}
+use Rattle.proc_syntax.specs.declared.tree.App.{App}
+use Rattle.rel_base.specs.declared.storied.Storied.{Ghosts}
+use Rattle.schedule_laws.proofs.Lists.{job-change}
+use Rattle.turn_lock.specs.Passes.{IsSamePass, pass_base, pass_number}
+use Rattle.turn_lock.specs.declared.pass.Pass.{Pass}
+
+-- ---- jobs that change
+
+cond_held : (actor : ℕ) (b : Bool) (one two : Job) → (one.status ≡ Held actor → ⊥) → (two.status ≡ Held actor → ⊥) → (cond b one two).status ≡ Held actor → ⊥
+cond_held actor true one two p q = p
+cond_held actor false one two p q = q
+
+module _ (jobs : List Job) (actor one : ℕ) (change : Job → Job) where
+  -- the number of a job that is held after a change of one
+  held_before : (number : ℕ) (job : Job) → Holds (change_job change jobs one) actor number job → (Holds jobs actor number job) ⊎ (number ≡ one)
+  held_before number job holds = let c = job-change jobs one change number job holds.stands in elim c.now [
+    | inl l ↦ inl (record { stands = c.stood ∙ ap Some (sym l); held = holds.held })
+    | inr r ↦ inr r.0
+  ]
+
+  -- none was held, so that none but the changed one is
+  only_changed : ((number : ℕ) (job : Job) → Holds jobs actor number job → number ≡ one) → (number : ℕ) (job : Job) → Holds (change_job change jobs one) actor number job → number ≡ one
+  only_changed only number job holds = elim (held_before number job holds) [ inl l ↦ only number job l | inr r ↦ r ]
+
+  -- the one that was held is let go
+  lets_go : (was : Job) → job_at jobs one ≡ Some was → ((change was).status ≡ Held actor → ⊥) → ((number : ℕ) (job : Job) → Holds jobs actor number job → number ≡ one)
+      → (number : ℕ) (job : Job) → Holds (change_job change jobs one) actor number job → ⊥
+  lets_go was stands free only number job holds =
+      let number_is : number ≡ one = only_changed only number job holds in
+      let now : job ≡ change was = same_Some job (change was) (sym holds.stands ∙ (ap (job_at (change_job change jobs one)) number_is ∙ changed_at jobs one change was stands)) in
+      free (ap (λ (x : Job). x.status) (sym now) ∙ holds.held)
+
+-- ---- answers of a claim
+
+abbrev number_in : Answer → Option ℕ
+number_in (steps.Claimed number) = Some number
+number_in _ = None
+
+claimed_is : (o : Option ℕ) (number : ℕ) → steps.Claimed number ≡ (claims o).0 → o ≡ Some number
+claimed_is None number e = absurd (none-some number (sym (ap number_in e)))
+claimed_is (Some other) number e = ap (λ n. Some n) (same_Some other number (sym (ap number_in e)))
+
+none_claimed : (o : Option ℕ) → steps.NoJob ≡ (claims o).0 → o ≡ None
+none_claimed None e = refl
+none_claimed (Some other) e = absurd (none-some other (ap number_in e))
+
+-- ---- turns
+
+module _ {ghosts : Ghosts Core App Entry} (old new : Pass Core App Entry ghosts) (same : IsSamePass old new) where
+  -- a claim
+  module _ (pick : Pick) (has : HasNone old) where
+    claimed_none : IsTurn old new (ToClaim pick) steps.NoJob → HasNone new
+    claimed_none turn =
+        let none = finds_none old new same has.true_to turn.journal turn.found has.none in
+        let is = none_claimed (chosen (pass_base old) (world_of (record { app = pass_base old; journal = turn.journal })) pick) (answer_is old new same (ToClaim pick) steps.NoJob has.true_to turn) in
+        let state = step_state old new same (ToClaim pick) steps.NoJob has.true_to turn None (ap (λ (o : Option ℕ). (claims o).1) is) in
+        step_none old new same (ToClaim pick) steps.NoJob has.true_to turn (subst (λ (w : World). HoldsNone w (pass_number old)) (sym state) none)
+
+    claimed_work : (work : InHand) → IsTurn old new (ToClaim pick) (steps.Claimed work.job) → IsHeld (node_seen new) work → IsClaimed (pass_number old) work → HasWork new work
+    claimed_work work turn held fresh =
+        let found : World = world_of (record { app = pass_base old; journal = turn.journal }) in
+        let none = finds_none old new same has.true_to turn.journal turn.found has.none in
+        let is = claimed_is (chosen (pass_base old) found pick) work.job (answer_is old new same (ToClaim pick) (steps.Claimed work.job) has.true_to turn) in
+        let state = step_state old new same (ToClaim pick) (steps.Claimed work.job) has.true_to turn (Some (event_of.Claim work.job)) (ap (λ (o : Option ℕ). (claims o).1) is) in
+        step_work old new same (ToClaim pick) (steps.Claimed work.job) has.true_to turn work fresh.actor_is held
+        (subst (λ (w : World). HoldsOnly w (pass_number old) work.job) (sym state)
+        (only_changed found.jobs (pass_number old) work.job (claimed (pass_number old)) (λ number job holds. absurd (none number job holds))))
+
+    pub claim_has : (got : Option InHand) → IsTurn old new (ToClaim pick) (claimed_as got) → IfSome got (IsHeld (node_seen new)) → IfSome got (IsClaimed (pass_number old)) → Has new got
+    claim_has None turn held fresh = claimed_none turn
+    claim_has (Some work) turn held fresh = claimed_work work turn held fresh
+
+  module _ (work : InHand) (has : HasWork old work) where
+    -- a read
+    module _ (got : Got) (turn : IsTurn old new (ToRead work.job) (got_as got)) where
+      abbrev found : World
+      found = world_of (record { app = pass_base old; journal = turn.journal })
+
+      only_read : (o : Option ℕ) → HoldsOnly (noted (pass_base old) found (pass_number old) (reads_unless (pass_base old) found work.job (job_in work) o).1) (pass_number old) work.job
+      only_read (Some block) = finds_only old new same has.true_to turn.journal turn.found work.job has.only
+      only_read None =
+          only_changed found.jobs (pass_number old) work.job (read_on (pass_base old) found.sealed) (finds_only old new same has.true_to turn.journal turn.found work.job has.only)
+
+      pub read_has : (work' : InHand) → IsHeld (node_seen new) work' → IsAnswered got work work' → HasWork new work'
+      read_has work' held answered =
+          let held_then = finds_held old new same has.true_to turn.journal turn.found work has.actor has.held in
+          let o : Option ℕ = settled_in work.told.tx.id found.sealed in
+          let state = step_state old new same (ToRead work.job) (got_as got) has.true_to turn (reads_unless (pass_base old) found work.job (job_in work) o).1
+          (ap (λ (job : Option Job). (reads (pass_base old) found work.job job).1) held_then.holds.stands) in
+          step_work old new same (ToRead work.job) (got_as got) has.true_to turn work' (answered.actor ∙ has.actor) held
+          (subst (HoldsOnly (state_seen new) (pass_number old)) (sym answered.job) (subst (λ (w : World). HoldsOnly w (pass_number old) work.job) (sym state) (only_read o)))
+
+    -- the end of a run, or of a claim
+    pub finish_has : (answer : Answer) → IsTurn old new (ToFinish work.job) answer → HasNone new
+    finish_has answer turn =
+        let found : World = world_of (record { app = pass_base old; journal = turn.journal }) in
+        let held_then = finds_held old new same has.true_to turn.journal turn.found work has.actor has.held in
+        let state = step_state old new same (ToFinish work.job) answer has.true_to turn (Some (event_of.Finish work.job)) (ap (λ (job : Option Job). (finishes found work.job job).1) held_then.holds.stands) in
+        step_none old new same (ToFinish work.job) answer has.true_to turn (subst (λ (w : World). HoldsNone w (pass_number old)) (sym state)
+        (lets_go found.jobs (pass_number old) work.job (finished (pass_base old) found.sealed) (job_in work) held_then.holds.stands
+        (cond_held (pass_number old) (is_settled work.told.tx.id found.sealed) (dropped (job_in work)) (record { tx = work.told.tx; status = Done; recorded = ended (job_in work).recorded (run_at (pass_base old) found.sealed work.told.tx) })
+        (λ e. false≢true (ap is_held e)) (λ e. false≢true (ap is_held e)))
+        (finds_only old new same has.true_to turn.journal turn.found work.job has.only)))
+
+    pub release_has : (answer : Answer) → IsTurn old new (ToRelease work.job) answer → HasNone new
+    release_has answer turn =
+        let found : World = world_of (record { app = pass_base old; journal = turn.journal }) in
+        let held_then = finds_held old new same has.true_to turn.journal turn.found work has.actor has.held in
+        let state = step_state old new same (ToRelease work.job) answer has.true_to turn (Some (event_of.Release work.job)) refl in
+        step_none old new same (ToRelease work.job) answer has.true_to turn (subst (λ (w : World). HoldsNone w (pass_number old)) (sym state)
+        (lets_go found.jobs (pass_number old) work.job (released found.sealed) (job_in work) held_then.holds.stands
+        (cond_held (pass_number old) (is_settled work.told.tx.id found.sealed) (dropped (job_in work)) (new_job work.told.tx) (λ e. false≢true (ap is_held e)) (λ e. false≢true (ap is_held e)))
+        (finds_only old new same has.true_to turn.journal turn.found work.job has.only)))

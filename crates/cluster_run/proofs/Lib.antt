@@ -1,0 +1,4 @@
+pub mod Turning
+pub mod Hands
+pub mod Quiet
+pub mod Calls

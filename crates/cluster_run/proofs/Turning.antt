@@ -1,0 +1,143 @@
+-- What a turn leaves to its pass, and what it changes for it.
+use Rattle.std.proofs.Common.{All, Bool, IfSome, List, None, Option, Some, [], ap, append-nil, append_assoc, arith, cond, false, inl, inr, length, refl, subst, sym, true, ◌++◌, ◌==◌, ◌∙◌, ◌≡◌, ◌∷◌, ℕ}
+use Rattle.std.proofs.lemmas.Bool.{false≢true}
+use Rattle.std.proofs.lemmas.List.Elements.{All-cons, All-nil}
+use Rattle.std.proofs.lemmas.Option.{none-some, same_Some}
+use Rattle.cluster_run.specs.Standing.{AllDecided, Has, HasNone, HasWork, HoldsNone, HoldsOnly, IsTrue, SameBlocks, delivered_by, in_work, state_seen}
+use Rattle.node_core.specs.Core.{Core, IsHeld, entries_for, world_of}
+use Rattle.node_core.specs.InHand.{InHand, job_in}
+use Rattle.node_model.specs.Events.{after}
+use Rattle.node_model.specs.Journals.{IsLegal, delivered, delivery, world, world_from}
+use Rattle.node_model.specs.Steps.{Answer, Ask, noted, reply}
+use Rattle.node_model.specs.World.{Holds, Job, World, empty}
+use Rattle.node_model.specs.declared.journal.Entry.{Entry}
+use Rattle.node_model.specs.declared.journal.Event.{Event}
+use Rattle.node_shared.proofs.Turns.{found_held, turns_find_own}
+use Rattle.node_shared.specs.Turn.{IsFound, IsLook, IsTurn, node_seen}
+use Rattle.proc_syntax.specs.declared.call.Block.{Block}
+use Rattle.proc_syntax.specs.declared.tree.App.{App}
+use Rattle.rel_base.proofs.Stories.{entries_grown}
+use Rattle.rel_base.specs.declared.storied.Storied.{Ghosts}
+use Rattle.schedule_laws.specs.Scheduled.{block_in}
+use Rattle.schedule_laws.specs.Stable.{IsLater, entries_by}
+use Rattle.turn_lock.specs.Passes.{IsSamePass, mine, pass_base, pass_number, seen}
+use Rattle.turn_lock.specs.declared.pass.Pass.{Pass}
+
+-- ---- journals that grow
+
+pub delivered-append : (one two : List Entry) → delivered (one ++ two) ≡ delivered one ++ delivered two
+delivered-append [] two = refl
+delivered-append (entry ∷ one) two = ap (λ rest. delivery entry.event ++ rest) (delivered-append one two) ∙ sym (append_assoc (delivery entry.event) (delivered one) (delivered two))
+
+world-more : (app : App) (w : World) (journal : List Entry) (entry : Entry) → world_from app w (journal ++ entry ∷ []) ≡ after app (world_from app w journal) entry
+world-more app w [] entry = refl
+world-more app w (first ∷ journal) entry = world-more app (after app w first) journal entry
+
+world_noted : (app : App) (journal : List Entry) (actor : ℕ) (o : Option Event) → world app (journal ++ entries_for actor o) ≡ noted app (world app journal) actor o
+world_noted app journal actor None = ap (world app) (append-nil journal)
+world_noted app journal actor (Some event) = world-more app empty journal (record { actor = actor; event = event })
+
+all_own : (actor : ℕ) (event : Option Event) → All (λ (entry : Entry). entry.actor ≡ actor) (entries_for actor event)
+all_own actor None = All-nil (λ (entry : Entry). entry.actor ≡ actor)
+all_own actor (Some event) = All-cons (λ (entry : Entry). entry.actor ≡ actor) (record { actor = actor; event = event }) [] refl (All-nil (λ (entry : Entry). entry.actor ≡ actor))
+
+module _ {ghosts : Ghosts Core App Entry} (old new : Pass Core App Entry ghosts) (same : IsSamePass old new) where
+  -- ---- a pass that others may have gone ahead of
+
+  module _ (was : IsTrue old) (journal : List Entry) (found : IsFound (pass_base old) (pass_number old) (seen old) (mine old) journal) where
+    -- the state that a turn finds
+    pub found_later : IsLater (pass_base old) (pass_number old) (state_seen old) (world (pass_base old) journal)
+    found_later = turns_find_own (pass_base old) (pass_number old) (seen old) (mine old) journal was.own found
+
+    pub finds_none : HoldsNone (state_seen old) (pass_number old) → HoldsNone (world (pass_base old) journal) (pass_number old)
+    finds_none none number job holds = none number job ((found_later.held number job).1 holds)
+
+    pub finds_only : (one : ℕ) → HoldsOnly (state_seen old) (pass_number old) one → HoldsOnly (world (pass_base old) journal) (pass_number old) one
+    finds_only one only number job holds = only number job ((found_later.held number job).1 holds)
+
+    pub finds_held : (work : InHand) → work.actor ≡ pass_number old → IsHeld (node_seen old) work → IsHeld (record { app = pass_base old; journal = journal }) work
+    finds_held work actor held = found_held (pass_base old) (pass_number old) (seen old) (mine old) journal was.own found work actor held
+
+  -- what is shown of the new pass, by what the old one tells of node and number
+  none_new : IsTrue new → HoldsNone (state_seen new) (pass_number old) → HasNone new
+  none_new is none = record { true_to = is; none = subst (HoldsNone (state_seen new)) (sym same.same_number) none }
+
+  work_new : (work : InHand) → IsTrue new → work.actor ≡ pass_number old → IsHeld (node_seen new) work → HoldsOnly (state_seen new) (pass_number old) work.job → HasWork new work
+  work_new work is actor held only = record {
+    true_to = is;
+    actor = actor ∙ sym same.same_number;
+    held = held;
+    only = subst (λ n. HoldsOnly (state_seen new) n work.job) (sym same.same_number) only;
+  }
+
+  -- ---- a look
+
+  module _ (was : IsTrue old) (look : IsLook old new) where
+    app_new : pass_base new ≡ pass_base old
+    app_new = same.same_base
+
+    pub look_true : IsTrue new
+    look_true = record {
+      legal = subst (λ (a : App). IsLegal a (seen new)) (sym app_new) look.found.legal;
+      own = subst (λ n. entries_by n (seen new) ≡ mine new) (sym same.same_number) (look.found.own ∙ sym look.same);
+    }
+
+    look_state : state_seen new ≡ world (pass_base old) (seen new)
+    look_state = ap (λ (a : App). world a (seen new)) app_new
+
+    pub look_none : HasNone old → HasNone new
+    look_none has = none_new look_true (subst (λ (w : World). HoldsNone w (pass_number old)) (sym look_state) (finds_none was (seen new) look.found has.none))
+
+    pub look_work : (work : InHand) → HasWork old work → HasWork new work
+    look_work work has =
+        work_new work look_true has.actor (subst (λ (a : App). IsHeld (record { app = a; journal = seen new }) work) (sym app_new) (finds_held was (seen new) look.found work has.actor has.held))
+        (subst (λ (w : World). HoldsOnly w (pass_number old) work.job) (sym look_state) (finds_only was (seen new) look.found work.job has.only))
+
+    pub look_blocks : pass_number old ≡ 0 → SameBlocks old new
+    look_blocks zero = record {
+      delivered_same = ap delivered look.same;
+      in_work_same = ap (λ (w : World). block_in w.work) look_state ∙ ap block_in ((found_later was (seen new) look.found).own_work zero);
+    }
+
+  -- ---- a step
+
+  module _ (ask : Ask) (answer : Answer) (was : IsTrue old) (turn : IsTurn old new ask answer) where
+    -- the state in which it is made, and its event
+    abbrev pub at : World
+    at = world (pass_base old) turn.journal
+
+    abbrev pub event : Option Event
+    event = (reply (pass_base old) at ask).1
+
+    pub answer_is : answer ≡ (reply (pass_base old) at ask).0
+    answer_is = ap (λ (p : Answer × Core). p.0) turn.step
+
+    seen_is : seen new ≡ turn.journal ++ entries_for (pass_number old) event
+    seen_is = ap (λ (p : Answer × Core). p.1.journal) turn.step
+
+    pub step_true : IsTrue new
+    step_true = record {
+      legal = subst (λ (a : App). IsLegal a (seen new)) (sym same.same_base) turn.legal;
+      own = subst (λ n. entries_by n (seen new) ≡ mine new) (sym same.same_number)
+          (entries_grown (λ (entry : Entry). entry.actor) (pass_number old) turn.journal (entries_for (pass_number old) event) (mine old) (seen new) seen_is (all_own (pass_number old) event) turn.found.own ∙ sym turn.own);
+    }
+
+    -- the state after it
+    pub step_state : (o : Option Event) → event ≡ o → state_seen new ≡ noted (pass_base old) at (pass_number old) o
+    step_state o is =
+        ap (λ (a : App). world a (seen new)) same.same_base
+        ∙ (ap (world (pass_base old)) seen_is ∙ (world_noted (pass_base old) turn.journal (pass_number old) event ∙ ap (noted (pass_base old) at (pass_number old)) is))
+
+    pub step_delivers : (o : Option Event) → event ≡ o → delivered_by new ≡ delivered_by old ++ delivered (entries_for (pass_number old) o)
+    step_delivers o is =
+        ap delivered turn.own ∙ (delivered-append (mine old) (entries_for (pass_number old) event) ∙ ap (λ (e : Option Event). delivered_by old ++ delivered (entries_for (pass_number old) e)) is)
+
+    -- the processor finds the block in work as it left it
+    pub at_work : pass_number old ≡ 0 → at.work ≡ (state_seen old).work
+    at_work zero = (found_later was turn.journal turn.found).own_work zero
+
+    pub step_none : HoldsNone (state_seen new) (pass_number old) → HasNone new
+    step_none none = none_new step_true none
+
+    pub step_work : (work : InHand) → work.actor ≡ pass_number old → IsHeld (node_seen new) work → HoldsOnly (state_seen new) (pass_number old) work.job → HasWork new work
+    step_work work actor held only = work_new work step_true actor held only

@@ -1,0 +1,76 @@
+-- What a pass tells between two of its turns.
+use Rattle.node_core.specs.Core.{Core, IsHeld, world_of}
+use Rattle.node_core.specs.InHand.{InHand}
+use Rattle.node_model.specs.Journals.{IsLegal, delivered}
+use Rattle.node_model.specs.World.{Holds, Job, World, due}
+use Rattle.node_model.specs.declared.journal.Entry.{Entry}
+use Rattle.node_shared.specs.Turn.{node_seen}
+use Rattle.proc_syntax.specs.declared.call.Block.{Block}
+use Rattle.proc_syntax.specs.declared.tree.App.{App}
+use Rattle.rel_base.specs.declared.storied.Storied.{Ghosts}
+use Rattle.schedule_laws.specs.Scheduled.{block_in}
+use Rattle.schedule_laws.specs.Stable.{entries_by}
+use Rattle.std.specs.Option.{option_and_then}
+use Rattle.std.specs.Prelude.{Err, List, None, Ok, Option, Result, Some, [], ◌≡◌, ℕ}
+use Rattle.turn_lock.specs.Passes.{HoldsNoTurn, mine, pass_base, pass_number, seen}
+use Rattle.turn_lock.specs.declared.pass.Pass.{Pass}
+
+-- an actor holds no job
+abbrev pub HoldsNone : World → ℕ → Type 0
+HoldsNone w actor = (number : ℕ) (job : Job) → Holds w.jobs actor number job → ⊥
+
+-- an actor holds no job but one
+abbrev pub HoldsOnly : World → ℕ → ℕ → Type 0
+HoldsOnly w actor one = (number : ℕ) (job : Job) → Holds w.jobs actor number job → number ≡ one
+
+module _ {ghosts : Ghosts Core App Entry} where
+  -- the state of the node as a pass has seen it
+  abbrev pub state_seen : Pass Core App Entry ghosts → World
+  state_seen pass = world_of (node_seen pass)
+
+  -- ---- what it has in hand
+
+  -- what it has seen is a journal that steps can make, and its own entries there are those that it made
+  pub record IsTrue (pass : Pass Core App Entry ghosts) : Type 0 where
+    pub legal : IsLegal (pass_base pass) (seen pass)
+    pub own : entries_by (pass_number pass) (seen pass) ≡ mine pass
+
+  -- its actor holds no job
+  pub record HasNone (pass : Pass Core App Entry ghosts) : Type 0 where
+    pub true_to : IsTrue pass
+    pub none : HoldsNone (state_seen pass) (pass_number pass)
+
+  -- its actor holds the job of a work, and no other
+  pub record HasWork (pass : Pass Core App Entry ghosts) (work : InHand) : Type 0 where
+    pub true_to : IsTrue pass
+    pub actor : work.actor ≡ pass_number pass
+    pub held : IsHeld (node_seen pass) work
+    pub only : HoldsOnly (state_seen pass) (pass_number pass) work.job
+
+  abbrev pub Has : Pass Core App Entry ghosts → Option InHand → Type 0
+  Has pass None = HasNone pass
+  Has pass (Some work) = HasWork pass work
+
+  -- ---- the blocks
+
+  -- the blocks that it has delivered
+  abbrev pub delivered_by : Pass Core App Entry ghosts → List Block
+  delivered_by pass = delivered (mine pass)
+
+  -- the block in work, if there is one
+  abbrev pub in_work : Pass Core App Entry ghosts → List Block
+  in_work pass = block_in (state_seen pass).work
+
+  -- each transaction of the block in work is decided
+  abbrev pub AllDecided : Pass Core App Entry ghosts → Type 0
+  AllDecided pass = option_and_then due (state_seen pass).work ≡ None
+
+  -- the same blocks were delivered, and the same one is in work
+  pub record SameBlocks (old new : Pass Core App Entry ghosts) : Type 0 where
+    pub delivered_same : delivered_by new ≡ delivered_by old
+    pub in_work_same : in_work new ≡ in_work old
+
+-- the work that is left after a step of it, if it goes on
+abbrev pub left_of : {E : Type 0} → Result (Option InHand) E → Option InHand
+left_of (Ok work) = work
+left_of (Err refused) = None

@@ -1,0 +1,4 @@
+//! Nodes that run: the processor that folds blocks, and executors that run jobs beside it.
+#![tactic(auto)]
+
+pub mod working;

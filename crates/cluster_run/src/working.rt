@@ -1,0 +1,147 @@
+//! A work is run from its claim to its end.
+
+ghost use Rattle.std.specs.Prelude.{◌≡◌, IfErr, OnOk};
+ghost use Rattle.cluster_run.specs.Standing.{Has, HasNone, HasWork, SameBlocks, left_of};
+ghost use Rattle.node_core.specs.InHand.{IsReady, WantsRead};
+ghost use Rattle.turn_lock.specs.Passes.{HoldsNoTurn, IsPassOf, IsSamePass, pass_number};
+
+use node_core::{Finished, Next, Work};
+use node_shared::{NodePass, SharedNode};
+use rel_base::NoMemory;
+use row_sets::Versions;
+use std::sync::Wait;
+
+// A work is given up.
+fn give_up<V: Versions, R: Wait>(rt: &R, node: &SharedNode<V>, pass: &mut NodePass<V>, work: Work)
+    requires lock { IsPassOf node.now.lock pass.old }
+    requires no_turn { HoldsNoTurn pass.old }
+    requires hand { HasWork pass.old work }
+    ensures same { IsSamePass pass.old pass.new }
+    ensures no_turn { HoldsNoTurn pass.new }
+    ensures hand { HasNone pass.new }
+    ensures blocks { pass_number pass.old ≡ 0 → SameBlocks pass.old pass.new }
+{
+    node.release(rt, pass, work);
+}
+
+// A work makes the read that it wants.
+fn make_read<V: Versions, R: Wait>(
+    rt: &R,
+    node: &SharedNode<V>,
+    pass: &mut NodePass<V>,
+    mut work: Work,
+) -> Result<Option<Work>, NoMemory>
+    requires lock { IsPassOf node.now.lock pass.old }
+    requires no_turn { HoldsNoTurn pass.old }
+    requires hand { HasWork pass.old work }
+    requires wants { WantsRead work }
+    ensures same { IsSamePass pass.old pass.new }
+    ensures no_turn { HoldsNoTurn pass.new }
+    ensures hand { Has pass.new (left_of result) }
+    ensures blocks { pass_number pass.old ≡ 0 → SameBlocks pass.old pass.new }
+{
+    if node.read(rt, pass, &mut work).is_err() {
+        give_up(rt, node, pass, work);
+        return Err(NoMemory);
+    }
+    Ok(Some(work))
+}
+
+// A work whose end was noted is over; one that came back is given up.
+fn settle<V: Versions, R: Wait>(
+    rt: &R,
+    node: &SharedNode<V>,
+    pass: &mut NodePass<V>,
+    ended: Result<Finished, (Work, NoMemory)>,
+) -> Result<Option<Work>, NoMemory>
+    requires lock { IsPassOf node.now.lock pass.old }
+    requires no_turn { HoldsNoTurn pass.old }
+    requires over { OnOk ended (HasNone pass.old) }
+    requires back { IfErr ended (λ refused. HasWork pass.old refused.0) }
+    ensures same { IsSamePass pass.old pass.new }
+    ensures no_turn { HoldsNoTurn pass.new }
+    ensures hand { Has pass.new (left_of result) }
+    ensures blocks { pass_number pass.old ≡ 0 → SameBlocks pass.old pass.new }
+{
+    match ended {
+        Ok(_) => Ok(None),
+        Err((work, refused)) => {
+            give_up(rt, node, pass, work);
+            Err(refused)
+        }
+    }
+}
+
+// A work that is ready is finished.
+fn end_work<V: Versions, R: Wait>(
+    rt: &R,
+    node: &SharedNode<V>,
+    pass: &mut NodePass<V>,
+    work: Work,
+) -> Result<Option<Work>, NoMemory>
+    requires lock { IsPassOf node.now.lock pass.old }
+    requires no_turn { HoldsNoTurn pass.old }
+    requires hand { HasWork pass.old work }
+    requires ready { IsReady work }
+    ensures same { IsSamePass pass.old pass.new }
+    ensures no_turn { HoldsNoTurn pass.new }
+    ensures hand { Has pass.new (left_of result) }
+    ensures blocks { pass_number pass.old ≡ 0 → SameBlocks pass.old pass.new }
+{
+    let ended = node.finish(rt, pass, work);
+    settle(rt, node, pass, ended)
+}
+
+// A work runs to its next read and makes it, or to its end. What is left of it goes on.
+fn step_work<V: Versions, R: Wait>(
+    rt: &R,
+    node: &SharedNode<V>,
+    pass: &mut NodePass<V>,
+    mut work: Work,
+) -> Result<Option<Work>, NoMemory>
+    requires lock { IsPassOf node.now.lock pass.old }
+    requires no_turn { HoldsNoTurn pass.old }
+    requires hand { HasWork pass.old work }
+    ensures same { IsSamePass pass.old pass.new }
+    ensures no_turn { HoldsNoTurn pass.new }
+    ensures hand { Has pass.new (left_of result) }
+    ensures blocks { pass_number pass.old ≡ 0 → SameBlocks pass.old pass.new }
+{
+    match work.advance() {
+        Ok(Next::Wants) => make_read(rt, node, pass, work),
+        Ok(Next::Ready) => end_work(rt, node, pass, work),
+        Ok(Next::Gone) => {
+            give_up(rt, node, pass, work);
+            Ok(None)
+        }
+        Err(refused) => {
+            give_up(rt, node, pass, work);
+            Err(refused)
+        }
+    }
+}
+
+/// Runs a work of a pass to its end, read by read, each in a turn of its own. It is finished where it comes to its end, and given up where
+/// its id is settled or memory runs out, so that the pass holds no job afterwards.
+pub fn run_work<V: Versions, R: Wait>(
+    rt: &R,
+    node: &SharedNode<V>,
+    pass: &mut NodePass<V>,
+    mut work: Work,
+) -> Result<(), NoMemory>
+    requires lock { IsPassOf node.now.lock pass.old }
+    requires no_turn { HoldsNoTurn pass.old }
+    requires hand { HasWork pass.old work }
+    ensures same { IsSamePass pass.old pass.new }
+    ensures no_turn { HoldsNoTurn pass.new }
+    ensures hand { HasNone pass.new }
+    ensures blocks { pass_number pass.old ≡ 0 → SameBlocks pass.old pass.new }
+{
+    for _ in rt.forever() {
+        match step_work(rt, node, pass, work)? {
+            None => return Ok(()),
+            Some(left) => work = left,
+        }
+    }
+    unreachable!()
+}
