@@ -2,3 +2,4 @@ pub mod Turning
 pub mod Hands
 pub mod Quiet
 pub mod Calls
+pub mod Blocks

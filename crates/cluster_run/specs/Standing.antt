@@ -1,6 +1,8 @@
 -- What a pass tells between two of its turns.
 use Rattle.node_core.specs.Core.{Core, IsHeld, world_of}
 use Rattle.node_core.specs.InHand.{InHand}
+use Rattle.node_core.specs.declared.answers.Decided.TheVariants as decided
+use Rattle.node_core.specs.declared.answers.Decided.{Decided}
 use Rattle.node_model.specs.Journals.{IsLegal, delivered}
 use Rattle.node_model.specs.World.{Holds, Job, World, due}
 use Rattle.node_model.specs.declared.journal.Entry.{Entry}
@@ -64,6 +66,13 @@ module _ {ghosts : Ghosts Core App Entry} where
   -- each transaction of the block in work is decided
   abbrev pub AllDecided : Pass Core App Entry ghosts → Type 0
   AllDecided pass = option_and_then due (state_seen pass).work ≡ None
+
+  -- what the answer to a commit says of the block in work
+  abbrev pub Says : Decided → Pass Core App Entry ghosts → Type 0
+  Says (decided.Outcome pos) pass = Unit {0}
+  Says (decided.NotReady pos holder) pass = Unit {0}
+  Says (decided.AllDecided number) pass = AllDecided pass
+  Says (decided.NoBlock sealed) pass = AllDecided pass
 
   -- the same blocks were delivered, and the same one is in work
   pub record SameBlocks (old new : Pass Core App Entry ghosts) : Type 0 where

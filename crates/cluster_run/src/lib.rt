@@ -1,4 +1,5 @@
 //! Nodes that run: the processor that folds blocks, and executors that run jobs beside it.
 #![tactic(auto)]
 
+pub mod deciding;
 pub mod working;

@@ -6,10 +6,29 @@ ghost use Rattle.node_core.specs.InHand.{IsReady, WantsRead};
 ghost use Rattle.turn_lock.specs.Passes.{HoldsNoTurn, IsPassOf, IsSamePass, pass_number};
 
 use node_core::{Finished, Next, Work};
+use node_model::Pick;
 use node_shared::{NodePass, SharedNode};
 use rel_base::NoMemory;
 use row_sets::Versions;
 use std::sync::Wait;
+
+/// A pass that holds no job takes one, if there is one to take.
+pub fn take_work<V: Versions, R: Wait>(
+    rt: &R,
+    node: &SharedNode<V>,
+    pass: &mut NodePass<V>,
+    pick: Pick,
+) -> Result<Option<Work>, NoMemory>
+    requires lock { IsPassOf node.now.lock pass.old }
+    requires no_turn { HoldsNoTurn pass.old }
+    requires hand { HasNone pass.old }
+    ensures same { IsSamePass pass.old pass.new }
+    ensures no_turn { HoldsNoTurn pass.new }
+    ensures hand { Has pass.new (left_of result) }
+    ensures blocks { pass_number pass.old ≡ 0 → SameBlocks pass.old pass.new }
+{
+    node.claim(rt, pass, pick)
+}
 
 // A work is given up.
 fn give_up<V: Versions, R: Wait>(rt: &R, node: &SharedNode<V>, pass: &mut NodePass<V>, work: Work)

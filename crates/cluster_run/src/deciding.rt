@@ -1,0 +1,110 @@
+//! The transactions of the block in work are decided.
+
+ghost use Rattle.std.specs.Prelude.{◌≡◌, IfOk, OnOk, true};
+ghost use Rattle.cluster_run.specs.Standing.{AllDecided, HasNone, SameBlocks, Says};
+ghost use Rattle.turn_lock.specs.Passes.{HoldsNoTurn, IsPassOf, IsSamePass, pass_number};
+
+use crate::working::{run_work, take_work};
+use node_core::Decided;
+use node_model::Pick;
+use node_shared::{NodePass, SharedNode};
+use rel_base::NoMemory;
+use row_sets::Versions;
+use std::sync::Wait;
+use std::thread;
+
+// The job that is due, if it waits, is claimed and run.
+fn run_due<V: Versions, R: Wait>(
+    rt: &R,
+    node: &SharedNode<V>,
+    pass: &mut NodePass<V>,
+) -> Result<(), NoMemory>
+    requires lock { IsPassOf node.now.lock pass.old }
+    requires no_turn { HoldsNoTurn pass.old }
+    requires hand { HasNone pass.old }
+    ensures same { IsSamePass pass.old pass.new }
+    ensures no_turn { HoldsNoTurn pass.new }
+    ensures hand { HasNone pass.new }
+    ensures blocks { pass_number pass.old ≡ 0 → SameBlocks pass.old pass.new }
+{
+    match take_work(rt, node, pass, Pick::Due) {
+        Ok(None) => Ok(()),
+        Ok(Some(work)) => run_work(rt, node, pass, work),
+        Err(refused) => Err(refused),
+    }
+}
+
+// The first undecided transaction of the block in work is decided, if it is ready.
+fn commit_next<V: Versions, R: Wait>(
+    rt: &R,
+    node: &SharedNode<V>,
+    pass: &mut NodePass<V>,
+) -> Result<Decided, NoMemory>
+    requires lock { IsPassOf node.now.lock pass.old }
+    requires no_turn { HoldsNoTurn pass.old }
+    requires processor { pass_number pass.old ≡ 0 }
+    requires hand { HasNone pass.old }
+    ensures same { IsSamePass pass.old pass.new }
+    ensures no_turn { HoldsNoTurn pass.new }
+    ensures hand { HasNone pass.new }
+    ensures blocks { SameBlocks pass.old pass.new }
+    ensures says { IfOk result (λ decided. Says decided pass.new) }
+{
+    node.commit(rt, pass)
+}
+
+// One commit, and where it waits, the run of what it waits for. Answers whether nothing is undecided.
+fn decide_next<V: Versions, R: Wait>(
+    rt: &R,
+    node: &SharedNode<V>,
+    pass: &mut NodePass<V>,
+) -> Result<bool, NoMemory>
+    requires lock { IsPassOf node.now.lock pass.old }
+    requires no_turn { HoldsNoTurn pass.old }
+    requires processor { pass_number pass.old ≡ 0 }
+    requires hand { HasNone pass.old }
+    ensures same { IsSamePass pass.old pass.new }
+    ensures no_turn { HoldsNoTurn pass.new }
+    ensures hand { HasNone pass.new }
+    ensures blocks { SameBlocks pass.old pass.new }
+    ensures all { IfOk result (λ all. all ≡ true → AllDecided pass.new) }
+{
+    match commit_next(rt, node, pass) {
+        Ok(Decided::Outcome { .. }) => Ok(false),
+        Ok(Decided::NotReady { holder: None, .. }) => {
+            run_due(rt, node, pass)?;
+            Ok(false)
+        }
+        Ok(Decided::NotReady { holder: Some(_), .. }) => {
+            thread::yield_now();
+            Ok(false)
+        }
+        Ok(Decided::AllDecided { .. }) | Ok(Decided::NoBlock { .. }) => Ok(true),
+        Err(refused) => Err(refused),
+    }
+}
+
+/// Decides the transactions of the block in work, in order, until none is undecided. A transaction whose job waits is run by the
+/// processor itself; where another actor holds the job, the processor yields and looks again.
+pub fn decide_all<V: Versions, R: Wait>(
+    rt: &R,
+    node: &SharedNode<V>,
+    pass: &mut NodePass<V>,
+) -> Result<(), NoMemory>
+    requires lock { IsPassOf node.now.lock pass.old }
+    requires no_turn { HoldsNoTurn pass.old }
+    requires processor { pass_number pass.old ≡ 0 }
+    requires hand { HasNone pass.old }
+    ensures same { IsSamePass pass.old pass.new }
+    ensures no_turn { HoldsNoTurn pass.new }
+    ensures hand { HasNone pass.new }
+    ensures blocks { SameBlocks pass.old pass.new }
+    ensures all { OnOk result (AllDecided pass.new) }
+{
+    for _ in rt.forever() {
+        if decide_next(rt, node, pass)? {
+            return Ok(());
+        }
+    }
+    unreachable!()
+}
