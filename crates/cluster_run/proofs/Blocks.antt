@@ -12,7 +12,7 @@ use Rattle.node_core.specs.declared.answers.Decided.TheVariants as answered
 use Rattle.node_core.specs.declared.answers.Decided.{Decided}
 use Rattle.node_core.specs.declared.answers.Delivered.{Delivered}
 use Rattle.node_core.specs.declared.answers.Sealed as answers
-use Rattle.node_model.specs.Events.{drop_over, dropped, is_over, needs_no_job, with_jobs}
+use Rattle.node_model.specs.Events.{drop_over, dropped, is_over, needs_no_job, with_jobs, with_sealed}
 use Rattle.node_model.specs.History.{Sealed, ids_of}
 use Rattle.node_model.specs.Journals.{delivered, world}
 use Rattle.node_model.specs.Steps as steps
@@ -76,7 +76,7 @@ module _ (app : App) (w : World) (actor : ℕ) (none : HoldsNone w actor) where
   seals_none (Some work) = by (due work)
     where
       by : (t : Option Tx) → HoldsNone (noted app w actor (seals_due app w work t).1) actor
-      by None = none_over actor _ w.jobs none
+      by None = none_over actor (with_sealed w.sealed w.work) w.jobs none
       by (Some tx) = none
 
   commits_none : (o : Option BlockInWork) → HoldsNone (noted app w actor (commits app w o).1) actor
@@ -167,10 +167,6 @@ module _ {ghosts : Ghosts Core App Entry} (old new : Pass Core App Entry ghosts)
       deliver_delivers =
           step_delivers old new same ask answer has.true_to delivery.turn (Some (Deliver delivery.shared)) taken ∙ ap (λ (b : Block). delivered_by old ++ b ∷ []) delivery.same
 
-      deliver_in_work : in_work new ≡ block ∷ []
-      deliver_in_work =
-          ap (λ (w : World). block_in w.work) (step_state old new same ask answer has.true_to delivery.turn (Some (Deliver delivery.shared)) taken) ∙ ap (λ (b : Block). b ∷ []) delivery.same
-
   -- ---- a commit
 
   module _ (answer : Answer) (has : HasNone old) (turn : IsTurn old new ToCommit answer) where
@@ -238,8 +234,8 @@ module _ {ghosts : Ghosts Core App Entry} (old new : Pass Core App Entry ghosts)
 
     -- a block that is the next is delivered
     pub deliver_takes : (block : Block) (r : Result Delivered M) → IfOk r (λ got. IsDelivery old new block (delivered_as got)) → in_work old ≡ [] → block.number ≡ length (delivered_by old) + 1
-        → OnOk r ((delivered_by new ≡ delivered_by old ++ block ∷ []) × (in_work new ≡ block ∷ []))
-    deliver_takes block (Ok got) delivery rests next = (deliver_delivers block (delivered_as got) has delivery rests next, deliver_in_work block (delivered_as got) has delivery rests next)
+        → OnOk r (delivered_by new ≡ delivered_by old ++ block ∷ [])
+    deliver_takes block (Ok got) delivery rests next = deliver_delivers block (delivered_as got) has delivery rests next
     deliver_takes block (Err refused) delivery rests next = tt
 
     pub commit_leaves : (r : Result Decided M) → IfOk r (λ got. IsTurn old new ToCommit (decided_as got)) → OnErr r (IsLook old new) → HasNone new
@@ -264,7 +260,11 @@ module _ {ghosts : Ghosts Core App Entry} (old new : Pass Core App Entry ghosts)
     seal_leaves (Ok got) turn err = seal_has (sealed_as got) has turn
     seal_leaves (Err refused) turn err = look_none old new same has.true_to err has
 
-    -- a block whose transactions are all decided is sealed
-    pub seal_ends : (r : Result answers.Sealed M) → IfOk r (λ got. IsTurn old new ToSeal (sealed_as got)) → AllDecided old → OnOk r ((delivered_by new ≡ delivered_by old) × (in_work new ≡ []))
-    seal_ends (Ok got) turn all = (seal_delivers (sealed_as got) has turn all, seal_rests (sealed_as got) has turn all)
-    seal_ends (Err refused) turn all = tt
+    -- a block of which nothing is undecided is sealed, and then none is in work
+    pub seal_delivered : (r : Result answers.Sealed M) → IfOk r (λ got. IsTurn old new ToSeal (sealed_as got)) → AllDecided old → OnOk r (delivered_by new ≡ delivered_by old)
+    seal_delivered (Ok got) turn all = seal_delivers (sealed_as got) has turn all
+    seal_delivered (Err refused) turn all = tt
+
+    pub seal_over : (r : Result answers.Sealed M) → IfOk r (λ got. IsTurn old new ToSeal (sealed_as got)) → AllDecided old → OnOk r (in_work new ≡ [])
+    seal_over (Ok got) turn all = seal_rests (sealed_as got) has turn all
+    seal_over (Err refused) turn all = tt

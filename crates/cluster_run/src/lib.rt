@@ -2,4 +2,5 @@
 #![tactic(auto)]
 
 pub mod deciding;
+pub mod processing;
 pub mod working;

@@ -1,0 +1,105 @@
+//! The blocks of a chain are processed one after another.
+
+ghost use Rattle.std.specs.Prelude.{◌≡◌, ◌+◌, ◌++◌, ◌∷◌, OnOk, [], length};
+ghost use Rattle.cluster_run.specs.Standing.{AllDecided, HasNone, delivered_by, in_work};
+ghost use Rattle.serial_laws.specs.Chained.{AreNumbered};
+ghost use Rattle.turn_lock.specs.Passes.{HoldsNoTurn, IsPassOf, IsSamePass, pass_number};
+
+use crate::deciding::decide_all;
+use node_core::{Delivered, Sealed};
+use node_shared::{NodePass, SharedNode};
+use proc_syntax::Block;
+use rel_base::NoMemory;
+use row_sets::Versions;
+use std::sync::Wait;
+
+// The next block comes into work.
+fn deliver_block<V: Versions, R: Wait>(
+    rt: &R,
+    node: &SharedNode<V>,
+    pass: &mut NodePass<V>,
+    block: &Block,
+) -> Result<Delivered, NoMemory>
+    requires lock { IsPassOf node.now.lock pass.old }
+    requires no_turn { HoldsNoTurn pass.old }
+    requires processor { pass_number pass.old ≡ 0 }
+    requires hand { HasNone pass.old }
+    requires rests { in_work pass.old ≡ [] }
+    requires next { block.now.number ≡ length (delivered_by pass.old) + 1 }
+    ensures same { IsSamePass pass.old pass.new }
+    ensures no_turn { HoldsNoTurn pass.new }
+    ensures hand { HasNone pass.new }
+    ensures delivers { OnOk result (delivered_by pass.new ≡ delivered_by pass.old ++ block.now ∷ []) }
+{
+    node.deliver(rt, pass, block)
+}
+
+// The block in work, of which nothing is undecided, is sealed.
+fn seal_block<V: Versions, R: Wait>(
+    rt: &R,
+    node: &SharedNode<V>,
+    pass: &mut NodePass<V>,
+) -> Result<Sealed, NoMemory>
+    requires lock { IsPassOf node.now.lock pass.old }
+    requires no_turn { HoldsNoTurn pass.old }
+    requires processor { pass_number pass.old ≡ 0 }
+    requires hand { HasNone pass.old }
+    requires all { AllDecided pass.old }
+    ensures same { IsSamePass pass.old pass.new }
+    ensures no_turn { HoldsNoTurn pass.new }
+    ensures hand { HasNone pass.new }
+    ensures delivers { OnOk result (delivered_by pass.new ≡ delivered_by pass.old) }
+    ensures rests { OnOk result (in_work pass.new ≡ []) }
+{
+    node.seal(rt, pass)
+}
+
+/// Delivers the next block, decides its transactions in order, and seals it.
+pub fn process_block<V: Versions, R: Wait>(
+    rt: &R,
+    node: &SharedNode<V>,
+    pass: &mut NodePass<V>,
+    block: &Block,
+) -> Result<(), NoMemory>
+    requires lock { IsPassOf node.now.lock pass.old }
+    requires no_turn { HoldsNoTurn pass.old }
+    requires processor { pass_number pass.old ≡ 0 }
+    requires hand { HasNone pass.old }
+    requires rests { in_work pass.old ≡ [] }
+    requires next { block.now.number ≡ length (delivered_by pass.old) + 1 }
+    ensures same { IsSamePass pass.old pass.new }
+    ensures no_turn { HoldsNoTurn pass.new }
+    ensures hand { HasNone pass.new }
+    ensures delivers { OnOk result (delivered_by pass.new ≡ delivered_by pass.old ++ block.now ∷ []) }
+    ensures rests { OnOk result (in_work pass.new ≡ []) }
+{
+    deliver_block(rt, node, pass, block)?;
+    decide_all(rt, node, pass)?;
+    seal_block(rt, node, pass)?;
+    Ok(())
+}
+
+/// Processes blocks whose numbers go on from the blocks that were delivered, each to its seal.
+pub fn process_all<V: Versions, R: Wait>(
+    rt: &R,
+    node: &SharedNode<V>,
+    pass: &mut NodePass<V>,
+    blocks: &[Block],
+) -> Result<(), NoMemory>
+    requires lock { IsPassOf node.now.lock pass.old }
+    requires no_turn { HoldsNoTurn pass.old }
+    requires processor { pass_number pass.old ≡ 0 }
+    requires hand { HasNone pass.old }
+    requires rests { in_work pass.old ≡ [] }
+    requires numbered { AreNumbered (length (delivered_by pass.old) + 1) blocks.now }
+    ensures same { IsSamePass pass.old pass.new }
+    ensures no_turn { HoldsNoTurn pass.new }
+    ensures hand { HasNone pass.new }
+    ensures delivers { OnOk result (delivered_by pass.new ≡ delivered_by pass.old ++ blocks.now) }
+    ensures rests { OnOk result (in_work pass.new ≡ []) }
+{
+    for block in blocks {
+        process_block(rt, node, pass, block)?;
+    }
+    Ok(())
+}
