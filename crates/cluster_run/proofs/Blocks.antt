@@ -117,7 +117,7 @@ all_none app w (Some work) e = by (due work) refl e
 
 -- ---- the blocks of a pass with none in work
 
-none_in : (o : Option BlockInWork) → block_in o ≡ [] → o ≡ None
+pub none_in : (o : Option BlockInWork) → block_in o ≡ [] → o ≡ None
 none_in None e = refl
 none_in (Some work) e = let l = ap length e in absurd (omega (arith, l))
 

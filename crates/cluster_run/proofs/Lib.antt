@@ -3,3 +3,4 @@ pub mod Hands
 pub mod Quiet
 pub mod Calls
 pub mod Blocks
+pub mod Ends

@@ -2,5 +2,6 @@
 #![tactic(auto)]
 
 pub mod deciding;
+pub mod node;
 pub mod processing;
 pub mod working;
