@@ -2,6 +2,7 @@
 #![tactic(auto)]
 
 pub mod deciding;
+pub mod executing;
 pub mod node;
 pub mod processing;
 pub mod working;
