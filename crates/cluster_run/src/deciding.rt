@@ -75,7 +75,12 @@ fn decide_next<V: Versions, R: Wait>(
             run_due(rt, node, pass)?;
             Ok(false)
         }
-        Ok(Decided::NotReady { holder: Some(_), .. }) => {
+        Ok(
+            Decided::NotReady {
+                holder: Some(_),
+                ..
+            },
+        ) => {
             thread::yield_now();
             Ok(false)
         }
