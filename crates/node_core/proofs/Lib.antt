@@ -1,4 +1,8 @@
 pub mod Table
+pub mod Leading
+pub mod Newest
+pub mod Walks
+pub mod Standing
 pub mod Dropped_rows
 pub mod Hand
 pub mod Rowed

@@ -1,4 +1,6 @@
 pub mod Rows
+pub mod ById
+pub mod JobTable
 pub mod InHand
 pub mod Answers
 pub mod Hands

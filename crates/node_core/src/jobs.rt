@@ -4,9 +4,11 @@ ghost use Rattle.std.specs.Prelude.{◌≡◌, ◌<◌, ◌≤◌, ◌+◌, ◌%
 ghost use Rattle.std.specs.Option.{option_copied, option_map};
 ghost use Rattle.node_model.specs.World.{eligible, is_held, is_waiting, number_of};
 
-use crate::dropping::drop_settled;
+use crate::dropping::{drop_settled, skip_over};
+use crate::index::{JobIndex, hold_all};
+use crate::lookup::find_number;
 use crate::rows::{
-    change_stage, count_eligible, find_eligible, find_number, is_waiting, one_held, push_rows,
+    change_stage, count_eligible, find_eligible, is_waiting, one_held, push_row, push_rows,
 };
 use block_work::IdIndex;
 use proc_syntax::Tx;
@@ -51,6 +53,9 @@ pub struct Row {
 pub struct Jobs {
     rows: Vec<Row>,
     held: usize,
+    // So many of the first jobs are over, and are not walked again.
+    first: usize,
+    index: JobIndex,
 }
 
 impl Model for Jobs {
@@ -59,11 +64,11 @@ impl Model for Jobs {
 
     ghost Value = { List Row };
 
-    ghost use Rattle.node_core.specs.Rows.{count_held};
+    ghost use Rattle.node_core.specs.JobTable.{IsTable};
 
     ghost view = { λ jobs. jobs.rows.items };
 
-    ghost invariant = { λ jobs. jobs.held ≡ count_held jobs.rows.items };
+    ghost invariant = { λ jobs. IsTable jobs.rows.items jobs.held jobs.first jobs.index };
 }
 
 impl Jobs {
@@ -78,6 +83,8 @@ impl Jobs {
         Jobs {
             rows: Vec::new(alloc),
             held: 0,
+            first: 0,
+            index: JobIndex::new(alloc),
         }
     }
 
@@ -100,18 +107,19 @@ impl Jobs {
     pub fn find(&self, tx: &Tx) -> Option<u64>
         ensures { result ≡ number_of tx.now (shown_all self.now) }
     {
-        find_number(self.rows.as_slice(), tx)
+        find_number(self.rows.as_slice(), &self.index, tx)
     }
 
     /// Of the jobs that wait and whose height is at most the given one, in order of number, the one at `n` modulo their count.
     pub fn find_nth(&self, height: u64, n: u64) -> Option<u64>
         ensures { result ≡ slice_get (eligible height (shown_all self.now)) (n % length (eligible height (shown_all self.now))) }
     {
-        let count = count_eligible(self.rows.as_slice(), height);
+        let count = count_eligible(self.rows.as_slice(), self.first, height);
         if count == 0 {
             return None;
         }
-        find_eligible(self.rows.as_slice(), height, (n % count as u64) as usize)
+        let place = (n % count as u64) as usize;
+        find_eligible(self.rows.as_slice(), self.first, height, place)
     }
 
     /// The job of a number.
@@ -138,7 +146,8 @@ impl Jobs {
     pub fn drop_settled(&mut self, ids: &IdIndex)
         ensures { self.new ≡ map (drop_settled ids.now) self.old }
     {
-        drop_settled(&mut self.rows, ids);
+        drop_settled(&mut self.rows, self.first, ids);
+        self.first = skip_over(self.rows.as_slice(), self.first);
     }
 
     /// Adds a job that waits. Where memory is wanting, the jobs are as before.
@@ -146,10 +155,10 @@ impl Jobs {
         ensures ok { OnOk result (self.new ≡ self.old ++ new_row tx ∷ []) }
         ensures err { OnErr result (self.new ≡ self.old) }
     {
-        self.rows.push(Row {
-            tx,
-            stage: Stage::Waiting,
-        })?;
+        self.rows.reserve(1)?;
+        self.index.reserve(1)?;
+        self.index.hold(&tx.id)?;
+        push_row(&mut self.rows, &mut self.index, tx);
         Ok(())
     }
 
@@ -159,7 +168,9 @@ impl Jobs {
         ensures err { OnErr result (self.new ≡ self.old) }
     {
         self.rows.reserve(txs.len())?;
-        push_rows(&mut self.rows, txs);
+        self.index.reserve(txs.len())?;
+        hold_all(&mut self.index, txs.as_slice())?;
+        push_rows(&mut self.rows, &mut self.index, txs);
         Ok(())
     }
 
@@ -169,9 +180,11 @@ impl Jobs {
         ensures was { option_map (λ row. row.stage) (row_at self.old number) ≡ Some result }
         ensures now { self.new ≡ put_row self.old number stage }
     {
+        let place = (number - 1) as usize;
         let more = one_held(&stage);
-        let was = change_stage(&mut self.rows, (number - 1) as usize, stage);
+        let was = change_stage(&mut self.rows, place, stage);
         self.held = self.held - one_held(&was) + more;
+        self.first = self.first.min(place);
         was
     }
 

@@ -1,26 +1,18 @@
 //! Tests on jobs and walks over them.
 
-ghost use Rattle.std.specs.Prelude.{◌≡◌, ◌<◌, ◌≤◌, ◌+◌, ◌++◌, Some, length, map, slice_get, vec_capacity, vec_len};
+ghost use Rattle.std.specs.Prelude.{◌≡◌, ◌<◌, ◌≤◌, ◌+◌, ◌++◌, ◌∷◌, List, Some, [], drop, length, map, slice_get, vec_capacity, vec_len, ℕ};
 ghost use Rattle.std.specs.Option.{option_map};
-ghost use Rattle.std.specs.List.{position_from};
-ghost use Rattle.node_core.specs.Rows.{eligible_rows, is_open, new_row, one_held, put_at, row_is_eligible, row_is_for, status_of};
-ghost use Rattle.node_model.specs.World.{is_live, is_waiting, same_tx};
+ghost use Rattle.node_core.specs.ById.{HasRoom, Indexes, ids_of, tx_ids};
+ghost use Rattle.node_core.specs.Rows.{eligible_rows, is_open, new_row, one_held, put_at, row_is_eligible, status_of};
+ghost use Rattle.node_model.specs.World.{is_live, is_waiting};
 
+use crate::index::JobIndex;
 use crate::jobs::{Row, Stage};
 use proc_syntax::Tx;
 use std::sync::Arc;
 
-/// Whether two transactions are the same in all parts.
-pub fn same_tx(one: &Tx, two: &Tx) -> bool
-    ensures { result ≡ same_tx one.now two.now }
-{
-    one.id == two.id
-        && (one.height == two.height
-            && (one.procedure == two.procedure && one.args.cmp(&two.args).is_eq()))
-}
-
-// Whether a job is not dropped.
-fn is_live(reached: &Stage) -> bool
+/// Whether a job is not dropped.
+pub fn is_live(reached: &Stage) -> bool
     ensures { result ≡ is_live (status_of reached.now) }
 {
     match reached {
@@ -59,13 +51,6 @@ pub fn one_held(reached: &Stage) -> usize
     }
 }
 
-// Whether a job is that of a transaction.
-fn is_for(row: &Row, tx: &Tx) -> bool
-    ensures { result ≡ row_is_for tx.now row.now }
-{
-    is_live(&row.stage) && same_tx(&row.tx, tx)
-}
-
 // Whether a job waits and the tables of its height are there.
 fn is_eligible(row: &Row, height: u64) -> bool
     ensures { result ≡ row_is_eligible height row.now }
@@ -73,24 +58,13 @@ fn is_eligible(row: &Row, height: u64) -> bool
     is_waiting(&row.stage) && row.tx.height <= height
 }
 
-/// The number of a transaction's job.
-pub fn find_number(rows: &[Row], tx: &Tx) -> Option<u64>
-    ensures { result ≡ position_from (row_is_for tx.now) 1 rows.now }
-{
-    for i in 0..rows.len() {
-        if is_for(&rows[i], tx) {
-            return Some(i as u64 + 1);
-        }
-    }
-    None
-}
-
-/// How many jobs wait whose tables are there.
-pub fn count_eligible(rows: &[Row], height: u64) -> usize
-    ensures { result ≡ length (eligible_rows 1 height rows.now) }
+/// How many jobs wait whose tables are there, among those from a place on.
+pub fn count_eligible(rows: &[Row], first: usize, height: u64) -> usize
+    requires { first ≤ length rows.now }
+    ensures { result ≡ length (eligible_rows (first + 1) height (drop first rows.now)) }
 {
     let mut count = 0;
-    for i in 0..rows.len() {
+    for i in first..rows.len() {
         if is_eligible(&rows[i], height) {
             count += 1;
         }
@@ -99,11 +73,12 @@ pub fn count_eligible(rows: &[Row], height: u64) -> usize
 }
 
 /// The number of the job at a place among these, from 0.
-pub fn find_eligible(rows: &[Row], height: u64, place: usize) -> Option<u64>
-    ensures { result ≡ slice_get (eligible_rows 1 height rows.now) place }
+pub fn find_eligible(rows: &[Row], first: usize, height: u64, place: usize) -> Option<u64>
+    requires { first ≤ length rows.now }
+    ensures { result ≡ slice_get (eligible_rows (first + 1) height (drop first rows.now)) place }
 {
     let mut left = place;
-    for i in 0..rows.len() {
+    for i in first..rows.len() {
         if is_eligible(&rows[i], height) {
             if left == 0 {
                 return Some(i as u64 + 1);
@@ -123,15 +98,31 @@ pub fn change_stage(rows: &mut Vec<Row>, place: usize, stage: Stage) -> Stage
     std::mem::replace(&mut rows[place].stage, stage)
 }
 
+/// Adds a job that waits, for which there is room.
+pub fn push_row(rows: &mut Vec<Row>, index: &mut JobIndex, tx: Arc<Tx>)
+    requires room { vec_len rows.old < vec_capacity rows.old }
+    requires index_room { HasRoom index.old (tx.value.id ∷ []) }
+    ensures rows { rows.new.items ≡ rows.old.items ++ new_row tx ∷ [] }
+    ensures index { Indexes index.old (ids_of rows.old.items) → Indexes index.new (ids_of rows.new.items) }
+    ensures len { vec_len rows.new ≡ vec_len rows.old + 1 }
+    ensures capacity { vec_capacity rows.new ≡ vec_capacity rows.old }
+    ensures left { (ids : List (List ℕ)) → HasRoom index.old (tx.value.id ∷ ids) → HasRoom index.new ids }
+{
+    index.note(&tx.id);
+    rows.push_reserved(Row {
+        tx,
+        stage: Stage::Waiting,
+    });
+}
+
 /// Adds jobs that wait, for which there is room.
-pub fn push_rows(rows: &mut Vec<Row>, txs: Vec<Arc<Tx>>)
+pub fn push_rows(rows: &mut Vec<Row>, index: &mut JobIndex, txs: Vec<Arc<Tx>>)
     requires room { vec_len rows.old + length txs.items ≤ vec_capacity rows.old }
-    ensures { rows.new.items ≡ rows.old.items ++ map new_row txs.items }
+    requires index_room { HasRoom index.old (tx_ids txs.items) }
+    ensures rows { rows.new.items ≡ rows.old.items ++ map new_row txs.items }
+    ensures index { Indexes index.old (ids_of rows.old.items) → Indexes index.new (ids_of rows.new.items) }
 {
     for tx in txs {
-        rows.push_reserved(Row {
-            tx,
-            stage: Stage::Waiting,
-        });
+        push_row(rows, index, tx);
     }
 }

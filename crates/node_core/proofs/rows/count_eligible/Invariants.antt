@@ -3,4 +3,4 @@ use Rattle.node_core.specs.Rows.{eligible_rows}
 use Rattle.node_core.proofs.rows.count_eligible.Given as goal
 
 abbrev pub invariant-loop-i : goal.invariant-loop-i
-invariant-loop-i l = (l.count + length (eligible_rows (l.i + 1) l.height (drop l.i l.rows)) ≡ length (eligible_rows 1 l.height l.rows)) × (l.count ≤ l.i)
+invariant-loop-i l = (l.count + length (eligible_rows (l.i + 1) l.height (drop l.i l.rows)) ≡ length (eligible_rows (l.first + 1) l.height (drop l.first l.rows))) × (l.count ≤ l.i)

@@ -1,4 +1,5 @@
-use Rattle.std.proofs.Common.{ap, arith, rules, length, ◌+◌, ◌<◌, ◌^◌, ◌≡◌, ◌-◌}
+use Rattle.std.proofs.Common.{arith, rules, length, ◌+◌, ◌<◌, ◌^◌, ◌≡◌, ◌≤◌, ◌-◌}
+use Rattle.node_core.proofs.Standing.{table_put}
 use Rattle.node_core.proofs.Table.{Change, change_of}
 use Rattle.node_core.specs.Rows.{count_held, put_row}
 use Rattle.node_core.proofs.jobs.Jobs.set.Goals as goal
@@ -6,18 +7,22 @@ use Rattle.node_core.proofs.jobs.Jobs.set.Goals as goal
 pub overflow_sub-self : goal.overflow_sub-self
 overflow_sub-self c =
     let change : Change c.self.inside.rows.items c.args.number c.change_stage-was.result c.args.stage = change_of c.self.inside.rows.items c.args.number c.change_stage-was.result c.args.stage (search rules) in
-    omega (arith, change.room, c.one_held.ensures, c.self.invariant)
+    omega (arith, change.room, c.one_held.ensures, c.self.invariant.count)
 
 pub overflow_add-self : goal.overflow_add-self
 overflow_add-self c =
     let change : Change c.self.inside.rows.items c.args.number c.change_stage-was.result c.args.stage = change_of c.self.inside.rows.items c.args.number c.change_stage-was.result c.args.stage (search rules) in
     let few : length c.self.inside.rows.items < 2 ^ 63 = search rules in
-    let fits : c.self.inside.held - c.one_held.result + c.one_held-more.result < 2 ^ 64 = omega (arith, change.room, change.within, change.one, few, c.one_held-more.ensures, c.one_held.ensures, c.self.invariant) in
+    let fits : c.self.inside.held - c.one_held.result + c.one_held-more.result < 2 ^ 64 = omega (arith, change.room, change.within, change.one, few, c.one_held-more.ensures, c.one_held.ensures, c.self.invariant.count) in
     search rules
 
 pub invariant_of-self : goal.invariant_of-self
 invariant_of-self c =
     let change : Change c.self.inside.rows.items c.args.number c.change_stage-was.result c.args.stage = change_of c.self.inside.rows.items c.args.number c.change_stage-was.result c.args.stage (search rules) in
     let now : c.change_stage-was.new.rows.items ≡ put_row c.self.inside.rows.items c.args.number c.args.stage = search rules in
-    let counted : count_held c.change_stage-was.new.rows.items ≡ count_held (put_row c.self.inside.rows.items c.args.number c.args.stage) = ap count_held now in
-    omega (arith, change.count, change.room, counted, c.one_held-more.ensures, c.one_held.ensures, c.self.invariant)
+    let held : c.self.inside.held - c.one_held.result + c.one_held-more.result ≡ count_held (put_row c.self.inside.rows.items c.args.number c.args.stage) =
+    omega (arith, change.count, change.room, c.one_held-more.ensures, c.one_held.ensures, c.self.invariant.count) in
+    let fewer : c.min-self-inside.result ≤ c.self.inside.first = search rules in
+    let before : c.min-self-inside.result ≤ c.args.number - 1 = search rules in
+    table_put c.self.inside.rows.items c.change_stage-was.new.rows.items c.self.inside.held (c.self.inside.held - c.one_held.result + c.one_held-more.result) c.self.inside.first c.min-self-inside.result
+    c.self.inside.index c.args.number c.args.stage c.self.invariant now held fewer before

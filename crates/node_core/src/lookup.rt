@@ -1,0 +1,54 @@
+//! The job of a transaction.
+
+ghost use Rattle.std.specs.Prelude.{◌≡◌, ◌+◌, ◌<◌, ◌^◌, Some, cond};
+ghost use Rattle.std.specs.List.{position_from};
+ghost use Rattle.node_core.specs.ById.{Indexes, ids_of};
+ghost use Rattle.node_core.specs.Rows.{row_is_for};
+ghost use Rattle.node_model.specs.World.{same_tx};
+
+use crate::index::JobIndex;
+use crate::jobs::Row;
+use crate::rows::is_live;
+use proc_syntax::Tx;
+
+/// Whether two transactions are the same in all parts.
+pub fn same_tx(one: &Tx, two: &Tx) -> bool
+    ensures { result ≡ same_tx one.now two.now }
+{
+    one.id == two.id
+        && (one.height == two.height
+            && (one.procedure == two.procedure && one.args.cmp(&two.args).is_eq()))
+}
+
+// Whether a job is that of a transaction.
+fn is_for(row: &Row, tx: &Tx) -> bool
+    ensures { result ≡ row_is_for tx.now row.now }
+{
+    is_live(&row.stage) && same_tx(&row.tx, tx)
+}
+
+// The number of the job at a place, where it is that of a transaction, and else what was found.
+fn found_at(row: &Row, place: usize, tx: &Tx, found: Option<u64>) -> Option<u64>
+    requires { place < 2 ^ 63 }
+    ensures { result ≡ cond (row_is_for tx.now row.now) (Some (place + 1)) found }
+{
+    if is_for(row, tx) {
+        return Some(place as u64 + 1);
+    }
+    found
+}
+
+/// The number of a transaction's job, by a walk over the jobs of its id, from the newest back.
+pub fn find_number(rows: &[Row], index: &JobIndex, tx: &Tx) -> Option<u64>
+    requires { Indexes index.now (ids_of rows.now) }
+    ensures { result ≡ position_from (row_is_for tx.now) 1 rows.now }
+{
+    let mut found = None;
+    let mut number = index.newest(&tx.id);
+    while number > 0 {
+        let place = (number - 1) as usize;
+        found = found_at(&rows[place], place, tx, found);
+        number = index.older(place);
+    }
+    found
+}
