@@ -6,7 +6,7 @@ use Rattle.node_core.proofs.Claims.{HasNone, Numbered, early_is, numbered}
 use Rattle.node_core.proofs.Rowed.{number_of_rows, row_of, rows_put}
 use Rattle.node_core.proofs.Settled.{height_is}
 use Rattle.node_core.specs.Due.{by_job, by_number, by_row, by_stage, by_tx, due_by, or_job}
-use Rattle.node_core.specs.Kept.{AreRowsOf, IsNode, IsRowOf, IsStageOf, Kept, shown_work, told_in, world_in}
+use Rattle.node_core.specs.Kept.{AreRowsOf, IsNode, IsStageOf, Kept, shown_work, told_in, world_in}
 use Rattle.node_core.specs.Rows.{put_row}
 use Rattle.node_core.specs.declared.due.Due.TheVariants as stand
 use Rattle.node_core.specs.declared.due.Due.{Due}

@@ -1,7 +1,6 @@
 -- The end of a held work, and its release, are steps.
-use Rattle.std.proofs.Common.{Bool, List, None, Option, Some, [], ap, arith, cond, false, inl, inr, length, refl, slice_get, subst, sym, true, ◌++◌, ◌∙◌, ◌≡◌, ◌⊎◌, ◌∷◌, ℕ}
-use Rattle.std.proofs.lemmas.Option.{slice_get_past}
-use Rattle.std.specs.Option.{is_some, option_map}
+use Rattle.std.proofs.Common.{Bool, List, None, Option, Some, [], ap, cond, false, inl, inr, refl, subst, sym, true, ◌++◌, ◌∙◌, ◌≡◌, ◌⊎◌, ◌∷◌, ℕ}
+use Rattle.std.specs.Option.{is_some}
 use Rattle.node_core.proofs.Going as going
 use Rattle.node_core.proofs.Held_works.{agrees, front_fits, run_fits, run_is, tables}
 use Rattle.node_core.proofs.Journal.{core_of, quiet, steps}

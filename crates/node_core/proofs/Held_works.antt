@@ -1,7 +1,6 @@
 -- A held work: its row, and the tables that it reads.
-use Rattle.std.proofs.Common.{All, List, Option, Some, [], ap, arith, cond, false, length, length-append, refl, slice_get, subst, sym, true, ◌+◌, ◌++◌, ◌<◌, ◌∙◌, ◌≡◌, ◌≤◌, ◌∷◌, ℕ}
+use Rattle.std.proofs.Common.{All, List, Option, Some, [], ap, arith, cond, false, length, length-append, refl, subst, sym, true, ◌+◌, ◌++◌, ◌<◌, ◌≡◌, ◌≤◌, ◌∷◌, ℕ}
 use Rattle.std.proofs.lemmas.List.Elements.{All-cons, All-head, All-tail}
-use Rattle.std.specs.List.{AllByRecursion}
 use Rattle.std.specs.Option.{IsSomeAnd, option_map}
 use Rattle.std.specs.Prelude.{◌^◌}
 use Rattle.block_work.proofs.Fitting.{runs_fit, store_fits}

@@ -184,6 +184,7 @@ impl Jobs {
         let more = one_held(&stage);
         let was = change_stage(&mut self.rows, place, stage);
         self.held = self.held - one_held(&was) + more;
+        // The jobs before the place are over still.
         self.first = self.first.min(place);
         was
     }
