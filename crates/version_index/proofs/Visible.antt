@@ -1,5 +1,5 @@
 -- What the last write on a key up to a height says of the tables at the height.
-use Rattle.std.proofs.Common.{◌≡◌, ◌∙◌, ℕ, suc, zero, List, [], ◌∷◌, true, false, ◌&&◌, cond, Option, Some, None, refl, ap, All, slice_get, nat_le}
+use Rattle.std.proofs.Common.{◌≡◌, ◌∙◌, ℕ, suc, zero, List, [], ◌∷◌, ◌++◌, true, false, ◌&&◌, cond, Option, Some, None, refl, ap, sym, All, slice_get, take, nat_le}
 use Rattle.std.specs.FinMap.{get, get-empty}
 use Rattle.std.proofs.lemmas.List.Elements.{All-head, All-tail}
 use Rattle.rel_base.specs.declared.access.Seen.{Seen}
@@ -8,6 +8,7 @@ use Rattle.rel_base.specs.Tables.{Tables, Stamped, ref_cmp, write_ref, set_stamp
 use Rattle.rel_base.proofs.Commutes.{get-set_entry}
 use Rattle.version_index.specs.Chain.{IsLast, is_on, is_seen}
 use Rattle.version_index.specs.Rows.{seen_of, write_of}
+use Rattle.version_index.proofs.Passing.{take_next}
 
 -- the row that the write of a number leaves
 abbrev pub seen_by : Option Stamped → Option Seen
@@ -62,3 +63,18 @@ module _ (ref : ℕ × List Value) where
     pub get_seen : (history : List Stamped) (found : Option ℕ) → IsLast (is_seen ref height) history found → get (tables_at height history) ref ≡ seen_by (write_of history found)
     get_seen history found last =
         get-set_stamped no_tables (writes_up_to height history) ∙ last_by history found (get no_tables ref) (get-empty ref_cmp ref) last
+
+    -- the last write of some is seen, or what was there before it is there still
+    low_end : (history : List Stamped) (stamped : Stamped) (old : Option Seen) → after_low (history ++ stamped ∷ []) old ≡ cond (is_seen ref height stamped) (seen_of stamped) (after_low history old)
+    low_end [] stamped old = low_step stamped [] old
+    low_end (s ∷ rest) stamped old =
+        low_step s (rest ++ stamped ∷ []) old ∙ low_end rest stamped (cond (is_seen ref height s) (seen_of s) old)
+        ∙ ap (cond (is_seen ref height stamped) (seen_of stamped)) (sym (low_step s rest old))
+
+    -- what the tables have at a key after one more write
+    pub seen_next : (history : List Stamped) (number : ℕ) (stamped : Stamped) → slice_get history number ≡ Some stamped
+        → get (tables_at height (take (suc number) history)) ref ≡ cond (is_seen ref height stamped) (seen_of stamped) (get (tables_at height (take number history)) ref)
+    seen_next history number stamped there =
+        let before = take number history in
+        ap (λ xs. get (tables_at height xs) ref) (take_next history number stamped there) ∙ get-set_stamped no_tables (writes_up_to height (before ++ stamped ∷ [])) ∙ low_end before stamped (get no_tables ref)
+        ∙ ap (cond (is_seen ref height stamped) (seen_of stamped)) (sym (get-set_stamped no_tables (writes_up_to height before)))

@@ -1,5 +1,14 @@
+pub mod Numbers
 pub mod Chain
 pub mod Log
+pub mod Left
+pub mod Chains
+pub mod Columns
+pub mod Index
+pub mod View
+pub mod Candidates
+pub mod Span
 pub mod Heads
 pub mod Rows
+pub mod Hits
 pub mod Kept

@@ -7,13 +7,11 @@ ghost use Rattle.version_index.specs.Log.{stamped_of};
 
 use rel_base::{Key, Place, Placed};
 
-/// A committed write: the number of its block, the write with its position, and the number in the log, from 0, of the write
-/// before it on its key, where there is one.
+/// A committed write: the number of its block, and the write with its position. The entries of the log are numbered from 0.
 #[derive(Drop)]
 pub struct Entry {
     pub block: u64,
     pub placed: Placed,
-    pub earlier: Option<usize>,
 }
 
 /// The entry of a number.

@@ -1,22 +1,15 @@
-//! The last write on each key of a table.
+//! The next write on each key of a table, for a walk back over its writes.
 
-ghost use Rattle.std.specs.Prelude.{◌≡◌, ℕ, List, [], Option, Some, cond, is_some, IfOk, OnOk, IsTrue};
+ghost use Rattle.std.specs.Prelude.{◌≡◌, ℕ, List, [], Some, cond, OnOk, IsTrue};
 ghost use Rattle.std.specs.Ordering.{eq_by_cmp};
 ghost use Rattle.rel_base.specs.Value.{key_cmp};
 ghost use Rattle.rel_base.specs.declared.value.Value.{Value as Cell};
-ghost use Rattle.std.specs.Prelude.{All};
-ghost use Rattle.std.specs.List.Sorted.{IsStrictlySortedBy};
-ghost use Rattle.std.specs.Map.{keys_of};
-ghost use Rattle.rel_base.specs.Access.{ReadFits, read_table};
-ghost use Rattle.rel_base.specs.Tables.{tables_at};
-ghost use Rattle.version_index.specs.Chain.{IsLast, is_on};
+ghost use Rattle.version_index.specs.Chain.{is_on};
 ghost use Rattle.version_index.specs.Heads.{head_of, holds_key};
-ghost use Rattle.version_index.specs.Log.{history_of, stamped_of, Linked, FitsTable};
-ghost use Rattle.version_index.specs.Rows.{rows_of_keys};
+ghost use Rattle.version_index.specs.Log.{stamped_of};
 
 use crate::entry::Entry;
-use crate::rows::add_key;
-use rel_base::{Key, List, NoMemory, Read, Seen, TableDef, Twin};
+use rel_base::{Key, NoMemory, Twin};
 use std::alloc::Global;
 use std::collections::BTreeMap;
 use std::marker::Model;
@@ -107,45 +100,4 @@ impl Heads {
         self.set(&write.key, number);
         Ok(())
     }
-
-    /// The rows of the keys after the block of a height that a read covers, in the order of the keys.
-    pub fn rows(
-        &self,
-        alloc: Global,
-        entries: &[Entry],
-        def: &TableDef,
-        read: &Read,
-        height: u64,
-    ) -> Result<List<Seen>, NoMemory>
-        requires linked { Linked entries.now }
-        requires headed { (key : List Cell) → IsLast (is_on (read_table read.now, key)) (history_of entries.now) (head_of self.now key) }
-        requires fits { FitsTable def.now (read_table read.now) (history_of entries.now) }
-        requires read_fits { ReadFits def.now read.now }
-        ensures rows { IfOk result (λ rows. rows ≡ rows_of_keys def.now read.now (tables_at height (history_of entries.now)) (read_table read.now) (keys_of self.now)) }
-        ensures rise { IsStrictlySortedBy key_cmp (keys_of self.now) }
-    {
-        rows_of_map(alloc, &self.last, entries, def, read, height)
-    }
-}
-
-/// The rows of the keys of a map after the block of a height that a read covers.
-fn rows_of_map(
-    alloc: Global,
-    last: &BTreeMap<Key, Option<usize>>,
-    entries: &[Entry],
-    def: &TableDef,
-    read: &Read,
-    height: u64,
-) -> Result<List<Seen>, NoMemory>
-    requires linked { Linked entries.now }
-    requires headed { All (λ e. IsLast (is_on (read_table read.now, e.0)) (history_of entries.now) e.1) last.now.entries }
-    requires fits { FitsTable def.now (read_table read.now) (history_of entries.now) }
-    requires read_fits { ReadFits def.now read.now }
-    ensures { IfOk result (λ rows. rows ≡ rows_of_keys def.now read.now (tables_at height (history_of entries.now)) (read_table read.now) (keys_of last.now.entries)) }
-{
-    let mut rows = List::new(alloc);
-    for (key, head) in last.iter() {
-        add_key(alloc, &mut rows, entries, def, read, key, *head, height)?;
-    }
-    Ok(rows)
 }

@@ -1,59 +1,78 @@
 //! The writes that a read hits.
 
-ghost use Rattle.std.specs.Prelude.{◌≡◌, ◌≤◌, ◌&&◌, All, IfSome, List, length, nat_le, nat_lt, take};
-ghost use Rattle.rel_base.specs.Access.{ReadFits, WriteFits, read_table, hits_write, covers_some};
+ghost use Rattle.std.specs.Prelude.{◌≡◌, IfSome, Some};
+ghost use Rattle.rel_base.specs.Access.{ReadFits, WriteFits, covers_some, read_table};
 ghost use Rattle.rel_base.specs.Schema.{RowFits};
+ghost use Rattle.rel_base.specs.declared.access.Read.TheVariants as read;
 ghost use Rattle.version_index.specs.Chain.{IsFirst};
-ghost use Rattle.version_index.specs.Log.{history_of, InOrder, FitsTable, is_hit_between};
+ghost use Rattle.version_index.specs.Columns.{IsColumn};
+ghost use Rattle.version_index.specs.Hits.{IsFirstFrom, is_watched};
+ghost use Rattle.version_index.specs.Log.{FitsTable, history_of, stamped_of};
+ghost use Rattle.version_index.specs.View.{IsAsked, IsView, history_in};
 
+use crate::column::Column;
 use crate::entry::{Entry, entry_at};
-use rel_base::{Read, Row, TableDef};
+use crate::keyed::first_of;
+use crate::view::TableView;
+use rel_base::{Read, Row, TableDef, Value};
 
-/// The number of the writes at the start of the log that are in no block above a height. It goes back from the last write.
-fn first_above(entries: &[Entry], height: u64) -> usize
-    requires in_order { InOrder (history_of entries.now) }
-    ensures bound { result ≤ length entries.now }
-    ensures low { All (λ stamped. stamped.0 ≤ height) (take result (history_of entries.now)) }
-{
-    let mut start = entries.len();
-    while start > 0 {
-        if entry_at(entries, start - 1).block <= height {
-            return start;
-        }
-        start -= 1;
-    }
-    start
+/// A read with the declaration of its table, and the heights between which the writes are that it may hit.
+#[derive(Clone, Copy)]
+pub struct Watch<'a> {
+    pub def: &'a TableDef,
+    pub read: &'a Read,
+    pub after: u64,
+    pub upto: u64,
 }
 
 /// Whether a read hits a committed write in a block above `after` and up to `upto`.
-fn is_hit(entry: &Entry, def: &TableDef, read: &Read, after: u64, upto: u64) -> bool
-    requires read_fits { ReadFits def.now read.now }
-    requires write_fits { read_table read.now ≡ entry.now.placed.write.table → WriteFits def.now entry.now.placed.write }
-    ensures { result ≡ (hits_write def.now read.now entry.now.placed.write && (nat_lt after entry.now.block && nat_le entry.now.block upto)) }
+fn is_hit(entry: &Entry, watch: &Watch<'_>) -> bool
+    requires read_fits { ReadFits watch.now.def.now watch.now.read.now }
+    requires write_fits { read_table watch.now.read.now ≡ entry.now.placed.write.table → WriteFits watch.now.def.now entry.now.placed.write }
+    ensures { result ≡ is_watched watch.now (stamped_of entry.now) }
 {
-    read.hits(def, &entry.placed.write) && (entry.block > after && entry.block <= upto)
+    watch.read.hits(watch.def, &entry.placed.write)
+        && (entry.block > watch.after && entry.block <= watch.upto)
 }
 
-/// The number of the first write in a block above `after` and up to `upto` that a read hits.
-pub fn first_hit(
-    entries: &[Entry],
-    def: &TableDef,
-    read: &Read,
-    after: u64,
-    upto: u64,
-) -> Option<usize>
-    requires in_order { InOrder (history_of entries.now) }
-    requires fits { FitsTable def.now (read_table read.now) (history_of entries.now) }
-    requires read_fits { ReadFits def.now read.now }
-    ensures { IsFirst (is_hit_between def.now read.now after upto) (history_of entries.now) result }
+/// The number of the first write from a number on that a read hits.
+pub fn first_hit(entries: &[Entry], watch: &Watch<'_>, start: usize) -> Option<usize>
+    requires fits { FitsTable watch.now.def.now (read_table watch.now.read.now) (history_of entries.now) }
+    requires read_fits { ReadFits watch.now.def.now watch.now.read.now }
+    ensures { IsFirstFrom (is_watched watch.now) start (history_of entries.now) result }
 {
-    let start = first_above(entries, after);
     for number in start..entries.len() {
-        if is_hit(entry_at(entries, number), def, read, after, upto) {
+        if is_hit(entry_at(entries, number), watch) {
             return Some(number);
         }
     }
     None
+}
+
+/// The number of the first write that a span of one value hits: by the noted writes that touched the value, and the tail.
+pub fn first_touching(
+    view: &TableView<'_>,
+    watch: &Watch<'_>,
+    column: &Column,
+    value: &Value,
+) -> Option<usize>
+    requires view { IsView view.now }
+    requires column { IsColumn view.now.table (history_in view.now) view.now.noted view.now.index.now.chains column.now }
+    requires watch { IsAsked watch.now.def.now watch.now.read.now view.now }
+    requires span { watch.now.read.now ≡ read.Span view.now.table column.now.column (Some value.now) (Some value.now) }
+    ensures { IsFirst (is_watched watch.now) (history_in view.now) result }
+{
+    let mut first = first_hit(view.entries, watch, view.noted);
+    let mut left = column.numbers(value);
+    while let Some((number, earlier)) = left.split_last() {
+        let entry = entry_at(view.entries, *number);
+        if entry.block <= watch.after {
+            return first;
+        }
+        first = first_of(is_hit(entry, watch), *number, first);
+        left = earlier;
+    }
+    first
 }
 
 /// Whether a read covers a row that may be there.

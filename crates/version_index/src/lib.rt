@@ -1,18 +1,25 @@
-//! A store of committed versions with an index by key: the writes in one log, each linked to the one before it on its key,
-//! and for each table an ordered map from its keys to their last writes but for those of the log's tail.
+//! A store of committed versions with indexes: the writes in one log, and for each table the writes on each key and the keys that
+//! have each value of a column.
 #![tactic(auto)]
 
-pub mod chain;
+pub mod candidates;
+pub mod chains;
+pub mod column;
 pub mod entry;
 pub mod growth;
 pub mod heads;
 pub mod hits;
+pub mod index;
+pub mod keyed;
+pub mod lists;
+pub mod living;
 pub mod reading;
 pub mod rows;
+pub mod span;
 pub mod store;
-pub mod tail;
+pub mod touched;
 pub mod versions;
+pub mod view;
 
 pub use entry::Entry;
-pub use heads::Heads;
 pub use store::IndexVersions;

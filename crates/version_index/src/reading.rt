@@ -1,26 +1,25 @@
-//! Answers to reads, from the log and the last writes on the keys of the read's table.
+//! Answers to reads.
 
-ghost use Rattle.std.specs.Prelude.{◌≡◌, ◌<◌, ◌∷◌, [], List, Some, IfOk, IfSome, length, slice_get};
-ghost use Rattle.rel_base.specs.Access.{ReadFits, read_table};
-ghost use Rattle.rel_base.specs.Among.{ReadFitsIn, WriteFitsIn, rows_in};
+ghost use Rattle.std.specs.Prelude.{◌≡◌, ◌∷◌, [], IfOk, Some, slice_get};
 ghost use Rattle.std.specs.Option.{option_map};
-ghost use Rattle.row_sets.specs.Versions.{hit_by, hit_of};
-ghost use Rattle.rel_base.specs.Late.{least_hit};
-ghost use Rattle.rel_base.specs.Tables.{HistoryFits, tables_at, writes_between};
-ghost use Rattle.rel_base.specs.declared.value.Value.{Value as Cell};
-ghost use Rattle.version_index.specs.Chain.{IsLast, is_on};
-ghost use Rattle.version_index.specs.Heads.{head_of};
-ghost use Rattle.version_index.specs.Kept.{WellKept};
-ghost use Rattle.version_index.specs.Log.{history_of, stamped_of, Linked, FitsTable};
-ghost use Rattle.version_index.specs.Rows.{rows_of_keys, write_of};
+ghost use Rattle.rel_base.specs.Access.{ReadFits, WriteFits, read_table};
+ghost use Rattle.rel_base.specs.Among.{ReadFitsIn};
+ghost use Rattle.rel_base.specs.Tables.{rows, tables_at};
+ghost use Rattle.rel_base.specs.declared.access.Read.TheVariants as read;
+ghost use Rattle.row_sets.specs.Versions.{hit_of};
+ghost use Rattle.version_index.specs.Chain.{IsFirst};
+ghost use Rattle.version_index.specs.Hits.{TellsFirst, is_watched};
+ghost use Rattle.version_index.specs.Log.{stamped_of};
+ghost use Rattle.version_index.specs.Rows.{rows_of_keys};
+ghost use Rattle.version_index.specs.View.{IsAsked, IsView, history_in, told_of};
 
-use crate::chain::first_late;
 use crate::entry::{Entry, entry_at, place_at};
-use crate::heads::Heads;
-use crate::hits::{covers_part, first_hit};
+use crate::hits::{Watch, covers_part, first_hit, first_touching};
+use crate::keyed::first_late;
 use crate::rows::add_key;
-use crate::tail::{heads_of, is_tail_above, last_on};
-use rel_base::{Key, List, NoMemory, Read, Seen, TableDef};
+use crate::span::{column_of, first_above, one_value, rows_of_span};
+use crate::view::{Look, TableView};
+use rel_base::{Key, List, NoMemory, Read, Seen, TableDef, Value};
 use row_sets::HitRef;
 use std::alloc::Global;
 
@@ -36,131 +35,96 @@ pub fn def_of<'a>(defs: &'a [TableDef], read: &Read) -> &'a TableDef
 /// The row of one key after the block of a height, as a list of none or one.
 fn rows_of_key(
     alloc: Global,
-    entries: &[Entry],
-    def: &TableDef,
-    read: &Read,
+    view: &TableView<'_>,
+    look: &Look<'_>,
     key: &Key,
-    head: Option<usize>,
-    height: u64,
 ) -> Result<List<Seen>, NoMemory>
-    requires linked { Linked entries.now }
-    requires head { IsLast (is_on (read_table read.now, key.now)) (history_of entries.now) head }
-    requires fits { FitsTable def.now (read_table read.now) (history_of entries.now) }
-    requires read_fits { ReadFits def.now read.now }
-    ensures { IfOk result (λ rows. rows ≡ rows_of_keys def.now read.now (tables_at height (history_of entries.now)) (read_table read.now) (key.now ∷ [])) }
+    requires view { IsView view.now }
+    requires look { IsAsked look.now.def.now look.now.read.now view.now }
+    ensures { IfOk result (λ seen. seen ≡ rows_of_keys look.now.def.now look.now.read.now (tables_at look.now.height (history_in view.now)) view.now.table (key.now ∷ [])) }
 {
     let mut rows = List::new(alloc);
-    add_key(alloc, &mut rows, entries, def, read, key, head, height)?;
+    let slot = view.index.chains.slot(key);
+    add_key(alloc, &mut rows, view, look, key, slot)?;
     Ok(rows)
 }
 
-/// The rows that a read gets of the tables after the block of a height, from a map of the last writes on the keys of its table.
-fn rows_by_heads(
-    alloc: Global,
-    defs: &[TableDef],
-    entries: &[Entry],
-    heads: &Heads,
-    read: &Read,
-    height: u64,
-) -> Result<List<Seen>, NoMemory>
-    requires linked { Linked entries.now }
-    requires headed { (key : List Cell) → IsLast (is_on (read_table read.now, key)) (history_of entries.now) (head_of heads.now key) }
-    requires fits { HistoryFits defs.now (history_of entries.now) }
-    requires read_fits { ReadFitsIn defs.now read.now }
-    ensures { IfOk result (λ seen. seen ≡ rows_in defs.now read.now (tables_at height (history_of entries.now))) }
-{
-    heads.rows(alloc, entries, def_of(defs, read), read, height)
-}
-
-/// The rows that a read gets of the tables after the block of a height, key by key. Where the height is below the tail, the map
-/// of the table has all keys that had a row, and else a map is made from the whole log.
-fn rows_of_all(
-    alloc: Global,
-    defs: &[TableDef],
-    entries: &[Entry],
-    heads: &[Heads],
-    noted: usize,
-    read: &Read,
-    height: u64,
-) -> Result<List<Seen>, NoMemory>
-    requires kept { WellKept defs.now entries.now heads.now noted }
-    requires read_fits { ReadFitsIn defs.now read.now }
-    ensures { IfOk result (λ seen. seen ≡ rows_in defs.now read.now (tables_at height (history_of entries.now))) }
-{
-    let table = read.table();
-    if is_tail_above(entries, noted, height) {
-        let heads = &heads[table as usize];
-        return rows_by_heads(alloc, defs, &entries[..noted], heads, read, height);
-    }
-    let heads = heads_of(alloc, entries, table)?;
-    rows_by_heads(alloc, defs, entries, &heads, read, height)
-}
-
 /// The rows that a read gets of the tables after the block of a height.
-pub fn rows_at(
-    alloc: Global,
-    defs: &[TableDef],
-    entries: &[Entry],
-    heads: &[Heads],
-    noted: usize,
-    read: &Read,
-    height: u64,
-) -> Result<List<Seen>, NoMemory>
-    requires kept { WellKept defs.now entries.now heads.now noted }
-    requires read_fits { ReadFitsIn defs.now read.now }
-    ensures { IfOk result (λ seen. seen ≡ rows_in defs.now read.now (tables_at height (history_of entries.now))) }
+pub fn rows_at(alloc: Global, view: &TableView<'_>, look: &Look<'_>) -> Result<List<Seen>, NoMemory>
+    requires view { IsView view.now }
+    requires look { IsAsked look.now.def.now look.now.read.now view.now }
+    ensures { IfOk result (λ seen. seen ≡ rows look.now.def.now look.now.read.now (tables_at look.now.height (history_in view.now))) }
 {
-    match read {
-        Read::Point { table, key } => rows_of_key(
-            alloc,
-            entries,
-            def_of(defs, read),
-            read,
-            key,
-            last_on(entries, heads, noted, *table, key),
-            height,
-        ),
-        Read::Span { .. } => rows_of_all(alloc, defs, entries, heads, noted, read, height),
+    match look.read {
+        Read::Point { key, .. } => rows_of_key(alloc, view, look, key),
+        Read::Span {
+            column,
+            low,
+            high,
+            ..
+        } => rows_of_span(alloc, view, look, *column, low, high),
     }
+}
+
+/// The number of the first write that a span hits.
+fn first_of_span(
+    view: &TableView<'_>,
+    watch: &Watch<'_>,
+    column: u32,
+    low: &Option<Value>,
+    high: &Option<Value>,
+) -> Option<usize>
+    requires view { IsView view.now }
+    requires watch { IsAsked watch.now.def.now watch.now.read.now view.now }
+    requires span { watch.now.read.now ≡ read.Span view.now.table column low.now high.now }
+    ensures { IsFirst (is_watched watch.now) (history_in view.now) result }
+{
+    let own = column_of(view.index.columns.as_slice(), column);
+    match (own, one_value(low, high)) {
+        (Some(own), Some(value)) => first_touching(view, watch, own, value),
+        _ => first_above_that_hits(view, watch),
+    }
+}
+
+/// The number of the first write that a read hits, among all writes above a height.
+fn first_above_that_hits(view: &TableView<'_>, watch: &Watch<'_>) -> Option<usize>
+    requires view { IsView view.now }
+    requires watch { IsAsked watch.now.def.now watch.now.read.now view.now }
+    ensures { IsFirst (is_watched watch.now) (history_in view.now) result }
+{
+    let start = first_above(view.entries, watch.after);
+    first_hit(view.entries, watch, start)
 }
 
 /// The number of the least write, by block, position and key, of the blocks above `after` and up to `upto` that a read hits.
-pub fn hit_at(
-    defs: &[TableDef],
-    entries: &[Entry],
-    heads: &[Heads],
-    noted: usize,
-    read: &Read,
-    after: u64,
-    upto: u64,
-) -> Option<usize>
-    requires kept { WellKept defs.now entries.now heads.now noted }
-    requires read_fits { ReadFitsIn defs.now read.now }
-    ensures least { write_of (history_of entries.now) result ≡ least_hit defs.now read.now (writes_between after upto (history_of entries.now)) }
-    ensures below { IfSome result (λ number. number < length entries.now) }
+fn hit_at(view: &TableView<'_>, watch: &Watch<'_>) -> Option<usize>
+    requires view { IsView view.now }
+    requires watch { IsAsked watch.now.def.now watch.now.read.now view.now }
+    ensures { IsFirst (is_watched watch.now) (history_in view.now) result }
 {
-    let def = def_of(defs, read);
-    match read {
-        Read::Point { table, key } => first_late(
-            entries,
-            *table,
+    match watch.read {
+        Read::Point { key, .. } => first_late(
+            view,
             key,
-            last_on(entries, heads, noted, *table, key),
-            after,
-            upto,
+            view.index.chains.slot(key),
+            watch.after,
+            watch.upto,
         ),
-        Read::Span { .. } => first_hit(entries, def, read, after, upto),
+        Read::Span {
+            column,
+            low,
+            high,
+            ..
+        } => first_of_span(view, watch, *column, low, high),
     }
 }
 
 /// What is told of a write that a read hits.
-fn hit_ref<'a>(defs: &[TableDef], read: &Read, entry: &'a Entry) -> HitRef<'a>
-    requires read_fits { ReadFitsIn defs.now read.now }
-    requires on_table { entry.now.placed.write.table ≡ read_table read.now }
-    requires write_fits { WriteFitsIn defs.now entry.now.placed.write }
-    ensures { hit_of result ≡ hit_by defs.now read.now (stamped_of entry.now) }
+fn hit_ref<'a>(def: &TableDef, read: &Read, entry: &'a Entry) -> HitRef<'a>
+    requires read_fits { ReadFits def.now read.now }
+    requires write_fits { WriteFits def.now entry.now.placed.write }
+    ensures { hit_of result ≡ told_of def.now read.now (stamped_of entry.now) }
 {
-    let def = def_of(defs, read);
     let stale = covers_part(read, def, &entry.placed.write.before);
     HitRef {
         place: place_at(entry),
@@ -169,23 +133,14 @@ fn hit_ref<'a>(defs: &[TableDef], read: &Read, entry: &'a Entry) -> HitRef<'a>
     }
 }
 
-/// The least write, by block, position and key, of the blocks above `after` and up to `upto` that a read hits, or nothing
-/// where it hits none.
-pub fn late_at<'a>(
-    defs: &[TableDef],
-    entries: &'a [Entry],
-    heads: &[Heads],
-    noted: usize,
-    read: &Read,
-    after: u64,
-    upto: u64,
-) -> Option<HitRef<'a>>
-    requires kept { WellKept defs.now entries.now heads.now noted }
-    requires read_fits { ReadFitsIn defs.now read.now }
-    ensures { option_map hit_of result ≡ option_map (hit_by defs.now read.now) (least_hit defs.now read.now (writes_between after upto (history_of entries.now))) }
+/// The first write of the blocks above `after` and up to `upto` that a read hits, or nothing where it hits none.
+pub fn late_at<'a>(view: &TableView<'a>, watch: &Watch<'_>) -> Option<HitRef<'a>>
+    requires view { IsView view.now }
+    requires watch { IsAsked watch.now.def.now watch.now.read.now view.now }
+    ensures { TellsFirst watch.now (history_in view.now) (option_map hit_of result) }
 {
-    match hit_at(defs, entries, heads, noted, read, after, upto) {
+    match hit_at(view, watch) {
         None => None,
-        Some(number) => Some(hit_ref(defs, read, entry_at(entries, number))),
+        Some(number) => Some(hit_ref(watch.def, watch.read, entry_at(view.entries, number))),
     }
 }

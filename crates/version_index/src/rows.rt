@@ -2,32 +2,33 @@
 
 ghost use Rattle.std.specs.Prelude.{◌≡◌, ◌++◌, IfSome, OnOk};
 ghost use Rattle.std.specs.FinMap.{get};
-ghost use Rattle.rel_base.specs.Access.{ReadFits, read_table};
+ghost use Rattle.rel_base.specs.Access.{ReadFits};
 ghost use Rattle.rel_base.specs.Schema.{RowFits};
 ghost use Rattle.rel_base.specs.Tables.{tables_at};
-ghost use Rattle.version_index.specs.Chain.{IsLast, is_on};
-ghost use Rattle.version_index.specs.Log.{history_of, stamped_of, Linked, FitsTable};
+ghost use Rattle.version_index.specs.Chains.{slot_of};
+ghost use Rattle.version_index.specs.Log.{stamped_of};
 ghost use Rattle.version_index.specs.Rows.{covered_row, seen_of, seen_row};
+ghost use Rattle.version_index.specs.View.{IsAsked, IsView, history_in};
 
-use crate::chain::last_up_to;
 use crate::entry::{Entry, entry_at, place_at};
-use rel_base::{Key, List, NoMemory, Place, Read, Row, Seen, TableDef, Twin};
+use crate::keyed::last_up_to;
+use crate::view::{Look, TableView};
+use rel_base::{Key, List, NoMemory, Place, Row, Seen, Twin};
 use std::alloc::Global;
 
 /// Adds a row to rows, where a read covers it.
 fn add_covered(
     alloc: Global,
     rows: &mut List<Seen>,
-    def: &TableDef,
-    read: &Read,
+    look: &Look<'_>,
     row: &Row,
     place: Place,
 ) -> Result<(), NoMemory>
-    requires read_fits { ReadFits def.now read.now }
-    requires row_fits { RowFits def.now row.now }
-    ensures { OnOk result (rows.new ≡ rows.old ++ covered_row def.now read.now (seen_row place row.now)) }
+    requires read_fits { ReadFits look.now.def.now look.now.read.now }
+    requires row_fits { RowFits look.now.def.now row.now }
+    ensures { OnOk result (rows.new ≡ rows.old ++ covered_row look.now.def.now look.now.read.now (seen_row place row.now)) }
 {
-    if !read.covers(def, row) {
+    if !look.read.covers(look.def, row) {
         return Ok(());
     }
     let row = row.copy(alloc)?;
@@ -39,40 +40,35 @@ fn add_covered(
 fn add_row(
     alloc: Global,
     rows: &mut List<Seen>,
-    def: &TableDef,
-    read: &Read,
+    look: &Look<'_>,
     entry: &Entry,
 ) -> Result<(), NoMemory>
-    requires read_fits { ReadFits def.now read.now }
-    requires row_fits { IfSome entry.now.placed.write.after (λ row. RowFits def.now row) }
-    ensures { OnOk result (rows.new ≡ rows.old ++ covered_row def.now read.now (seen_of (stamped_of entry.now))) }
+    requires read_fits { ReadFits look.now.def.now look.now.read.now }
+    requires row_fits { IfSome entry.now.placed.write.after (λ row. RowFits look.now.def.now row) }
+    ensures { OnOk result (rows.new ≡ rows.old ++ covered_row look.now.def.now look.now.read.now (seen_of (stamped_of entry.now))) }
 {
     match &entry.placed.write.after {
         None => Ok(()),
-        Some(row) => { add_covered(alloc, rows, def, read, row, place_at(entry)) }
+        Some(row) => add_covered(alloc, rows, look, row, place_at(entry)),
     }
 }
 
-/// Adds the row of a key after the block of a height to rows, where there is one and a read covers it. The head is the number
-/// of the last write on the key.
+/// Adds the row of a key after the block of a height to rows, where there is one and a read covers it.
 pub fn add_key(
     alloc: Global,
     rows: &mut List<Seen>,
-    entries: &[Entry],
-    def: &TableDef,
-    read: &Read,
+    view: &TableView<'_>,
+    look: &Look<'_>,
     key: &Key,
-    head: Option<usize>,
-    height: u64,
+    slot: Option<usize>,
 ) -> Result<(), NoMemory>
-    requires linked { Linked entries.now }
-    requires head { IsLast (is_on (read_table read.now, key.now)) (history_of entries.now) head }
-    requires fits { FitsTable def.now (read_table read.now) (history_of entries.now) }
-    requires read_fits { ReadFits def.now read.now }
-    ensures { OnOk result (rows.new ≡ rows.old ++ covered_row def.now read.now (get (tables_at height (history_of entries.now)) (read_table read.now, key.now))) }
+    requires view { IsView view.now }
+    requires look { IsAsked look.now.def.now look.now.read.now view.now }
+    requires slot { slot ≡ slot_of view.now.index.now.chains key.now }
+    ensures { OnOk result (rows.new ≡ rows.old ++ covered_row look.now.def.now look.now.read.now (get (tables_at look.now.height (history_in view.now)) (view.now.table, key.now))) }
 {
-    match last_up_to(entries, read.table(), key, head, height) {
+    match last_up_to(view, key, slot, look.height) {
         None => Ok(()),
-        Some(number) => add_row(alloc, rows, def, read, entry_at(entries, number)),
+        Some(number) => add_row(alloc, rows, look, entry_at(view.entries, number)),
     }
 }

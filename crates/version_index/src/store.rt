@@ -1,33 +1,33 @@
 //! The store of committed versions.
 
-ghost use Rattle.std.specs.Prelude.{◌≡◌, [], All, IfOk, length};
+ghost use Rattle.std.specs.Prelude.{◌≡◌, ◌<◌, All, IfOk, OnOk, Some, length, map, slice_get};
+ghost use Rattle.version_index.specs.Index.{IsEmptyIndex, columns_in, index_columns};
 
 use crate::entry::Entry;
 use crate::growth::{note_tail, push_all};
-use crate::heads::Heads;
-use crate::reading::{late_at, rows_at};
-use crate::tail::last_on;
+use crate::hits::Watch;
+use crate::index::TableIndex;
+use crate::reading::{def_of, late_at, rows_at};
 use crate::versions::{all_back, chain_back, oldest_first};
+use crate::view::{Look, TableView};
 use rel_base::{Key, List, NoMemory, Place, Read, Seen, TableDef, Twin, Write};
 use row_sets::{HitRef, Lifespan, Versions};
 use std::alloc::Global;
 use std::marker::Model;
 
-/// A store of committed versions with an index by key. It keeps the committed writes in one log, and for each table an ordered
-/// map from its keys to the last write on each; each write names the one before it on its key. So a read of one key, the search
-/// for the first late write on a key, and a write take a number of steps that grows with the logarithm of the number of keys
-/// and with the number of writes on the key since the height that is asked for.
+/// A store of committed versions with indexes. It keeps the committed writes in one log. For each table it keeps the numbers of the
+/// writes on each key, and for each column by which spans are read the keys that have a row with each value, and the numbers of the
+/// writes that touched the value.
 ///
-/// The maps grow only when room is taken: what was written since then is the tail of the log, which each of these looks through
-/// first, a write only as far as it was there before its transaction. A span that is read at a height within the tail makes the
-/// map of its table anew from the whole log, in memory that it gives back; to take room for no write beforehand costs less.
+/// The indexes grow only when room is taken: what was written since then is the tail of the log, which each read looks through
+/// besides.
 #[derive(Drop)]
 pub struct IndexVersions {
     alloc: Global,
     tables: List<TableDef>,
     log: Vec<Entry>,
-    /// The last writes among the first entries of the log, as many as `noted` says.
-    heads: Vec<Heads>,
+    /// The indexes of the tables. They tell of the first entries of the log, as many as `noted` says.
+    indexes: Vec<TableIndex>,
     noted: usize,
 }
 
@@ -47,19 +47,40 @@ impl Model for IndexVersions {
 
     ghost view = { λ store. (store.tables, (history_of store.log.items, room_of store.log)) };
 
-    ghost invariant = { λ store. WellKept store.tables store.log.items store.heads.items store.noted };
+    ghost invariant = { λ store. WellKept store.tables store.log.items store.indexes.items store.noted };
 }
 
-/// Maps of no keys, one for each table.
-fn no_heads(alloc: Global, count: usize) -> Result<Vec<Heads>, NoMemory>
-    ensures count { IfOk result (λ heads. length heads.items ≡ count) }
-    ensures empty { IfOk result (λ heads. All (λ h. h ≡ []) heads.items) }
+/// Indexes without a write, one for each table.
+fn no_indexes(alloc: Global, defs: &[TableDef]) -> Result<Vec<TableIndex>, NoMemory>
+    ensures columns { IfOk result (λ indexes. columns_in indexes.items ≡ map index_columns defs.now) }
+    ensures empty { IfOk result (λ indexes. All IsEmptyIndex indexes.items) }
 {
-    let mut heads = Vec::new(alloc);
-    for _number in 0..count {
-        heads.push(Heads::new(alloc))?;
+    let mut indexes = Vec::new(alloc);
+    for def in defs {
+        indexes.push(TableIndex::new(alloc, def)?)?;
     }
-    Ok(heads)
+    Ok(indexes)
+}
+
+/// The log, as the index of a table sees it.
+fn view_of<'a>(
+    entries: &'a [Entry],
+    indexes: &'a [TableIndex],
+    noted: usize,
+    table: u32,
+) -> TableView<'a>
+    requires { table < length indexes.now }
+    ensures entries { result.entries.now ≡ entries.now }
+    ensures noted { result.noted ≡ noted }
+    ensures table { result.table ≡ table }
+    ensures index { slice_get indexes.now table ≡ Some result.index.now }
+{
+    TableView {
+        entries,
+        noted,
+        table,
+        index: &indexes[table as usize],
+    }
 }
 
 impl Versions for IndexVersions {
@@ -71,44 +92,50 @@ impl Versions for IndexVersions {
 
     fn new(alloc: Global, declared: &List<TableDef>) -> Result<Self, NoMemory> {
         let tables = declared.copy(alloc)?;
-        let heads = no_heads(alloc, tables.len())?;
+        let indexes = no_indexes(alloc, tables.as_slice())?;
         Ok(IndexVersions {
             alloc,
             tables,
             log: Vec::new(alloc),
-            heads,
+            indexes,
             noted: 0,
         })
     }
 
     fn visible(&self, height: u64, read: &Read) -> Result<List<Seen>, NoMemory> {
-        rows_at(
-            self.alloc,
-            self.tables.as_slice(),
+        let def = def_of(self.tables.as_slice(), read);
+        let view = view_of(
             self.log.as_slice(),
-            self.heads.as_slice(),
+            self.indexes.as_slice(),
             self.noted,
-            read,
-            height,
-        )
+            read.table(),
+        );
+        rows_at(self.alloc, &view, &Look { def, read, height })
     }
 
     fn late_hit(&self, after: u64, upto: u64, read: &Read) -> Option<HitRef<'_>> {
-        late_at(
-            self.tables.as_slice(),
+        let def = def_of(self.tables.as_slice(), read);
+        let view = view_of(
             self.log.as_slice(),
-            self.heads.as_slice(),
+            self.indexes.as_slice(),
             self.noted,
-            read,
-            after,
-            upto,
+            read.table(),
+        );
+        late_at(
+            &view,
+            &Watch {
+                def,
+                read,
+                after,
+                upto,
+            },
         )
     }
 
     fn reserve(&mut self, writes: usize) -> Result<(), NoMemory> {
         note_tail(
             self.alloc,
-            &mut self.heads,
+            &mut self.indexes,
             self.log.as_slice(),
             &mut self.noted,
         )?;
@@ -117,19 +144,18 @@ impl Versions for IndexVersions {
     }
 
     fn apply(&mut self, place: Place, writes: List<Write>) {
-        push_all(
-            &mut self.log,
-            self.heads.as_slice(),
-            self.noted,
-            place,
-            writes,
-        );
+        push_all(&mut self.log, place, writes);
     }
 
     fn chain_of(&self, table: u32, key: &Key) -> Result<List<Lifespan>, NoMemory> {
-        let entries = self.log.as_slice();
-        let head = last_on(entries, self.heads.as_slice(), self.noted, table, key);
-        let versions = chain_back(self.alloc, entries, table, key, head)?;
+        let view = view_of(
+            self.log.as_slice(),
+            self.indexes.as_slice(),
+            self.noted,
+            table,
+        );
+        let slot = view.index.chains.slot(key);
+        let versions = chain_back(self.alloc, &view, key, slot)?;
         Ok(oldest_first(versions))
     }
 

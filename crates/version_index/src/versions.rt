@@ -3,12 +3,15 @@
 ghost use Rattle.std.specs.Prelude.{◌≡◌, ◌++◌, ◌+◌, ◌<◌, IfOk, OnOk, drop, length, reverse};
 ghost use Rattle.std.specs.Option.{option_copied, option_map};
 ghost use Rattle.row_sets.specs.Lifespans.{is_of_key, is_of_table, lifespan, lifespans, place_of};
-ghost use Rattle.version_index.specs.Chain.{IsLast, is_on};
-ghost use Rattle.version_index.specs.Log.{history_of, stamped_of, Linked};
+ghost use Rattle.version_index.specs.Chains.{slot_of};
+ghost use Rattle.version_index.specs.Log.{history_of, stamped_of};
 ghost use Rattle.version_index.specs.Rows.{AreFirsts, write_of};
+ghost use Rattle.version_index.specs.View.{IsView, history_in};
 
 use crate::entry::{Entry, entry_at, place_at};
 use crate::heads::Heads;
+use crate::keyed::{last_before, last_on};
+use crate::view::TableView;
 use rel_base::{Key, List, NoMemory, Place, Row, Twin};
 use row_sets::Lifespan;
 use std::alloc::Global;
@@ -33,27 +36,26 @@ fn add_version(
     }
 }
 
-/// All versions of a key, the last one first. It starts at the last write on the key.
+/// All versions of a key, whose slot is given, the last one first.
 pub fn chain_back(
     alloc: Global,
-    entries: &[Entry],
-    table: u32,
+    view: &TableView<'_>,
     key: &Key,
-    head: Option<usize>,
+    slot: Option<usize>,
 ) -> Result<Vec<Lifespan>, NoMemory>
-    requires linked { Linked entries.now }
-    requires head { IsLast (is_on (table, key.now)) (history_of entries.now) head }
-    ensures { IfOk result (λ versions. reverse versions.items ≡ lifespans (is_of_key table key.now) (history_of entries.now)) }
+    requires view { IsView view.now }
+    requires slot { slot ≡ slot_of view.now.index.now.chains key.now }
+    ensures { IfOk result (λ versions. reverse versions.items ≡ lifespans (is_of_key view.now.table key.now) (history_in view.now)) }
 {
     let mut versions = Vec::new(alloc);
-    let mut place = head;
+    let mut place = last_on(view, key, slot);
     let mut ended = None;
-    while let Some(number) = place {
-        let entry = entry_at(entries, number);
+    while let Some(back) = place {
+        let entry = entry_at(view.entries, back.number);
         let made = place_at(entry);
         add_version(alloc, &mut versions, &entry.placed.write.after, made, ended)?;
         ended = Some(made);
-        place = entry.earlier;
+        place = last_before(view, key, back.left, back.number);
     }
     Ok(versions)
 }

@@ -2,14 +2,11 @@ use Rattle.std.proofs.Common.{◌≡◌, ◌≤◌, ◌+◌, ◌++◌, length}
 use Rattle.row_sets.specs.Versions.{stamped_at}
 use Rattle.version_index.specs.Kept.{room_of}
 use Rattle.version_index.specs.Log.{history_of}
-use Rattle.version_index.proofs.Grown.{Growing}
-use Rattle.version_index.proofs.Rising.{AreNew}
 use Rattle.version_index.proofs.growth.push_all.Given as goal
 
--- the writes so far are in the history, those that are left are on other keys than these, and there is room for them
+-- the writes so far are in the history, and there is room for those that are left
 abbrev pub invariant-loop-write : goal.invariant-loop-write
 invariant-loop-write l =
     (length l.write-iterator.rest.items ≤ room_of l.log)
     × (room_of l.log + length l.fn.writes ≡ room_of l.fn.log + length l.write-iterator.rest.items)
-    × Growing l.log.items l.heads l.noted l.write-iterator.rest.items l.place (history_of l.fn.log.items ++ stamped_at l.place l.fn.writes)
-    × AreNew l.start l.log.items l.write-iterator.rest.items
+    × (history_of l.log.items ++ stamped_at l.place l.write-iterator.rest.items ≡ history_of l.fn.log.items ++ stamped_at l.place l.fn.writes)

@@ -1,29 +1,46 @@
-use Rattle.std.proofs.Common.{◌≡◌, ◌∙◌, ◌+◌, All, sym, suc, subst, take, false, arith}
-use Rattle.rel_base.specs.Access.{read_table}
-use Rattle.rel_base.specs.Tables.{Stamped}
-use Rattle.version_index.specs.Log.{history_of, stamped_of, is_hit_between}
-use Rattle.version_index.proofs.Logged.{low_not_hit, entry_fits, first_at, none_at_end, all_next, get_history}
+use Rattle.std.proofs.Common.{◌≡◌, ◌∙◌, ◌<◌, ◌≤◌, ◌⊎◌, inl, inr, ℕ, ap, arith, below_more, false, sym}
+use Rattle.std.proofs.lemmas.List.{length-map}
+use Rattle.std.proofs.lemmas.List.Elements.{All-contains}
+use Rattle.rel_base.specs.Access.{WriteFits, read_table}
+use Rattle.rel_base.proofs.Bits.{not_true}
+use Rattle.version_index.specs.Hits.{is_watched}
+use Rattle.version_index.specs.Log.{history_of, stamped_of}
+use Rattle.version_index.specs.Numbers.{passes, passes_at}
+use Rattle.version_index.proofs.Logged.{contains_got, get_history}
+use Rattle.version_index.proofs.Points.{at_below, below_or}
 use Rattle.version_index.proofs.hits.first_hit.Goals as goal
 
-pub loop-number-init : goal.loop-number-init
-loop-number-init c = low_not_hit c.args.def.now c.args.read.now c.args.after c.args.upto (take c.first_above-start.result (history_of c.args.entries.now)) c.first_above-start.ensures.low
-
 pub is_hit-requires-clause-write_fits : goal.is_hit-requires-clause-write_fits
-is_hit-requires-clause-write_fits c same =
-    entry_fits c.args.def.now c.args.entries.now (read_table c.args.read.now) c.loop-number.number c.entry_at.result.now c.requires.fits c.entry_at.ensures same
+is_hit-requires-clause-write_fits c =
+    let entry = c.entry_at.result.now in
+    let there = get_history c.args.entries.now c.loop-number.number entry c.entry_at.ensures in
+    λ same. All-contains (λ s. s.1.write.table ≡ read_table c.args.watch.now.read.now → WriteFits c.args.watch.now.def.now s.1.write) (history_of c.args.entries.now) (stamped_of entry) c.requires.fits
+    (contains_got (history_of c.args.entries.now) c.loop-number.number (stamped_of entry) there) (sym same)
 
 pub returns-then-is_hit : goal.returns-then-is_hit
 returns-then-is_hit c =
-    first_at c.args.def.now c.args.read.now c.args.after c.args.upto c.args.entries.now c.loop-number.number c.entry_at.result.now c.entry_at.ensures (sym c.is_hit.ensures ∙ c.if-is_hit.true) c.loop-number.invariant
+    let there = get_history c.args.entries.now c.loop-number.number c.entry_at.result.now c.entry_at.ensures in (
+      c.loop-number.auto.number,
+      ap (passes (is_watched c.args.watch.now)) there ∙ sym c.is_hit.ensures ∙ c.if-is_hit.true,
+      c.loop-number.invariant,
+    )
 
 pub loop-number-preserved : goal.loop-number-preserved
 loop-number-preserved c =
-    let P : Stamped → Type 0 = λ stamped. is_hit_between c.args.def.now c.args.read.now c.args.after c.args.upto stamped ≡ false in
-    let next : suc c.loop-number.number ≡ c.loop-number.number + 1 = omega arith in
-    subst (λ n. All P (take n (history_of c.args.entries.now))) next
-    (all_next P (history_of c.args.entries.now) c.loop-number.number (stamped_of c.entry_at.result.now) (get_history c.args.entries.now c.loop-number.number c.entry_at.result.now c.entry_at.ensures)
-    c.loop-number.invariant (sym c.is_hit.ensures ∙ c.if-is_hit.false))
+    let test = is_watched c.args.watch.now in
+    let there = get_history c.args.entries.now c.loop-number.number c.entry_at.result.now c.entry_at.ensures in
+    λ j low before. below_more (λ (k : ℕ). c.args.start ≤ k → passes_at test (history_of c.args.entries.now) k ≡ false) c.loop-number.number (λ k below up. c.loop-number.invariant k up below)
+    (λ up. ap (passes test) there ∙ sym c.is_hit.ensures ∙ c.if-is_hit.false) j before low
 
+-- behind the log there is no write
 pub returns : goal.returns
-returns c =
-    none_at_end (λ stamped. is_hit_between c.args.def.now c.args.read.now c.args.after c.args.upto stamped ≡ false) c.args.entries.now c.loop-number.number c.loop-number-test.false c.loop-number.invariant
+returns c = λ j low. either j low (below_or j c.loop-number.number)
+  where
+    either : (j : ℕ) → c.args.start ≤ j → (j < c.loop-number.number) ⊎ (c.loop-number.number ≤ j) → passes_at (is_watched c.args.watch.now) (history_of c.args.entries.now) j ≡ false
+    either j low (inl below) = c.loop-number.invariant j low below
+    either j low (inr past) =
+        not_true (passes_at (is_watched c.args.watch.now) (history_of c.args.entries.now) j)
+        (λ passing_it. let inside = at_below (is_watched c.args.watch.now) (history_of c.args.entries.now) j passing_it in
+        let end = c.loop-number-test.false in
+        let same = length-map c.args.entries.now stamped_of in
+        omega (arith, past, inside, end, same))

@@ -1,7 +1,9 @@
-use Rattle.std.proofs.Common.{◌≡◌, All, false, take}
-use Rattle.version_index.specs.Log.{history_of, is_hit_between}
+use Rattle.std.proofs.Common.{◌≡◌, ◌<◌, ◌≤◌, false, ℕ}
+use Rattle.version_index.specs.Hits.{is_watched}
+use Rattle.version_index.specs.Log.{history_of}
+use Rattle.version_index.specs.Numbers.{passes_at}
 use Rattle.version_index.proofs.hits.first_hit.Given as goal
 
--- none before is hit
+-- none of the writes so far is hit
 abbrev pub invariant-loop-number : goal.invariant-loop-number
-invariant-loop-number l = All (λ stamped. is_hit_between l.def l.read l.after l.upto stamped ≡ false) (take l.number (history_of l.entries))
+invariant-loop-number l = (j : ℕ) → l.start ≤ j → j < l.number → passes_at (is_watched l.watch) (history_of l.entries) j ≡ false

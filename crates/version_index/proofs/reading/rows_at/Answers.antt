@@ -1,11 +1,14 @@
-use Rattle.std.proofs.Common.{◌≡◌, subst, IfOk}
-use Rattle.version_index.specs.Log.{history_of}
-use Rattle.version_index.proofs.Answered.{rows_of_point}
+use Rattle.std.proofs.Common.{◌≡◌, ◌∙◌, IfOk, ap, subst, sym}
+use Rattle.rel_base.specs.Access.{read_table}
+use Rattle.rel_base.specs.declared.access.Read.TheVariants.{Point}
+use Rattle.version_index.proofs.Answered.{point_rows}
 use Rattle.version_index.proofs.reading.rows_at.Goals as goal
 
--- the row of the one key is all that a point gets
+-- the row at the key of a point is what it gets
 pub returns-in-Point : goal.returns-in-Point
 returns-in-Point c =
-    subst (λ rows. IfOk c.rows_of_key.result (λ seen. seen ≡ rows))
-    (rows_of_point c.args.defs.now c.def_of.result.now c.args.read.now c.in-Point.table c.in-Point.key c.in-Point.is c.def_of.ensures.declared c.args.height (history_of c.args.entries.now) c.requires.kept.fits)
-    c.rows_of_key.ensures
+    let view = c.args.view.now in
+    let look = c.args.look.now in
+    let asked = c.requires.look in
+    let is = c.in-Point.is ∙ ap (λ t. Point t c.in-Point.key) (sym (asked.table ∙ ap read_table c.in-Point.is)) in
+    subst (λ rows. IfOk c.rows_of_key.result (λ seen. seen ≡ rows)) (point_rows look.def.now view c.in-Point.key look.height look.read.now is asked) c.rows_of_key.ensures

@@ -6,7 +6,7 @@ use Rattle.row_sets.proofs.Endings.{on_ok_then}
 use Rattle.version_index.specs.Log.{history_of, stamped_of}
 use Rattle.version_index.specs.Chain.{is_on}
 use Rattle.version_index.specs.Rows.{AreFirsts, write_of}
-use Rattle.version_index.proofs.Chains.{all_skip, all_step, firsts_skip, firsts_step}
+use Rattle.version_index.proofs.Ended.{all_skip, all_step, firsts_skip, firsts_step}
 use Rattle.version_index.proofs.Logged.{get_history}
 use Rattle.version_index.proofs.versions.add_before.Goals as goal
 

@@ -1,0 +1,81 @@
+-- Values of rows in a column that may be there.
+use Rattle.std.proofs.Common.{◌≡◌, ◌∙◌, ℕ, List, [], ◌∷◌, ◌++◌, Bool, true, false, not, ◌&&◌, ◌||◌, cond, Option, Some, None, refl, ap, sym, subst}
+use Rattle.std.specs.Cmp.{tied_itself}
+use Rattle.std.specs.Ordering.{is_eq}
+use Rattle.std.specs.declared.alloc.Global.{Global}
+use Rattle.std.specs.declared.vec.Vec.{Vec}
+use Rattle.rel_base.specs.declared.value.Value.{Value}
+use Rattle.rel_base.specs.Value.{value_cmp-total, value_eq}
+use Rattle.version_index.specs.Columns.{HasRoomAt, IsRoomy, IsSameColumn, has, has_same}
+use Rattle.version_index.specs.declared.column.Column.{Column}
+use Rattle.version_index.proofs.Marks.{same_value}
+
+-- a value is one with itself
+pub value_itself : (v : Value) → value_eq v v ≡ true
+value_itself v = ap is_eq (tied_itself value_cmp-total v)
+
+-- a value that the other has too
+pub unless_same : (v : Value) (value other : Option Value) → has_same value other ≡ true → false ≡ (has v value && not (has v other))
+unless_same v None other both = refl
+unless_same v (Some value) other both =
+    elim (value_eq v value) as (λ b. value_eq v value ≡ b → false ≡ (b && not (has v other))) [
+      | true ↦ λ tied. sym (ap not (ap (λ w. has w other) (same_value v value tied) ∙ both))
+      | false ↦ λ apart. refl
+    ] refl
+
+-- a value that it does not have
+pub unless_other : (v : Value) (value other : Option Value) → has_same value other ≡ false → has v value ≡ (has v value && not (has v other))
+unless_other v None other apart = refl
+unless_other v (Some value) other apart =
+    elim (value_eq v value) as (λ b. value_eq v value ≡ b → b ≡ (b && not (has v other))) [
+      | true ↦ λ tied. sym (ap not (ap (λ w. has w other) (same_value v value tied) ∙ apart))
+      | false ↦ λ other_one. refl
+    ] refl
+
+-- room at a value is room at each that is one with it
+pub roomy_one : (touched : List (Value × Vec ℕ Global)) (value : Value) → HasRoomAt touched value → IsRoomy touched (Some value)
+roomy_one touched value room v tied = subst (HasRoomAt touched) (sym (same_value v value tied)) room
+
+pub roomy_none : (touched : List (Value × Vec ℕ Global)) → IsRoomy touched None
+roomy_none touched v never = cc
+
+-- the numbers after one was added at each of three values, at each only once
+pub added_all : (f b a : Bool) (f2 b2 : Bool) (number : ℕ) (xs : List ℕ) → f2 ≡ (b && not f) → b2 ≡ ((a && not f) && not b)
+    → cond b2 (cond f2 (cond f (xs ++ number ∷ []) xs ++ number ∷ []) (cond f (xs ++ number ∷ []) xs) ++ number ∷ []) (cond f2 (cond f (xs ++ number ∷ []) xs ++ number ∷ []) (cond f (xs ++ number ∷ []) xs))
+    ≡ cond (f || b || a) (xs ++ number ∷ []) xs
+added_all true true true f2 b2 number xs second third = rw (second, third) refl
+added_all true true false f2 b2 number xs second third = rw (second, third) refl
+added_all true false true f2 b2 number xs second third = rw (second, third) refl
+added_all true false false f2 b2 number xs second third = rw (second, third) refl
+added_all false true true f2 b2 number xs second third = rw (second, third) refl
+added_all false true false f2 b2 number xs second third = rw (second, third) refl
+added_all false false true f2 b2 number xs second third = rw (second, third) refl
+added_all false false false f2 b2 number xs second third = rw (second, third) refl
+
+-- a slot that moved from a value that it had to one that it has now
+pub moved : (s old was now : Bool) (gone : Bool) → gone ≡ (was && not now) → (s ≡ true → old ≡ was) → cond (gone && s) false ((now && s) || old) ≡ cond s now old
+moved true old true true gone left here = rw left refl
+moved true old true false gone left here = rw left refl
+moved true old false true gone left here = rw left refl
+moved true old false false gone left here = rw left (here refl)
+moved false old true true gone left here = rw left refl
+moved false old true false gone left here = rw left refl
+moved false old false true gone left here = rw left refl
+moved false old false false gone left here = rw left refl
+
+pub not_from : (b : Bool) → not b ≡ true → b ≡ false
+not_from true fails = sym fails
+not_from false fails = refl
+
+-- ---- columns that tell the same
+
+pub same_column : (column : Column) → IsSameColumn column column
+same_column column = record { column = refl; living = λ value slot. refl; touched = λ value. refl }
+
+pub same_twice : (one two three : Column) → IsSameColumn one two → IsSameColumn two three → IsSameColumn one three
+same_twice one two three first second =
+    record {
+      column = second.column ∙ first.column;
+      living = λ value slot. second.living value slot ∙ first.living value slot;
+      touched = λ value. second.touched value ∙ first.touched value;
+    }

@@ -1,0 +1,59 @@
+-- The keys of marked slots.
+use Rattle.std.proofs.Common.{◌≡◌, ◌∙◌, ℕ, List, Bool, true, false, Option, Some, None, refl, ap}
+use Rattle.std.specs.BTreeMap.{BTreeMap, is_at}
+use Rattle.std.specs.Map.{lookup}
+use Rattle.std.specs.Ordering.{nat_cmp}
+use Rattle.std.specs.BTreeMap.Range.{range_contains}
+use Rattle.std.specs.List.{filter}
+use Rattle.std.proofs.lemmas.Map.Lookups.{exact_unsigned}
+use Rattle.std.proofs.lemmas.Map.Views.{Contains-from_lookup}
+use Rattle.rel_base.specs.Value.{key_cmp, key_cmp-exact, value_cmp, value_cmp-exact}
+use Rattle.rel_base.specs.declared.value.Value.{Value}
+use Rattle.rel_base.proofs.Bits.{is_Equal}
+use Rattle.version_index.specs.Candidates.{HasSlot, IsMarked, IsMarkedBetween, LivesBetween, end_of, key_end_of}
+use Rattle.version_index.specs.Columns.{is_marked, mark_in}
+use Rattle.version_index.specs.declared.view.TableView.{TableView}
+use Rattle.version_index.proofs.Adding.{ByOne}
+use Rattle.version_index.proofs.Ranges.{in_key_range, in_range, passes_filter, some_there}
+
+-- a key has a slot that has a mark
+abbrev pub WantsMark : TableView → ℕ × Bool → List Value → Type 0
+WantsMark view e key = (e.1 ≡ true) × HasSlot view e.0 key
+
+-- a mark is there
+mark_there : (found : Option Bool) → is_marked found ≡ true → found ≡ Some true
+mark_there None is = cc
+mark_there (Some true) is = refl
+mark_there (Some false) is = cc
+
+-- a marked slot is one of the entries
+pub by_marks : (view : TableView) (marks : BTreeMap ℕ Bool) (key : List Value) → IsMarked view marks key → ByOne marks.entries (WantsMark view) key
+by_marks view marks key (slot, has, is) =
+    ((slot, true), Contains-from_lookup (λ x y tied. exact_unsigned x y (is_Equal (nat_cmp x y) tied)) slot true marks.entries (mark_there (mark_in (Some marks) slot) is), (refl, has))
+
+-- marks at a value between two ends are among the entries between them
+pub by_values : (view : TableView) (living : List (Value × BTreeMap ℕ Bool)) (low high : Option Value) (key : List Value) → IsMarkedBetween view living low high key
+    → ByOne (filter (λ e. range_contains value_cmp (end_of low) (end_of high) e.0) living) (λ e k. IsMarked view e.1 k) key
+by_values view living low high key (slot, value, has, between, is) = go (lookup (is_at (value_cmp value)) living) refl is
+  where
+    go : (found : Option (BTreeMap ℕ Bool)) → lookup (is_at (value_cmp value)) living ≡ found → is_marked (mark_in found slot) ≡ true
+        → ByOne (filter (λ e. range_contains value_cmp (end_of low) (end_of high) e.0) living) (λ e k. IsMarked view e.1 k) key
+    go None there is = cc
+    go (Some marks) there is = (
+      (value, marks),
+      passes_filter (λ e. range_contains value_cmp (end_of low) (end_of high) e.0) living (value, marks)
+          (Contains-from_lookup (λ x y tied. value_cmp-exact x y (is_Equal (value_cmp x y) tied)) value marks living there) (in_range low high value between),
+      (slot, has, is),
+    )
+
+-- a key of one value with a row is among the entries between two ends
+pub by_keys : (view : TableView) (low high : Option Value) (key : List Value) → LivesBetween view low high key
+    → ByOne (filter (λ e. range_contains key_cmp (key_end_of low) (key_end_of high) e.0) view.index.now.chains.living.entries) (λ e k. k ≡ e.0) key
+by_keys view low high key (value, own, between, lives) =
+    let found = some_there (lookup (is_at (key_cmp key)) view.index.now.chains.living.entries) lives in (
+      (key, found.0),
+      passes_filter (λ e. range_contains key_cmp (key_end_of low) (key_end_of high) e.0) view.index.now.chains.living.entries (key, found.0)
+          (Contains-from_lookup (λ x y tied. key_cmp-exact x y (is_Equal (key_cmp x y) tied)) key found.0 view.index.now.chains.living.entries found.1)
+          (ap (range_contains key_cmp (key_end_of low) (key_end_of high)) own ∙ in_key_range low high value between),
+      refl,
+    )

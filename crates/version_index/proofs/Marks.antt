@@ -1,0 +1,124 @@
+-- What becomes of the marked slots and of the numbers at each value when those at one value change.
+use Rattle.std.proofs.Common.{◌≡◌, ◌∙◌, ℕ, ◌<◌, List, [], ◌∷◌, ◌++◌, Bool, true, false, ◌&&◌, ◌||◌, ◌==◌, cond, Option, Some, None, refl, ap, subst, sym}
+use Rattle.std.specs.BTreeMap.{BTreeMap, is_at}
+use Rattle.std.specs.Cmp.{eq_by_cmp_equiv}
+use Rattle.std.specs.Map.{lookup}
+use Rattle.std.specs.Option.{IsSomeAnd}
+use Rattle.std.specs.Vec.{vec_capacity, vec_len}
+use Rattle.std.specs.declared.alloc.Global.{Global}
+use Rattle.std.specs.declared.vec.Vec.{Vec}
+use Rattle.rel_base.specs.declared.value.Value.{Value}
+use Rattle.rel_base.specs.Value.{value_cmp, value_cmp-exact, value_cmp-total, value_eq}
+use Rattle.rel_base.proofs.Bits.{is_Equal}
+use Rattle.version_index.specs.Columns.{HasRoomAt, has_slot, is_marked, items_in, mark_in, touched_at}
+
+-- values that are one in the order are one
+pub same_value : (a b : Value) → value_eq a b ≡ true → a ≡ b
+same_value a b tied = value_cmp-exact a b (is_Equal (value_cmp a b) tied)
+
+-- a test by the order either way round
+pub turned : (a b : Value) → is_at (value_cmp a) b ≡ value_eq b a
+turned a b = (eq_by_cmp_equiv value_cmp-total).symm a b
+
+module _ {X : Type 0} where
+  -- a map by values that differs at one value alone
+  abbrev pub SetAt : List (Value × X) → List (Value × X) → Value → Option X → Type 0
+  SetAt old new value now = (q : Value) → lookup (is_at (value_cmp q)) new ≡ cond (is_at (value_cmp value) q) now (lookup (is_at (value_cmp q)) old)
+
+  -- what is told of the new map at a value, by what is told of the old one
+  pub told_at : {Y : Type 0} (f : Option X → Y) (old new : List (Value × X)) (value : Value) (now : Option X) → SetAt old new value now → (v : Value)
+      → f (lookup (is_at (value_cmp v)) new) ≡ cond (value_eq v value) (f now) (f (lookup (is_at (value_cmp v)) old))
+  told_at f old new value now sets v = ap f (sets v ∙ ap (λ b. cond b now (lookup (is_at (value_cmp v)) old)) (turned value v)) ∙ inside (value_eq v value)
+    where
+      inside : (b : Bool) → f (cond b now (lookup (is_at (value_cmp v)) old)) ≡ cond b (f now) (f (lookup (is_at (value_cmp v)) old))
+      inside true = refl
+      inside false = refl
+
+  -- what the old map had at the value, it had at each value that is one with it
+  pub had_at : (old : List (Value × X)) (value : Value) (was : Option X) (v : Value) → lookup (is_at (value_cmp value)) old ≡ was → value_eq v value ≡ true → lookup (is_at (value_cmp v)) old ≡ was
+  had_at old value was v there tied = ap (λ w. lookup (is_at (value_cmp w)) old) (same_value v value tied) ∙ there
+
+module _ (old new : List (Value × BTreeMap ℕ Bool)) (value : Value) where
+  -- what a test of the mark of a slot tells at each value
+  marks_told : (now : Option (BTreeMap ℕ Bool)) → SetAt old new value now → (v : Value) (s : ℕ) → has_slot new v s ≡ cond (value_eq v value) (is_marked (mark_in now s)) (has_slot old v s)
+  marks_told now sets v s = told_at (λ found. is_marked (mark_in found s)) old new value now sets v
+
+  -- the same at each value, where it is the same at the one that changed
+  pub marks_same : (was now : Option (BTreeMap ℕ Bool)) → lookup (is_at (value_cmp value)) old ≡ was → SetAt old new value now → ((s : ℕ) → is_marked (mark_in now s) ≡ is_marked (mark_in was s))
+      → (v : Value) (s : ℕ) → has_slot new v s ≡ has_slot old v s
+  marks_same was now there sets same v s =
+      marks_told now sets v s ∙ elim (value_eq v value) as (λ b. value_eq v value ≡ b → cond b (is_marked (mark_in now s)) (has_slot old v s) ≡ has_slot old v s) [
+        | true ↦ λ tied. same s ∙ ap (λ found. is_marked (mark_in found s)) (sym (had_at old value was v there tied))
+        | false ↦ λ apart. refl
+      ] refl
+
+  -- one slot more
+  pub marks_put : (was now : BTreeMap ℕ Bool) (slot : ℕ) → lookup (is_at (value_cmp value)) old ≡ Some was → SetAt old new value (Some now)
+      → ((s : ℕ) → is_marked (mark_in (Some now) s) ≡ (s == slot || is_marked (mark_in (Some was) s))) → (v : Value) (s : ℕ) → has_slot new v s ≡ ((value_eq v value && s == slot) || has_slot old v s)
+  marks_put was now slot there sets put v s =
+      marks_told (Some now) sets v s ∙ elim (value_eq v value) as (λ b. value_eq v value ≡ b → cond b (is_marked (mark_in (Some now) s)) (has_slot old v s) ≡ ((b && s == slot) || has_slot old v s)) [
+        | true ↦ λ tied. put s ∙ ap (λ found. s == slot || is_marked (mark_in found s)) (sym (had_at old value (Some was) v there tied))
+        | false ↦ λ apart. refl
+      ] refl
+
+  -- one slot less
+  pub marks_taken : (was now : BTreeMap ℕ Bool) (slot : ℕ) → lookup (is_at (value_cmp value)) old ≡ Some was → SetAt old new value (Some now)
+      → ((s : ℕ) → is_marked (mark_in (Some now) s) ≡ cond (s == slot) false (is_marked (mark_in (Some was) s)))
+      → (v : Value) (s : ℕ) → has_slot new v s ≡ cond (value_eq v value && s == slot) false (has_slot old v s)
+  marks_taken was now slot there sets taken v s =
+      marks_told (Some now) sets v s ∙ elim (value_eq v value) as (λ b. value_eq v value ≡ b → cond b (is_marked (mark_in (Some now) s)) (has_slot old v s) ≡ cond (b && s == slot) false (has_slot old v s)) [
+        | true ↦ λ tied. taken s ∙ ap (λ found. cond (s == slot) false (is_marked (mark_in found s))) (sym (had_at old value (Some was) v there tied))
+        | false ↦ λ apart. refl
+      ] refl
+
+-- where no slot is at a value, none is taken out there
+pub marks_absent : (old : List (Value × BTreeMap ℕ Bool)) (value : Value) (slot : ℕ) → lookup (is_at (value_cmp value)) old ≡ None → (v : Value) (s : ℕ) → has_slot old v s ≡ cond (value_eq v value && s == slot) false (has_slot old v s)
+marks_absent old value slot there v s =
+    elim (value_eq v value) as (λ b. value_eq v value ≡ b → has_slot old v s ≡ cond (b && s == slot) false (has_slot old v s)) [
+      | true ↦ λ tied.
+          let none : has_slot old v s ≡ false = ap (λ found. is_marked (mark_in found s)) (had_at old value None v there tied) in
+          none ∙ sym (ap (cond (s == slot) false) none ∙ either (s == slot))
+      | false ↦ λ apart. refl
+    ] refl
+  where
+    either : (b : Bool) → cond b false false ≡ false
+    either true = refl
+    either false = refl
+
+-- ---- numbers by values
+
+module _ (old new : List (Value × Vec ℕ Global)) (value : Value) where
+  -- the numbers at each value, where those at the one that changed are the same
+  pub touched_same : (was now : Option (Vec ℕ Global)) → lookup (is_at (value_cmp value)) old ≡ was → SetAt old new value now → items_in now ≡ items_in was → (v : Value) → touched_at new v ≡ touched_at old v
+  touched_same was now there sets same v =
+      told_at items_in old new value now sets v ∙ elim (value_eq v value) as (λ b. value_eq v value ≡ b → cond b (items_in now) (touched_at old v) ≡ touched_at old v) [
+        | true ↦ λ tied. same ∙ ap items_in (sym (had_at old value was v there tied))
+        | false ↦ λ apart. refl
+      ] refl
+
+  -- one number more at the value that changed
+  pub touched_more : (was now : Vec ℕ Global) (number : ℕ) → lookup (is_at (value_cmp value)) old ≡ Some was → SetAt old new value (Some now) → now.items ≡ was.items ++ number ∷ []
+      → (v : Value) → touched_at new v ≡ cond (value_eq v value) (touched_at old v ++ number ∷ []) (touched_at old v)
+  touched_more was now number there sets more v =
+      told_at items_in old new value (Some now) sets v
+      ∙ elim (value_eq v value) as (λ b. value_eq v value ≡ b → cond b now.items (touched_at old v) ≡ cond b (touched_at old v ++ number ∷ []) (touched_at old v)) [
+        | true ↦ λ tied. more ∙ ap (λ found. items_in found ++ number ∷ []) (sym (had_at old value (Some was) v there tied))
+        | false ↦ λ apart. refl
+      ] refl
+
+  -- room at another value is there still
+  pub room_apart : (now : Option (Vec ℕ Global)) → SetAt old new value now → (v : Value) → value_eq v value ≡ false → HasRoomAt old v → HasRoomAt new v
+  room_apart now sets v apart room =
+      subst (λ found. IsSomeAnd found (λ numbers. vec_len numbers < vec_capacity numbers)) (sym (sets v ∙ ap (λ b. cond b now (lookup (is_at (value_cmp v)) old)) (turned value v ∙ apart))) room
+
+  -- and at each value, where the one that changed has it still
+  pub room_kept : (was now : Vec ℕ Global) → lookup (is_at (value_cmp value)) old ≡ Some was → SetAt old new value (Some now) → (vec_len was < vec_capacity was → vec_len now < vec_capacity now)
+      → (v : Value) → HasRoomAt old v → HasRoomAt new v
+  room_kept was now there sets kept v room = go (value_eq v value) refl
+    where
+      go : (b : Bool) → value_eq v value ≡ b → HasRoomAt new v
+      go false apart = room_apart (Some now) sets v apart room
+      go true tied =
+          let here : lookup (is_at (value_cmp v)) new ≡ Some now = sets v ∙ ap (λ b. cond b (Some now) (lookup (is_at (value_cmp v)) old)) (turned value v ∙ tied) in
+          subst (λ found. IsSomeAnd found (λ numbers. vec_len numbers < vec_capacity numbers)) (sym here)
+          (kept (subst (λ found. IsSomeAnd found (λ numbers. vec_len numbers < vec_capacity numbers)) (had_at old value (Some was) v there tied) room))

@@ -1,9 +1,0 @@
-use Rattle.std.proofs.Common.{◌≤◌, length}
-use Rattle.version_index.proofs.hits.first_above.Given as goal
-
--- the start is within the log
-abbrev pub invariant-loop-start : goal.invariant-loop-start
-invariant-loop-start l = l.start ≤ length l.entries
-
-abbrev pub decreases-loop-start : goal.decreases-loop-start
-decreases-loop-start l = l.start

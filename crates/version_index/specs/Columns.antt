@@ -1,0 +1,116 @@
+-- What an index by the values of a column keeps.
+use Rattle.std.specs.Prelude.{◌≡◌, ◌<◌, IsSomeAnd, ◌==◌, ◌&&◌, ◌||◌, ◌++◌, ◌∷◌, ℕ, List, [], Bool, true, false, IfSome, IsTrue, Option, Some, None, cond, is_some, length, slice_get, take}
+use Rattle.std.specs.BTreeMap.{BTreeMap, is_at}
+use Rattle.std.specs.Map.{lookup}
+use Rattle.std.specs.Option.{option_and_then}
+use Rattle.std.specs.Ordering.{nat_cmp}
+use Rattle.std.specs.Vec.{vec_capacity, vec_len}
+use Rattle.std.specs.declared.alloc.Global.{Global}
+use Rattle.std.specs.declared.vec.Vec.{Vec}
+use Rattle.rel_base.specs.Tables.{Stamped, write_ref}
+use Rattle.rel_base.specs.Value.{value_cmp, value_eq}
+use Rattle.rel_base.specs.declared.access.Write.{Write}
+use Rattle.rel_base.specs.declared.value.Value.{Value}
+use Rattle.version_index.specs.Chains.{lists_of, slot_of}
+use Rattle.version_index.specs.Left.{left_at}
+use Rattle.version_index.specs.Numbers.{passing}
+use Rattle.version_index.specs.declared.chains.Chains.{Chains}
+use Rattle.version_index.specs.declared.column.Column.{Column}
+
+-- ---- the value of a row in a column
+
+-- the value in a column of a row that may be there, where the row has the column
+abbrev pub cell : ℕ → Option (List Value) → Option Value
+cell column row = option_and_then (λ r. slice_get r column) row
+
+-- whether a value that may be there is a value
+abbrev pub has : Value → Option Value → Bool
+has value None = false
+has value (Some other) = value_eq value other
+
+-- whether a value is there that another is one with
+abbrev pub has_same : Option Value → Option Value → Bool
+has_same None other = false
+has_same (Some value) other = has value other
+
+-- ---- slots by values
+
+-- the mark of a slot among marked slots that may be there. A slot is held with no mark before it is put
+abbrev pub mark_in : Option (BTreeMap ℕ Bool) → ℕ → Option Bool
+mark_in None slot = None
+mark_in (Some slots) slot = lookup (is_at (nat_cmp slot)) slots.entries
+
+abbrev pub mark_of : List (Value × BTreeMap ℕ Bool) → Value → ℕ → Option Bool
+mark_of living value slot = mark_in (lookup (is_at (value_cmp value)) living) slot
+
+abbrev pub is_marked : Option Bool → Bool
+is_marked None = false
+is_marked (Some mark) = mark
+
+-- whether a slot is marked at a value
+abbrev pub has_slot : List (Value × BTreeMap ℕ Bool) → Value → ℕ → Bool
+has_slot living value slot = is_marked (mark_of living value slot)
+
+-- whether a slot is held at a value
+abbrev pub holds_slot : List (Value × BTreeMap ℕ Bool) → Value → ℕ → Bool
+holds_slot living value slot = is_some (mark_of living value slot)
+
+-- ---- numbers by values
+
+abbrev pub items_in : Option (Vec ℕ Global) → List ℕ
+items_in None = []
+items_in (Some numbers) = numbers.items
+
+-- the numbers at a value
+abbrev pub touched_at : List (Value × Vec ℕ Global) → Value → List ℕ
+touched_at touched value = items_in (lookup (is_at (value_cmp value)) touched)
+
+-- there is room for one more number at a value
+abbrev pub HasRoomAt : List (Value × Vec ℕ Global) → Value → Type 0
+HasRoomAt touched value = IsSomeAnd (lookup (is_at (value_cmp value)) touched) (λ numbers. vec_len numbers < vec_capacity numbers)
+
+-- there is room at each value that a row may have
+abbrev pub IsRoomy : List (Value × Vec ℕ Global) → Option Value → Type 0
+IsRoomy touched row = (value : Value) → has value row ≡ true → HasRoomAt touched value
+
+-- ---- what they are of a history
+
+-- whether a write on a table touches a value: it found a row with the value, or has it in its row before or its row after
+abbrev pub touches : ℕ → ℕ → Value → List Stamped → Option Stamped → Bool
+touches table column value past None = false
+touches table column value past (Some stamped) =
+    (table == stamped.1.write.table)
+    && (has value (cell column (left_at (write_ref stamped.1.write) past)) || has value (cell column stamped.1.write.before) || has value (cell column stamped.1.write.after))
+
+-- whether the write of a number does
+abbrev pub touches_at : ℕ → ℕ → Value → List Stamped → ℕ → Bool
+touches_at table column value history number = touches table column value (take number history) (slice_get history number)
+
+-- an index tells of the first writes of a history, as many as are noted, which keys have a row with each value, and which writes touched it
+pub record IsColumn (table : ℕ) (history : List Stamped) (noted : ℕ) (chains : Chains) (column : Column) : Type 0 where
+  pub living : (key : List Value) (slot : ℕ) (value : Value) → slot_of chains key ≡ Some slot
+      → has_slot column.living.entries value slot ≡ has value (cell column.column (left_at (table, key) (take noted history)))
+  pub within : (value : Value) (slot : ℕ) → has_slot column.living.entries value slot ≡ true → slot < length (lists_of chains)
+  pub touched : (value : Value) → touched_at column.touched.entries value ≡ passing (touches_at table column.column value history) noted
+
+-- ---- one more write
+
+-- nothing that an index tells has changed
+pub record IsSameColumn (old new : Column) : Type 0 where
+  pub column : new.column ≡ old.column
+  pub living : (value : Value) (slot : ℕ) → has_slot new.living.entries value slot ≡ has_slot old.living.entries value slot
+  pub touched : (value : Value) → touched_at new.touched.entries value ≡ touched_at old.touched.entries value
+
+-- a write on the key of a slot, which found a row, can be noted without memory
+pub record IsReady (slot : ℕ) (found : Option (List Value)) (write : Write) (column : Column) : Type 0 where
+  pub held : IfSome (cell column.column write.after) (λ value. IsTrue (holds_slot column.living.entries value slot))
+  pub found_room : IsRoomy column.touched.entries (cell column.column found)
+  pub before_room : IsRoomy column.touched.entries (cell column.column write.before)
+  pub after_room : IsRoomy column.touched.entries (cell column.column write.after)
+
+-- the slot of its key is at the value of its row after alone, and its number is the last one at each value that it touches
+pub record IsNotedIn (slot : ℕ) (found : Option (List Value)) (write : Write) (number : ℕ) (old new : Column) : Type 0 where
+  pub column : new.column ≡ old.column
+  pub living : (value : Value) (s : ℕ) → has_slot new.living.entries value s ≡ cond (s == slot) (has value (cell old.column write.after)) (has_slot old.living.entries value s)
+  pub touched : (value : Value) → touched_at new.touched.entries value
+      ≡ cond (has value (cell old.column found) || has value (cell old.column write.before) || has value (cell old.column write.after)) (touched_at old.touched.entries value ++ number ∷ []) (touched_at old.touched.entries value)

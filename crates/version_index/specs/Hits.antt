@@ -1,0 +1,24 @@
+-- The first write that a read hits.
+use Rattle.std.specs.Prelude.{◌≡◌, ◌<◌, ◌≤◌, ℕ, List, Bool, false, true, Option, Some, None}
+use Rattle.std.specs.Option.{option_map}
+use Rattle.rel_base.specs.Tables.{Stamped}
+use Rattle.row_sets.specs.Versions.{Hit}
+use Rattle.version_index.specs.Chain.{IsFirst}
+use Rattle.version_index.specs.Log.{is_hit_between}
+use Rattle.version_index.specs.Numbers.{passes_at}
+use Rattle.version_index.specs.Rows.{write_of}
+use Rattle.version_index.specs.View.{told_of}
+use Rattle.version_index.specs.declared.hits.Watch.{Watch}
+
+-- whether a read hits a write in a block above one height and up to another
+abbrev pub is_watched : Watch → Stamped → Bool
+is_watched watch stamped = is_hit_between watch.def.now watch.read.now watch.after watch.upto stamped
+
+-- the number of the first item from a number on that passes a test
+abbrev pub IsFirstFrom : {X : Type 0} → (X → Bool) → ℕ → List X → Option ℕ → Type 0
+IsFirstFrom test start xs None = (number : ℕ) → start ≤ number → passes_at test xs number ≡ false
+IsFirstFrom test start xs (Some first) = (start ≤ first) × (passes_at test xs first ≡ true) × ((number : ℕ) → start ≤ number → number < first → passes_at test xs number ≡ false)
+
+-- what is told of a hit is told of the first write that the read hits, where there is one
+abbrev pub TellsFirst : Watch → List Stamped → Option Hit → Type 0
+TellsFirst watch history hit = (number : Option ℕ) × IsFirst (is_watched watch) history number × (hit ≡ option_map (told_of watch.def.now watch.read.now) (write_of history number))

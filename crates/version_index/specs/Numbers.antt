@@ -1,0 +1,20 @@
+-- The numbers that pass a test.
+use Rattle.std.specs.Prelude.{ℕ, zero, suc, List, [], ◌∷◌, ◌++◌, Bool, false, cond, Option, Some, None, nat_le, slice_get}
+
+-- the numbers below another that pass a test, rising
+abbrev pub passing : (ℕ → Bool) → ℕ → List ℕ
+passing test zero = []
+passing test (suc number) = passing test number ++ cond (test number) (number ∷ []) []
+
+-- whether an item that may be there passes a test
+abbrev pub passes : {X : Type 0} → (X → Bool) → Option X → Bool
+passes test None = false
+passes test (Some x) = test x
+
+-- whether the item of a number passes a test
+abbrev pub passes_at : {X : Type 0} → (X → Bool) → List X → ℕ → Bool
+passes_at test xs number = passes test (slice_get xs number)
+
+-- the lesser of two numbers
+abbrev pub lesser : ℕ → ℕ → ℕ
+lesser a b = cond (nat_le a b) a b

@@ -1,0 +1,247 @@
+//! Keys that may have a row that a span covers, each with its slot.
+
+ghost use Rattle.std.specs.Prelude.{◌≡◌, ◌<◌, ◌∷◌, [], IfOk, OnOk, length, true};
+ghost use Rattle.std.specs.Range.Bound.{bound_map};
+ghost use Rattle.version_index.specs.Candidates.{Adds, HasSlot, HasSlotAt, IsKeyOf, IsMarked, IsMarkedBetween, IsOwnKeyOf, IsTouchedAbove, IsWrittenFrom, LivesBetween, end_of, is_forward, key_end_of};
+ghost use Rattle.version_index.specs.Columns.{IsColumn};
+ghost use Rattle.version_index.specs.View.{IsView, history_in};
+
+use crate::column::Column;
+use crate::entry::entry_at;
+use crate::living::{Living, Marks};
+use crate::view::TableView;
+use rel_base::{Key, List, NoMemory, Twin, Value};
+use std::alloc::Global;
+use std::ops::Bound;
+
+/// A key that may have a row, with its slot, where it has one.
+pub type Candidate<'a> = (&'a Key, Option<usize>);
+
+/// Adds the key of the write of a number, whose slot is given.
+fn push_key<'a>(
+    view: &TableView<'a>,
+    found: &mut Vec<Candidate<'a>>,
+    number: usize,
+    slot: Option<usize>,
+) -> Result<(), NoMemory>
+    requires within { number < length view.now.entries.now }
+    requires own { HasSlotAt view.now number slot }
+    ensures { OnOk result (Adds view.now.index.now.chains found.old.items found.new.items (IsKeyOf view.now number)) }
+{
+    let key = &entry_at(view.entries, number).placed.write.key;
+    found.push((key, slot))?;
+    Ok(())
+}
+
+/// Adds the key of the write of a number.
+fn add_key_of<'a>(
+    view: &TableView<'a>,
+    found: &mut Vec<Candidate<'a>>,
+    number: usize,
+) -> Result<(), NoMemory>
+    requires { number < length view.now.entries.now }
+    ensures { OnOk result (Adds view.now.index.now.chains found.old.items found.new.items (IsKeyOf view.now number)) }
+{
+    let slot = view
+        .index
+        .chains
+        .slot(&entry_at(view.entries, number).placed.write.key);
+    push_key(view, found, number, slot)
+}
+
+/// Adds the key of a slot.
+fn add_slot<'a>(
+    view: &TableView<'a>,
+    found: &mut Vec<Candidate<'a>>,
+    slot: usize,
+) -> Result<(), NoMemory>
+    requires { IsView view.now }
+    ensures { OnOk result (Adds view.now.index.now.chains found.old.items found.new.items (HasSlot view.now slot)) }
+{
+    match view.index.chains.numbers(Some(slot)).split_last() {
+        None => Ok(()),
+        Some((number, _)) => push_key(view, found, *number, Some(slot)),
+    }
+}
+
+/// Adds the keys of the slots that are marked.
+fn add_marked<'a>(
+    view: &TableView<'a>,
+    found: &mut Vec<Candidate<'a>>,
+    marks: &Marks,
+) -> Result<(), NoMemory>
+    requires { IsView view.now }
+    ensures { OnOk result (Adds view.now.index.now.chains found.old.items found.new.items (IsMarked view.now marks.now)) }
+{
+    for (slot, mark) in marks.iter() {
+        if *mark {
+            add_slot(view, found, *slot)?;
+        }
+    }
+    Ok(())
+}
+
+/// The end of a span that may be there.
+fn end(value: &Option<Value>) -> Bound<&Value>
+    ensures { bound_map (λ v. v.now) result ≡ end_of value.now }
+{
+    match value {
+        None => Bound::Unbounded,
+        Some(value) => Bound::Included(value),
+    }
+}
+
+/// Whether no end of a span is above the other.
+fn is_in_order(low: &Option<Value>, high: &Option<Value>) -> bool
+    ensures { result ≡ is_forward low.now high.now }
+{
+    match (low, high) {
+        (Some(low), Some(high)) => low <= high,
+        _ => true,
+    }
+}
+
+/// Adds the keys of the slots that are marked at a value between the ends of a span, which is in order.
+fn add_range<'a>(
+    view: &TableView<'a>,
+    found: &mut Vec<Candidate<'a>>,
+    living: &Living,
+    low: &Option<Value>,
+    high: &Option<Value>,
+) -> Result<(), NoMemory>
+    requires view { IsView view.now }
+    requires forward { is_forward low.now high.now ≡ true }
+    ensures { OnOk result (Adds view.now.index.now.chains found.old.items found.new.items (IsMarkedBetween view.now living.now.entries low.now high.now)) }
+{
+    for (_, marks) in living.range((end(low), end(high))) {
+        add_marked(view, found, marks)?;
+    }
+    Ok(())
+}
+
+/// Adds the keys of the slots that are marked at a value between the ends of a span.
+pub fn add_living<'a>(
+    view: &TableView<'a>,
+    found: &mut Vec<Candidate<'a>>,
+    living: &Living,
+    low: &Option<Value>,
+    high: &Option<Value>,
+) -> Result<(), NoMemory>
+    requires { IsView view.now }
+    ensures { OnOk result (Adds view.now.index.now.chains found.old.items found.new.items (IsMarkedBetween view.now living.now.entries low.now high.now)) }
+{
+    if is_in_order(low, high) {
+        add_range(view, found, living, low, high)
+    } else {
+        Ok(())
+    }
+}
+
+/// The key of one value.
+fn key_of_value(alloc: Global, value: &Value) -> Result<Key, NoMemory>
+    ensures { IfOk result (λ key. key ≡ value.now ∷ []) }
+{
+    let mut key = List::new(alloc);
+    key.push(value.copy(alloc)?)?;
+    Ok(key)
+}
+
+/// The end of a span that may be there, as one of keys of one value.
+fn key_end(alloc: Global, value: &Option<Value>) -> Result<Bound<Key>, NoMemory>
+    ensures { IfOk result (λ end. end ≡ key_end_of value.now) }
+{
+    match value {
+        None => Ok(Bound::Unbounded),
+        Some(value) => Ok(Bound::Included(key_of_value(alloc, value)?)),
+    }
+}
+
+/// Adds the keys of one value with a row that lie between the ends of a span, which is in order.
+fn add_key_range<'a>(
+    alloc: Global,
+    view: &TableView<'a>,
+    found: &mut Vec<Candidate<'a>>,
+    low: &Option<Value>,
+    high: &Option<Value>,
+) -> Result<(), NoMemory>
+    requires view { IsView view.now }
+    requires forward { is_forward low.now high.now ≡ true }
+    ensures { OnOk result (Adds view.now.index.now.chains found.old.items found.new.items (LivesBetween view.now low.now high.now)) }
+{
+    let ends = (key_end(alloc, low)?, key_end(alloc, high)?);
+    for (key, slot) in view.index.chains.living.range(ends) {
+        found.push((key, Some(*slot)))?;
+    }
+    Ok(())
+}
+
+/// Adds the keys of one value with a row that lie between the ends of a span.
+pub fn add_keys<'a>(
+    alloc: Global,
+    view: &TableView<'a>,
+    found: &mut Vec<Candidate<'a>>,
+    low: &Option<Value>,
+    high: &Option<Value>,
+) -> Result<(), NoMemory>
+    requires { IsView view.now }
+    ensures { OnOk result (Adds view.now.index.now.chains found.old.items found.new.items (LivesBetween view.now low.now high.now)) }
+{
+    if is_in_order(low, high) {
+        add_key_range(alloc, view, found, low, high)
+    } else {
+        Ok(())
+    }
+}
+
+/// Adds the key of the write of a number, where it is on the table.
+fn add_own<'a>(
+    view: &TableView<'a>,
+    found: &mut Vec<Candidate<'a>>,
+    number: usize,
+) -> Result<(), NoMemory>
+    requires { number < length view.now.entries.now }
+    ensures { OnOk result (Adds view.now.index.now.chains found.old.items found.new.items (IsOwnKeyOf view.now number)) }
+{
+    if entry_at(view.entries, number).placed.write.table == view.table {
+        add_key_of(view, found, number)
+    } else {
+        Ok(())
+    }
+}
+
+/// Adds the keys of the writes on the table from a number on.
+pub fn add_from<'a>(
+    view: &TableView<'a>,
+    found: &mut Vec<Candidate<'a>>,
+    start: usize,
+) -> Result<(), NoMemory>
+    ensures { OnOk result (Adds view.now.index.now.chains found.old.items found.new.items (IsWrittenFrom view.now start)) }
+{
+    for number in start..view.entries.len() {
+        add_own(view, found, number)?;
+    }
+    Ok(())
+}
+
+/// Adds the keys of the noted writes that touched a value of a column, in blocks above a height.
+pub fn add_touched<'a>(
+    view: &TableView<'a>,
+    found: &mut Vec<Candidate<'a>>,
+    column: &Column,
+    value: &Value,
+    height: u64,
+) -> Result<(), NoMemory>
+    requires view { IsView view.now }
+    requires column { IsColumn view.now.table (history_in view.now) view.now.noted view.now.index.now.chains column.now }
+    ensures { OnOk result (Adds view.now.index.now.chains found.old.items found.new.items (IsTouchedAbove view.now column.now.column value.now height)) }
+{
+    let mut left = column.numbers(value);
+    while let Some((number, earlier)) = left.split_last() {
+        if entry_at(view.entries, *number).block <= height {
+            return Ok(());
+        }
+        add_key_of(view, found, *number)?;
+        left = earlier;
+    }
+    Ok(())
+}

@@ -1,0 +1,130 @@
+//! Walks along the writes on one key, from the last one back.
+
+ghost use Rattle.std.specs.Prelude.{◌≡◌, ◌≤◌, IfSome, Some, cond, length, take};
+ghost use Rattle.std.specs.Option.{option_map};
+ghost use Rattle.version_index.specs.Chain.{IsFirst, IsLast, IsLastFrom, is_late, is_on, is_seen};
+ghost use Rattle.version_index.specs.Chains.{slot_of};
+ghost use Rattle.version_index.specs.View.{IsBack, IsView, history_in, noted_below};
+
+use crate::entry::{entry_at, is_on_key};
+use crate::view::TableView;
+use rel_base::Key;
+
+/// A write on a key: its number, and those of the noted writes on the key before it.
+#[derive(Clone, Copy)]
+pub struct Back<'a> {
+    pub number: usize,
+    pub left: &'a [usize],
+}
+
+/// The number of the last write on a key in the tail, below a number.
+fn last_in_tail(view: &TableView<'_>, key: &Key, below: usize) -> Option<usize>
+    requires { below ≤ length view.now.entries.now }
+    ensures last { IsLastFrom (is_on (view.now.table, key.now)) view.now.noted (take below (history_in view.now)) result }
+    ensures in_tail { IfSome result (λ number. view.now.noted ≤ number) }
+{
+    let mut end = below;
+    while end > view.noted {
+        if is_on_key(entry_at(view.entries, end - 1), view.table, key) {
+            return Some(end - 1);
+        }
+        end -= 1;
+    }
+    None
+}
+
+/// The last of some noted writes.
+fn last_noted(numbers: &[usize]) -> Option<Back<'_>>
+    ensures { IsBack numbers.now result }
+{
+    match numbers.split_last() {
+        None => None,
+        Some((number, left)) => Some(Back {
+            number: *number,
+            left,
+        }),
+    }
+}
+
+/// The last write on a key below a number. The noted ones below that number are given.
+pub fn last_before<'a>(
+    view: &TableView<'a>,
+    key: &Key,
+    left: &'a [usize],
+    end: usize,
+) -> Option<Back<'a>>
+    requires within { end ≤ length view.now.entries.now }
+    requires left { left.now ≡ noted_below view.now key.now end }
+    ensures last { IsLast (is_on (view.now.table, key.now)) (take end (history_in view.now)) (option_map (λ back. back.number) result) }
+    ensures left { IfSome result (λ back. back.left.now ≡ noted_below view.now key.now back.number) }
+{
+    match last_in_tail(view, key, end) {
+        None => last_noted(left),
+        Some(number) => Some(Back { number, left }),
+    }
+}
+
+/// The last write on a key, whose slot is given.
+pub fn last_on<'a>(view: &TableView<'a>, key: &Key, slot: Option<usize>) -> Option<Back<'a>>
+    requires view { IsView view.now }
+    requires slot { slot ≡ slot_of view.now.index.now.chains key.now }
+    ensures last { IsLast (is_on (view.now.table, key.now)) (history_in view.now) (option_map (λ back. back.number) result) }
+    ensures left { IfSome result (λ back. back.left.now ≡ noted_below view.now key.now back.number) }
+{
+    let numbers = view.index.chains.numbers(slot);
+    last_before(view, key, numbers, view.entries.len())
+}
+
+/// The number of the last write on a key in a block up to a height.
+pub fn last_up_to(
+    view: &TableView<'_>,
+    key: &Key,
+    slot: Option<usize>,
+    height: u64,
+) -> Option<usize>
+    requires view { IsView view.now }
+    requires slot { slot ≡ slot_of view.now.index.now.chains key.now }
+    ensures { IsLast (is_seen (view.now.table, key.now) height) (history_in view.now) result }
+{
+    let mut place = last_on(view, key, slot);
+    while let Some(back) = place {
+        if entry_at(view.entries, back.number).block <= height {
+            return Some(back.number);
+        }
+        place = last_before(view, key, back.left, back.number);
+    }
+    None
+}
+
+/// A number where a test passed, and else what was found behind it.
+pub fn first_of(passes: bool, number: usize, first: Option<usize>) -> Option<usize>
+    ensures { result ≡ cond passes (Some number) first }
+{
+    if passes { Some(number) } else { first }
+}
+
+/// The number of the first write on a key in a block above `after` and up to `upto`. It goes no further back than the first write
+/// above `after`.
+pub fn first_late(
+    view: &TableView<'_>,
+    key: &Key,
+    slot: Option<usize>,
+    after: u64,
+    upto: u64,
+) -> Option<usize>
+    requires view { IsView view.now }
+    requires slot { slot ≡ slot_of view.now.index.now.chains key.now }
+    ensures { IsFirst (is_late (view.now.table, key.now) after upto) (history_in view.now) result }
+{
+    let mut place = last_on(view, key, slot);
+    let mut first = None;
+    while let Some(back) = place {
+        let block = entry_at(view.entries, back.number).block;
+        if block <= after {
+            return first;
+        }
+        first = first_of(block <= upto, back.number, first);
+        place = last_before(view, key, back.left, back.number);
+    }
+    first
+}

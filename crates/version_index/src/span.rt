@@ -1,0 +1,221 @@
+//! The rows of a span.
+
+ghost use Rattle.std.specs.Prelude.{◌≡◌, ◌≤◌, All, Contains, IfOk, IfSome, List, None, OnOk, length, take, true};
+ghost use Rattle.std.specs.List.Sorted.{IsStrictlySortedBy};
+ghost use Rattle.std.specs.Option.{option_copied};
+ghost use Rattle.rel_base.specs.Access.{ReadFits, read_table};
+ghost use Rattle.rel_base.specs.Tables.{HistoryFits, rows, tables_at};
+ghost use Rattle.rel_base.specs.Value.{key_cmp};
+ghost use Rattle.rel_base.specs.declared.access.Read.TheVariants as read;
+ghost use Rattle.rel_base.specs.declared.value.Value.{Value as Cell};
+ghost use Rattle.version_index.specs.Candidates.{Adds, IsCandidate, has_key, only_value};
+ghost use Rattle.version_index.specs.Columns.{IsColumn};
+ghost use Rattle.version_index.specs.Log.{FitsTable, InOrder, history_of};
+ghost use Rattle.version_index.specs.Rows.{rows_of_keys};
+ghost use Rattle.version_index.specs.Span.{HasCellAt, HasKeyAt, IsChangedAbove, IsChangedBetween, IsTouchedSince, IsWantedBy, distinct, is_again, keys_in};
+ghost use Rattle.version_index.specs.View.{IsAsked, IsView, history_in};
+
+use crate::candidates::{Candidate, add_from, add_keys, add_living, add_touched};
+use crate::column::Column;
+use crate::entry::{Entry, entry_at};
+use crate::index::TableIndex;
+use crate::rows::add_key;
+use crate::view::{Look, TableView};
+use rel_base::{Key, List, NoMemory, Seen, Value};
+use std::alloc::Global;
+
+/// The index by the values of a column of a table, where there is one.
+pub fn column_of(columns: &[Column], column: u32) -> Option<&Column>
+    ensures some { IfSome (option_copied result) (λ own. (own.column ≡ column) × Contains columns.now own) }
+    ensures none { option_copied result ≡ None → All (λ own. own.column ≡ column → ⊥) columns.now }
+{
+    for own in columns {
+        if own.column == column {
+            return Some(own);
+        }
+    }
+    None
+}
+
+/// The one value of a span, where it has one.
+pub fn one_value<'a>(low: &'a Option<Value>, high: &Option<Value>) -> Option<&'a Value>
+    ensures { option_copied result ≡ only_value low.now high.now }
+{
+    match (low, high) {
+        (Some(low), Some(high)) if low == high => Some(low),
+        _ => None,
+    }
+}
+
+/// The number of the writes at the start of the log that are in no block above a height. It goes back from the last write.
+pub fn first_above(entries: &[Entry], height: u64) -> usize
+    requires in_order { InOrder (history_of entries.now) }
+    ensures bound { result ≤ length entries.now }
+    ensures low { All (λ stamped. stamped.0 ≤ height) (take result (history_of entries.now)) }
+{
+    let mut start = entries.len();
+    while start > 0 {
+        if entry_at(entries, start - 1).block <= height {
+            return start;
+        }
+        start -= 1;
+    }
+    start
+}
+
+/// Adds the keys of the writes on the table in blocks above a height, and of those of the tail.
+fn add_above<'a>(
+    view: &TableView<'a>,
+    found: &mut Vec<Candidate<'a>>,
+    height: u64,
+) -> Result<(), NoMemory>
+    requires { IsView view.now }
+    ensures { OnOk result (Adds view.now.index.now.chains found.old.items found.new.items (IsChangedAbove view.now height)) }
+{
+    let start = first_above(view.entries, height);
+    add_from(view, found, start.min(view.noted))
+}
+
+/// Adds the keys of the noted writes in blocks above a height that touched a value, and of those of the tail.
+fn add_touching<'a>(
+    view: &TableView<'a>,
+    found: &mut Vec<Candidate<'a>>,
+    column: &Column,
+    value: &Value,
+    height: u64,
+) -> Result<(), NoMemory>
+    requires view { IsView view.now }
+    requires column { IsColumn view.now.table (history_in view.now) view.now.noted view.now.index.now.chains column.now }
+    ensures { OnOk result (Adds view.now.index.now.chains found.old.items found.new.items (IsTouchedSince view.now column.now.column value.now height)) }
+{
+    add_touched(view, found, column, value, height)?;
+    add_from(view, found, view.noted)
+}
+
+/// Adds the keys that may have lost a row between the ends of a span since the block of a height: those that were written since,
+/// where the span has one value, by a write that touched it.
+fn add_since<'a>(
+    view: &TableView<'a>,
+    found: &mut Vec<Candidate<'a>>,
+    column: &Column,
+    low: &Option<Value>,
+    high: &Option<Value>,
+    height: u64,
+) -> Result<(), NoMemory>
+    requires view { IsView view.now }
+    requires column { IsColumn view.now.table (history_in view.now) view.now.noted view.now.index.now.chains column.now }
+    ensures { OnOk result (Adds view.now.index.now.chains found.old.items found.new.items (IsChangedBetween view.now column.now.column low.now high.now height)) }
+{
+    match one_value(low, high) {
+        None => add_above(view, found, height),
+        Some(value) => add_touching(view, found, column, value, height),
+    }
+}
+
+/// Adds the keys whose row after the block of a height may have a value of a column between the ends of a span, by the index of the
+/// column.
+fn add_by_column<'a>(
+    view: &TableView<'a>,
+    found: &mut Vec<Candidate<'a>>,
+    column: &Column,
+    low: &Option<Value>,
+    high: &Option<Value>,
+    height: u64,
+) -> Result<(), NoMemory>
+    requires view { IsView view.now }
+    requires column { IsColumn view.now.table (history_in view.now) view.now.noted view.now.index.now.chains column.now }
+    ensures { OnOk result (Adds view.now.index.now.chains found.old.items found.new.items (HasCellAt view.now column.now.column low.now high.now height)) }
+{
+    add_living(view, found, &column.living, low, high)?;
+    add_since(view, found, column, low, high, height)
+}
+
+/// Adds the keys of one value between the ends of a span that may have a row after the block of a height.
+fn add_by_key<'a>(
+    alloc: Global,
+    view: &TableView<'a>,
+    found: &mut Vec<Candidate<'a>>,
+    low: &Option<Value>,
+    high: &Option<Value>,
+    height: u64,
+) -> Result<(), NoMemory>
+    requires { IsView view.now }
+    ensures { OnOk result (Adds view.now.index.now.chains found.old.items found.new.items (HasKeyAt view.now low.now high.now height)) }
+{
+    add_keys(alloc, view, found, low, high)?;
+    add_above(view, found, height)
+}
+
+/// Whether a key is the last one.
+fn is_last(last: Option<&Key>, key: &Key) -> bool
+    ensures { result ≡ is_again (option_copied last.entry) key.now }
+{
+    match last {
+        None => false,
+        Some(last) => last.cmp(key).is_eq(),
+    }
+}
+
+/// The rows of keys after the block of a height that a read covers, in the order of the keys. Some keys may stand there more than once.
+fn rows_of_found(
+    alloc: Global,
+    view: &TableView<'_>,
+    look: &Look<'_>,
+    found: &[Candidate<'_>],
+) -> Result<List<Seen>, NoMemory>
+    requires view { IsView view.now }
+    requires look { IsAsked look.now.def.now look.now.read.now view.now }
+    requires found { All (IsCandidate view.now.index.now.chains) found.now }
+    ensures { IfOk result (λ rows. rows ≡ rows_of_keys look.now.def.now look.now.read.now (tables_at look.now.height (history_in view.now)) view.now.table (distinct None (keys_in found.now))) }
+{
+    let mut rows = List::new(alloc);
+    let mut last = None;
+    for (key, slot) in found {
+        if !is_last(last, *key) {
+            add_key(alloc, &mut rows, view, look, *key, *slot)?;
+            last = Some(*key);
+        }
+    }
+    Ok(rows)
+}
+
+/// The keys whose row after the block of a height may have a value of a column between the ends of a span, in order.
+fn keys_of_span<'a>(
+    alloc: Global,
+    view: &TableView<'a>,
+    column: u32,
+    low: &Option<Value>,
+    high: &Option<Value>,
+    height: u64,
+) -> Result<Vec<Candidate<'a>>, NoMemory>
+    requires { IsView view.now }
+    ensures found { IfOk result (λ found. All (IsCandidate view.now.index.now.chains) found.items) }
+    ensures rise { IfOk result (λ found. IsStrictlySortedBy key_cmp (distinct None (keys_in found.items))) }
+    ensures all { IfOk result (λ found. (key : List Cell) → IsWantedBy view.now column low.now high.now height key → has_key found.items key ≡ true) }
+{
+    let mut found = Vec::new(alloc);
+    match column_of(view.index.columns.as_slice(), column) {
+        None => add_by_key(alloc, view, &mut found, low, high, height)?,
+        Some(own) => add_by_column(view, &mut found, own, low, high, height)?,
+    }
+    found.sort()?;
+    Ok(found)
+}
+
+/// The rows after the block of a height whose value in a column lies between the ends of a span, in the order of their keys.
+pub fn rows_of_span(
+    alloc: Global,
+    view: &TableView<'_>,
+    look: &Look<'_>,
+    column: u32,
+    low: &Option<Value>,
+    high: &Option<Value>,
+) -> Result<List<Seen>, NoMemory>
+    requires view { IsView view.now }
+    requires look { IsAsked look.now.def.now look.now.read.now view.now }
+    requires span { look.now.read.now ≡ read.Span view.now.table column low.now high.now }
+    ensures { IfOk result (λ seen. seen ≡ rows look.now.def.now look.now.read.now (tables_at look.now.height (history_in view.now))) }
+{
+    let found = keys_of_span(alloc, view, column, low, high, look.height)?;
+    rows_of_found(alloc, view, look, found.as_slice())
+}
