@@ -1,11 +1,12 @@
 -- What a block in work keeps, as it grows.
-use Rattle.std.proofs.Common.{All, Bool, List, [], ap, arith, false, length, map, subst, sym, true, ◌++◌, ◌+◌, ◌<◌, ◌∙◌, ◌≡◌, ◌≤◌, ◌∷◌, ℕ}
+use Rattle.std.proofs.Common.{All, Bool, List, [], ap, arith, false, length, refl, subst, sym, true, ◌++◌, ◌+◌, ◌<◌, ◌∙◌, ◌≡◌, ◌≤◌, ◌∷◌, ℕ}
 use Rattle.std.proofs.lemmas.List.Elements.{All-append, All-cons, All-map, All-nil, All-same, All-weaker, recursion_from_All}
 use Rattle.std.proofs.lemmas.List.Kept.{AllPairs-cons}
 use Rattle.std.proofs.lemmas.List.{length-append, map-append}
 use Rattle.std.specs.List.{AllByRecursion}
 use Rattle.std.specs.Prelude.{AllPairs, IsTrue}
 use Rattle.block_digest.specs.Codable.{HasFewKey}
+use Rattle.block_directory.specs.Marking.{IsDirectoryOf}
 use Rattle.block_work.specs.Block.{CanCommit, IsConsistent, KeepsEdges, StandInOrder}
 use Rattle.block_work.specs.Causes.{AreOwnEdges}
 use Rattle.block_work.specs.declared.block.BlockInWork.{BlockInWork}
@@ -23,11 +24,9 @@ use Rattle.rw_graph.specs.Fitting.{IsMember, ReadsFit}
 use Rattle.rw_graph.specs.Graph.{has_edge, positions_of, with_position}
 use Rattle.rw_graph.specs.Held.{holds}
 use Rattle.rw_graph.specs.Laws.{places}
-use Rattle.rw_graph.specs.Marking.{marks_of}
 use Rattle.rw_graph.specs.Sets.{AreAmong, is_among}
 use Rattle.rw_graph.specs.declared.edge_set.EdgeSet.{EdgeSet}
 use Rattle.rw_graph.specs.declared.row.Edges.{Edges}
-use Rattle.rw_graph.specs.declared.touch_marks.Marks.{Marks}
 
 -- ---- positions
 
@@ -85,6 +84,14 @@ pub in_order_longer : (tables : List TableDef) (low high higher : ℕ) (committe
 in_order_longer tables low high higher [] are le = omega (arith, are, le)
 in_order_longer tables low high higher (first ∷ rest) are le = (are.0, are.1, are.2, in_order_longer tables first.pos high higher rest are.3 le)
 
+-- there are no more committed transactions than positions
+pub fewer : (tables : List TableDef) (low high : ℕ) (committed : List Committed) → StandInOrder tables low committed high → low + length committed ≤ high
+fewer tables low high [] are = omega (arith, are)
+fewer tables low high (done ∷ rest) are =
+    let others = fewer tables done.pos high rest are.3 in
+    let above = are.0 in
+    omega (arith, others, above)
+
 -- ---- the danger of a transaction
 
 among_set : (set : EdgeSet) (committed : List Committed) (held test : ℕ → Bool) → positions_of set ≡ places committed → ((pos : ℕ) → held pos ≡ test pos) → AreAmong (places committed) test → AreAmong (positions_of set) held
@@ -106,10 +113,6 @@ module _ (tables : List TableDef) (work : BlockInWork) (ran : Ran) (edges : Edge
 
 -- ---- a block that grows
 
--- the marks of committed transactions
-abbrev marks_of_all : List Committed → List Marks
-marks_of_all committed = map (λ done. marks_of done.reads done.writes) committed
-
 abbrev HasFew : Committed → Type 0
 HasFew done = length done.writes ≤ 100000
 
@@ -117,14 +120,15 @@ abbrev HasKey : Told → Type 0
 HasKey told = HasFewKey told.outcome
 
 -- nothing but the room for it has changed
-pub same_consistent : (tables : List TableDef) (old new : BlockInWork) → new.outcomes.items ≡ old.outcomes.items → new.committed.items ≡ old.committed.items → new.marks.items ≡ old.marks.items
+pub same_consistent : (tables : List TableDef) (old new : BlockInWork) → new.outcomes.items ≡ old.outcomes.items → new.committed.items ≡ old.committed.items
+    → ((all : List Committed) → IsDirectoryOf all old.directory → IsDirectoryOf all new.directory)
     → positions_of new.edges ≡ positions_of old.edges → ((from to : ℕ) → has_edge new.edges from to ≡ has_edge old.edges from to) → IsConsistent tables old → IsConsistent tables new
-same_consistent tables old new outcomes committed marks positions edges is = record {
+same_consistent tables old new outcomes committed directory positions edges is = record {
   committed = subst (λ high. StandInOrder tables 0 new.committed.items high) (sym (ap length outcomes)) (subst (λ all. StandInOrder tables 0 all (length old.outcomes.items)) (sym committed) is.committed);
   reads = All-same (λ done. ReadsFit tables done.reads) new.committed.items old.committed.items committed is.reads;
   few = All-same HasFew new.committed.items old.committed.items committed is.few;
   keys = All-same HasKey new.outcomes.items old.outcomes.items outcomes is.keys;
-  marks = marks ∙ is.marks ∙ sym (ap marks_of_all committed);
+  directory = directory new.committed.items (subst (λ all. IsDirectoryOf all old.directory) (sym committed) is.directory);
   edges = record {
     positions = positions ∙ is.edges.positions ∙ sym (ap places committed);
     edges = λ from to. edges from to ∙ is.edges.edges from to ∙ sym (ap (λ all. edge_at tables all from to) committed);
@@ -137,9 +141,9 @@ module _ (tables : List TableDef) (old new : BlockInWork) (is : IsConsistent tab
       All-same HasKey new.outcomes.items (old.outcomes.items ++ told ∷ []) outcomes (All-append HasKey old.outcomes.items (told ∷ []) is.keys (All-cons HasKey told [] key (All-nil HasKey)))
 
   -- a transaction was aborted
-  pub after_abort : (told : Told) → HasFewKey told.outcome → new.outcomes.items ≡ old.outcomes.items ++ told ∷ [] → new.committed ≡ old.committed → new.marks ≡ old.marks → new.edges ≡ old.edges
+  pub after_abort : (told : Told) → HasFewKey told.outcome → new.outcomes.items ≡ old.outcomes.items ++ told ∷ [] → new.committed ≡ old.committed → new.directory ≡ old.directory → new.edges ≡ old.edges
       → IsConsistent tables new
-  after_abort told key outcomes committed marks edges =
+  after_abort told key outcomes committed directory edges =
       let longer : length new.outcomes.items ≡ length old.outcomes.items + 1 = ap length outcomes ∙ length-append old.outcomes.items (told ∷ []) in
       let same : new.committed.items ≡ old.committed.items = ap (λ all. all.items) committed in
       record {
@@ -149,7 +153,7 @@ module _ (tables : List TableDef) (old new : BlockInWork) (is : IsConsistent tab
         reads = All-same (λ done. ReadsFit tables done.reads) new.committed.items old.committed.items same is.reads;
         few = All-same HasFew new.committed.items old.committed.items same is.few;
         keys = more_keys told outcomes key;
-        marks = ap (λ all. all.items) marks ∙ is.marks ∙ sym (ap marks_of_all same);
+        directory = subst (λ kept. IsDirectoryOf new.committed.items kept) (sym directory) (subst (λ done. IsDirectoryOf done old.directory) (sym same) is.directory);
         edges = subst (λ set. KeepsEdges tables new.committed.items set) (sym edges) (subst (λ done. KeepsEdges tables done old.edges) (sym same) is.edges);
       }
 
@@ -167,11 +171,12 @@ module _ (tables : List TableDef) (old new : BlockInWork) (is : IsConsistent tab
   pub after_commit : (id : List ℕ) (pos : ℕ) (ran : Ran) (own : Edges) → CanCommit tables old ran own → pos ≡ length old.outcomes.items + 1
       → new.outcomes.items ≡ old.outcomes.items ++ record { id = id; outcome = outcome.Committed } ∷ []
       → new.committed.items ≡ old.committed.items ++ record { pos = pos; reads = ran.reads; writes = ran.writes } ∷ []
-      → new.marks.items ≡ old.marks.items ++ marks_of ran.reads ran.writes ∷ []
+      → ((all : List Committed) (at : ℕ) → length all ≡ length old.committed.items → IsDirectoryOf all old.directory
+      → IsDirectoryOf (all ++ record { pos = at; reads = ran.reads; writes = ran.writes } ∷ []) new.directory)
       → positions_of new.edges ≡ positions_of old.edges ++ pos ∷ []
       → ((from to : ℕ) → has_edge new.edges from to ≡ with_position (has_edge old.edges) pos (holds own.out) (holds own.into) from to)
       → IsConsistent tables new
-  after_commit id pos ran own can next outcomes more marks positions edges =
+  after_commit id pos ran own can next outcomes more directory positions edges =
       let done : Committed = record { pos = pos; reads = ran.reads; writes = ran.writes } in
       let told : Told = record { id = id; outcome = outcome.Committed } in
       let longer : length new.outcomes.items ≡ pos = ap length outcomes ∙ length-append old.outcomes.items (told ∷ []) ∙ sym next in
@@ -185,21 +190,20 @@ module _ (tables : List TableDef) (old new : BlockInWork) (is : IsConsistent tab
         few = All-same HasFew new.committed.items (old.committed.items ++ done ∷ []) more
             (All-append HasFew old.committed.items (done ∷ []) is.few (All-cons HasFew done [] can.fits.few_writes (All-nil HasFew)));
         keys = more_keys told outcomes tt;
-        marks = marks ∙ ap (λ before. before ++ marks_of ran.reads ran.writes ∷ []) is.marks
-            ∙ sym (map-append (λ (done : Committed). marks_of done.reads done.writes) old.committed.items (done ∷ [])) ∙ sym (ap marks_of_all more);
+        directory = subst (λ all. IsDirectoryOf all new.directory) (sym more) (directory old.committed.items pos refl is.directory);
         edges = subst (λ all. KeepsEdges tables all new.edges) (sym more) (keeps_more pos ran own (omega (arith, next)) can.own positions edges);
       }
 
 -- ---- no transaction yet
 
-pub consistent_at_start : (tables : List TableDef) (work : BlockInWork) → work.outcomes.items ≡ [] → work.committed.items ≡ [] → work.marks.items ≡ [] → positions_of work.edges ≡ []
+pub consistent_at_start : (tables : List TableDef) (work : BlockInWork) → work.outcomes.items ≡ [] → work.committed.items ≡ [] → IsDirectoryOf [] work.directory → positions_of work.edges ≡ []
     → ((from to : ℕ) → has_edge work.edges from to ≡ false) → IsConsistent tables work
-consistent_at_start tables work outcomes none unmarked positions edges = record {
+consistent_at_start tables work outcomes none directory positions edges = record {
   committed = subst (λ all. StandInOrder tables 0 all (length work.outcomes.items)) (sym none) (omega arith);
   reads = All-same (λ done. ReadsFit tables done.reads) work.committed.items [] none (All-nil (λ (done : Committed). ReadsFit tables done.reads));
   few = All-same HasFew work.committed.items [] none (All-nil HasFew);
   keys = All-same HasKey work.outcomes.items [] outcomes (All-nil HasKey);
-  marks = unmarked ∙ sym (ap marks_of_all none);
+  directory = subst (λ all. IsDirectoryOf all work.directory) (sym none) directory;
   edges = record {
     positions = positions ∙ sym (ap places none);
     edges = λ from to. edges from to ∙ sym (ap (λ all. edge_at tables all from to) none);

@@ -13,7 +13,7 @@ use Rattle.node_model.specs.declared.result.BlockResult.{BlockResult}
 use Rattle.node_model.specs.declared.result.Committed.{Committed}
 use Rattle.node_model.specs.declared.result.Told.{Told}
 use Rattle.block_work.proofs.Few.{fitting_few}
-use Rattle.block_work.proofs.Consistent.{rising}
+use Rattle.block_work.proofs.Consistent.{fewer, rising}
 use Rattle.block_work.specs.Block.{IsConsistent, KeepsEdges, StandInOrder}
 use Rattle.block_work.specs.Results.{HasFewWrites, IsWithinLimits, digest_after, placed_at}
 use Rattle.block_work.specs.declared.block.BlockInWork.{BlockInWork}
@@ -122,13 +122,6 @@ result_is tables previous block time outcomes edges list writes same copied rise
     λ i. with_parts block.number (same i) (copied i) (ordered i) (placed i) (digest_of previous (with_parts block.number (same i) (copied i) (ordered i) (placed i) no_digest))
 
 -- ---- a block in work
-
-fewer : (tables : List TableDef) (low high : ℕ) (committed : List Committed) → StandInOrder tables low committed high → low + length committed ≤ high
-fewer tables low high [] are = omega (arith, are)
-fewer tables low high (done ∷ rest) are =
-    let others = fewer tables done.pos high rest are.3 in
-    let above = are.0 in
-    omega (arith, others, above)
 
 each_few : (tables : List TableDef) → All IsSmall tables → (low high : ℕ) (committed : List Committed) → StandInOrder tables low committed high → All (λ done. length done.writes ≤ 100000) committed
     → All HasFewWrites committed

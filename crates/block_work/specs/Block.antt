@@ -1,5 +1,6 @@
 -- What a block in work is, and what it keeps of its committed transactions.
 use Rattle.block_digest.specs.Codable.{HasFewKey}
+use Rattle.block_directory.specs.Marking.{HasRoomFor, IsDirectoryOf}
 use Rattle.block_work.specs.Causes.{AreOwnEdges, RunFits}
 use Rattle.block_work.specs.declared.block.BlockInWork.{BlockInWork}
 use Rattle.node_model.specs.Edges.{edge_at}
@@ -14,7 +15,6 @@ use Rattle.row_sets.specs.Versions.{are_rising}
 use Rattle.rw_graph.specs.Fitting.{ReadsFit}
 use Rattle.rw_graph.specs.Graph.{HasRoomAt, has_edge, positions_of}
 use Rattle.rw_graph.specs.Laws.{places}
-use Rattle.rw_graph.specs.Marking.{AreMarksOf}
 use Rattle.rw_graph.specs.declared.edge_set.EdgeSet.{EdgeSet}
 use Rattle.rw_graph.specs.declared.row.Edges.{Edges}
 use Rattle.std.specs.Prelude.{All, IsTrue, List, [], length, vec_capacity, vec_len, ◌+◌, ◌++◌, ◌<◌, ◌≡◌, ◌≤◌, ◌∷◌, ℕ}
@@ -56,20 +56,20 @@ pub record KeepsEdges (tables : List TableDef) (committed : List Committed) (set
   pub positions : positions_of set ≡ places committed
   pub edges : (from to : ℕ) → has_edge set from to ≡ edge_at tables committed from to
 
--- what it keeps agrees: the committed transactions stand in order below the next position and fit the tables, and the marks and the edges are theirs
+-- what it keeps agrees: the committed transactions stand in order below the next position and fit the tables, and the directory and the edges are theirs
 pub record IsConsistent (tables : List TableDef) (work : BlockInWork) : Type 0 where
   pub committed : StandInOrder tables 0 work.committed.items (length work.outcomes.items)
   pub reads : All (λ done. ReadsFit tables done.reads) work.committed.items
   pub few : All (λ done. length done.writes ≤ 100000) work.committed.items
   pub keys : All (λ told. HasFewKey told.outcome) work.outcomes.items
-  pub marks : AreMarksOf work.committed.items work.marks.items
+  pub directory : IsDirectoryOf work.committed.items work.directory
   pub edges : KeepsEdges tables work.committed.items work.edges
 
 -- there is room for one more transaction
 pub record HasRoom (work : BlockInWork) : Type 0 where
   pub outcomes : vec_len work.outcomes < vec_capacity work.outcomes
   pub committed : vec_len work.committed < vec_capacity work.committed
-  pub marks : vec_len work.marks < vec_capacity work.marks
+  pub directory : HasRoomFor (length work.committed.items) work.directory
   pub edges : HasRoomAt work.edges (length work.outcomes.items + 1)
 
 -- the next transaction may commit with a run and some edges

@@ -8,15 +8,16 @@ ghost use Rattle.node_model.specs.declared.outcome.Outcome.TheVariants as outcom
 ghost use Rattle.proc_syntax.specs.declared.run.Ran.{Ran};
 ghost use Rattle.rel_base.specs.declared.schema.TableDef.{TableDef};
 
+use block_directory::Directory;
 use node_model::{Committed, Outcome, Told};
 use proc_syntax::Block;
 use proc_syntax::run::Ran;
 use rel_base::{Id, NoMemory};
-use rw_graph::{EdgeSet, Edges, Marks, marks_of};
+use rw_graph::{EdgeSet, Edges};
 use std::alloc::Global;
 
 /// A block whose transactions are decided one after another: its number and its time, the outcomes so far, and the transactions that
-/// committed, with the marks of what they read and wrote and the edges between them.
+/// committed, with a directory of what they read and wrote and the edges between them.
 ///
 /// A transaction joins it in two steps: `reserve` takes the room and may want memory, and `abort` or `commit` can not fail.
 #[derive(Drop)]
@@ -25,7 +26,7 @@ pub struct BlockInWork {
     pub time: i64,
     pub outcomes: Vec<Told>,
     pub committed: Vec<Committed>,
-    pub marks: Vec<Marks>,
+    pub directory: Directory,
     pub edges: EdgeSet,
 }
 
@@ -42,7 +43,7 @@ impl BlockInWork {
             time: block.time,
             outcomes: Vec::new(alloc),
             committed: Vec::new(alloc),
-            marks: Vec::new(alloc),
+            directory: Directory::new(alloc),
             edges: EdgeSet::new(alloc),
         }
     }
@@ -57,7 +58,7 @@ impl BlockInWork {
         let pos = self.outcomes.len() as u32 + 1;
         self.outcomes.reserve(1)?;
         self.committed.reserve(1)?;
-        self.marks.reserve(1)?;
+        self.directory.reserve(self.committed.len())?;
         self.edges.reserve(pos)
     }
 
@@ -85,7 +86,8 @@ impl BlockInWork {
     {
         let pos = self.outcomes.len() as u32 + 1;
         self.edges.add_reserved(pos, edges);
-        self.marks.push_reserved(marks_of(&ran.reads, &ran.writes));
+        let number = self.committed.len();
+        self.directory.add(number, &ran.reads, &ran.writes);
         self.committed.push_reserved(Committed {
             pos,
             reads: ran.reads,

@@ -2,6 +2,7 @@
 
 ghost use Rattle.std.specs.Prelude.{◌≡◌, ◌<◌, ◌≤◌, ◌^◌, ◌-◌, All, IfOk, length, map};
 ghost use Rattle.std.specs.Option.{option_map};
+ghost use Rattle.block_directory.specs.Marking.{IsDirectoryOf};
 ghost use Rattle.block_work.specs.Block.{IsConsistent};
 ghost use Rattle.block_work.specs.Causes.{AreOwnEdges, IsVerdictOn, RunFits, before_edges, outcome_of, outcome_of_late};
 ghost use Rattle.conflict_rules.specs.Late.{overtaken_of};
@@ -14,12 +15,12 @@ ghost use Rattle.rel_base.specs.Tables.{HistoryFits, writes_between};
 
 use crate::block::BlockInWork;
 use crate::verdict::Verdict;
-use conflict_rules::{LateRef, first_conflict, late};
-use node_model::{Clash, Committed, Late, Outcome};
+use conflict_rules::{LateRef, late};
+use node_model::{Clash, Late, Outcome};
 use proc_syntax::run::{Ending, Ran};
 use rel_base::{List, Made, NoMemory, TableDef, Twin, Write};
 use row_sets::Versions;
-use rw_graph::{Edges, danger, edges_among};
+use rw_graph::{Edges, danger};
 use std::alloc::Global;
 
 // The outcome of a late read, with a copy of its key.
@@ -69,12 +70,16 @@ fn find_fault(alloc: Global, ending: &Ending) -> Result<Option<Outcome>, NoMemor
 // Whether a transaction that committed earlier in the block wrote a key of the writes.
 fn find_conflict(
     alloc: Global,
-    committed: &[Committed],
+    work: &BlockInWork,
     writes: &List<Write>,
 ) -> Result<Option<Outcome>, NoMemory>
-    ensures { IfOk result (λ found. found ≡ conflict_outcome writes.now (clash committed.now writes.now)) }
+    requires directory { IsDirectoryOf work.now.committed.items work.now.directory }
+    ensures { IfOk result (λ found. found ≡ conflict_outcome writes.now (clash work.now.committed.items writes.now)) }
 {
-    match first_conflict(committed, writes.as_slice()) {
+    let found = work
+        .directory
+        .conflict(work.committed.as_slice(), writes.as_slice());
+    match found {
         None => Ok(None),
         Some(found) => match writes.get(found.index) {
             None => Ok(None),
@@ -97,6 +102,7 @@ pub fn find_cause<V: Versions>(
 ) -> Result<Option<Outcome>, NoMemory>
     requires number { 0 < work.now.number }
     requires fits { RunFits (V.tables versions.now) ran.now }
+    requires directory { IsDirectoryOf work.now.committed.items work.now.directory }
     ensures { IfOk result (λ found. found ≡ before_edges (V.tables versions.now) (writes_between height (work.now.number - 1) (V.history versions.now)) work.now.committed.items ran.now) }
 {
     if let Some(outcome) = find_late(alloc, versions, &ran.reads, height, work.number - 1)? {
@@ -105,7 +111,7 @@ pub fn find_cause<V: Versions>(
     if let Some(outcome) = find_fault(alloc, &ran.ending)? {
         return Ok(Some(outcome));
     }
-    find_conflict(alloc, work.committed.as_slice(), &ran.writes)
+    find_conflict(alloc, work, &ran.writes)
 }
 
 // The edges of a run to and from the transactions that committed before it in its block.
@@ -116,12 +122,11 @@ fn own_edges(tables: &List<TableDef>, work: &BlockInWork, ran: &Ran) -> Edges
     requires fits { RunFits tables.now ran.now }
     ensures { AreOwnEdges tables.now work.now.committed.items ran.now result }
 {
-    edges_among(
-        tables,
+    work.directory.edges(
+        tables.as_slice(),
         work.committed.as_slice(),
-        work.marks.as_slice(),
-        &ran.reads,
-        &ran.writes,
+        ran.reads.as_slice(),
+        ran.writes.as_slice(),
     )
 }
 

@@ -40,7 +40,8 @@ fn is_shared(others: &[Write], write: &Write) -> bool
     false
 }
 
-fn first_shared(others: &[Write], writes: &[Write]) -> Option<usize>
+/// The place, from 0, of the first of some writes that is of a table and key of others. Takes no memory.
+pub fn first_shared(others: &[Write], writes: &[Write]) -> Option<usize>
     ensures { result ≡ first_shared others.now writes.now }
 {
     for (index, write) in writes.iter().enumerate() {

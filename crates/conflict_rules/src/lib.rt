@@ -5,6 +5,6 @@ pub mod clash;
 pub mod find_late;
 pub mod overtaken;
 
-pub use clash::{ClashRef, first_conflict, write_conflict};
+pub use clash::{ClashRef, first_conflict, first_shared, write_conflict};
 pub use find_late::late;
 pub use overtaken::LateRef;

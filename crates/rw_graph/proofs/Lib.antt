@@ -1,11 +1,11 @@
 pub mod Cases
 pub mod Words
+pub mod WordAdded
 pub mod Places
 pub mod Marked
 pub mod Members
 pub mod Joined
 pub mod Noted
-pub mod Apart
 pub mod Found
 pub mod Forms
 pub mod Lists

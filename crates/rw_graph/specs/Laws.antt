@@ -6,9 +6,7 @@ use Rattle.rel_base.specs.declared.access.Made.{Made}
 use Rattle.rel_base.specs.declared.access.Write.{Write}
 use Rattle.rel_base.specs.declared.schema.TableDef.{TableDef}
 use Rattle.rw_graph.specs.Graph.{with_position}
-use Rattle.rw_graph.specs.Marking.{AreMarksOf, marks_of}
 use Rattle.rw_graph.specs.Sets.{AreAmong}
-use Rattle.rw_graph.specs.declared.touch_marks.Marks.{Marks}
 use Rattle.std.specs.Prelude.{All, AllPairs, List, map, [], ◌++◌, ◌<◌, ◌≡◌, ◌∷◌, ℕ}
 
 -- the positions of committed transactions
@@ -35,8 +33,3 @@ abbrev pub EdgesGrow : Type 0
 EdgesGrow = (tables : List TableDef) (committed : List Committed) (done : Committed) → All (λ earlier. earlier.pos < done.pos) committed → (from to : ℕ)
     → with_position (edge_at tables committed) done.pos (leads_to tables committed done.reads) (comes_from tables committed done.writes) from to
     ≡ edge_at tables (committed ++ done ∷ []) from to
-
--- when one more commits, its marks come behind those of the others
-abbrev pub MarksGrow : Type 0
-MarksGrow = (committed : List Committed) (marks : List Marks) (done : Committed) → AreMarksOf committed marks
-    → AreMarksOf (committed ++ done ∷ []) (marks ++ marks_of done.reads done.writes ∷ [])

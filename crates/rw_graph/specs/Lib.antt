@@ -3,6 +3,4 @@ pub mod Held
 pub mod Sides
 pub mod Graph
 pub mod Fitting
-pub mod Hashing
-pub mod Marking
 pub mod Laws

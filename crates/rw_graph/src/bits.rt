@@ -1,8 +1,8 @@
 //! Sets of positions.
 
-ghost use Rattle.std.specs.Prelude.{ℕ, ◌≡◌, ◌<◌, ◌≤◌, ◌&&◌, ◌||◌, IfSome, false};
+ghost use Rattle.std.specs.Prelude.{ℕ, ◌≡◌, ◌<◌, ◌≤◌, ◌&&◌, ◌||◌, ◌-◌, ◌/◌, ◌%◌, IfSome, false, nat_lt};
 ghost use Rattle.std.specs.Bool.{nat_eq};
-ghost use Rattle.rw_graph.specs.Sets.{IsLeastFrom, has_bit};
+ghost use Rattle.rw_graph.specs.Sets.{IsLeastFrom, has_bit, is_one};
 
 use crate::word::{is_one, least_one, with_one};
 
@@ -66,6 +66,14 @@ impl Bits {
         if asked {
             self.add(pos);
         }
+    }
+
+    /// Puts in the positions of a word: its bit b stands for position 64 * index + b + 1.
+    pub fn add_word(&mut self, index: usize, word: u64)
+        requires { index < 16 }
+        ensures { (pos : ℕ) → holds self.new pos ≡ ((nat_lt 0 pos && (nat_eq ((pos - 1) / 64) index && is_one word ((pos - 1) % 64))) || holds self.old pos) }
+    {
+        self.0[index] |= word;
     }
 
     /// The least position that it holds, from one on.

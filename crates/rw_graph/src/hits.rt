@@ -8,10 +8,8 @@ ghost use Rattle.rel_base.specs.Among.{ReadFitsIn, WriteFitsIn};
 ghost use Rattle.rel_base.specs.Late.{hits_in};
 ghost use Rattle.rw_graph.specs.Held.{holds};
 ghost use Rattle.rw_graph.specs.Fitting.{IsMember, ReadsFit, WritesFit};
-ghost use Rattle.rw_graph.specs.Marking.{AreMarksOf, marks_of, read_mark, united, write_mark};
 
 use crate::row::{Edges, no_edges};
-use crate::touch_marks::{Marks, marks_of};
 use node_model::Committed;
 use rel_base::{List, Made, Read, TableDef, Write};
 
@@ -41,8 +39,8 @@ fn hits_some(tables: &[TableDef], read: &Read, writes: &[Write]) -> bool
     false
 }
 
-// Whether some read hits some write.
-fn touches(tables: &[TableDef], reads: &[Made], writes: &[Write]) -> bool
+/// Whether some read hits some write. Takes no memory.
+pub fn touches(tables: &[TableDef], reads: &[Made], writes: &[Write]) -> bool
     requires reads { ReadsFit tables.now reads.now }
     requires writes { WritesFit tables.now writes.now }
     ensures { result ≡ touches tables.now reads.now writes.now }
@@ -91,82 +89,6 @@ pub fn edges_of(
             done,
             reads.as_slice(),
             writes.as_slice(),
-        );
-    }
-    edges
-}
-
-// Whether some read of one transaction hits some write of another. Where no bit is common, their reads and writes are not looked at.
-fn touches_marked(
-    tables: &[TableDef],
-    reads: &[Made],
-    writes: &[Write],
-    reader: &Marks,
-    writer: &Marks,
-) -> bool
-    requires reads { ReadsFit tables.now reads.now }
-    requires writes { WritesFit tables.now writes.now }
-    requires reader { reader.now.reads ≡ united (λ made. read_mark made.read) reads.now }
-    requires writer { writer.now.writes ≡ united write_mark writes.now }
-    ensures { result ≡ touches tables.now reads.now writes.now }
-{
-    if !reader.may_hit(writer) {
-        return false;
-    }
-    touches(tables, reads, writes)
-}
-
-// Notes the edges between a transaction and one that committed before it, where the marks of both are known.
-fn note_marked(
-    edges: &mut Edges,
-    tables: &[TableDef],
-    done: &Committed,
-    done_marks: &Marks,
-    reads: &[Made],
-    writes: &[Write],
-    own: &Marks,
-)
-    requires done { IsMember tables.now done.now }
-    requires done_marks { done_marks.now ≡ marks_of done.now.reads done.now.writes }
-    requires reads { ReadsFit tables.now reads.now }
-    requires writes { WritesFit tables.now writes.now }
-    requires own { own.now ≡ marks_of reads.now writes.now }
-    ensures out { (pos : ℕ) → holds edges.new.out pos ≡ ((touches tables.now reads.now done.now.writes && nat_eq pos done.now.pos) || holds edges.old.out pos) }
-    ensures into { (pos : ℕ) → holds edges.new.into pos ≡ ((touches tables.now done.now.reads writes.now && nat_eq pos done.now.pos) || holds edges.old.into pos) }
-{
-    let touched = touches_marked(tables, reads, done.writes.as_slice(), own, done_marks);
-    edges.out.add_if(touched, done.pos);
-    let touching = touches_marked(tables, done.reads.as_slice(), writes, done_marks, own);
-    edges.into.add_if(touching, done.pos);
-}
-
-/// The same edges as those of `edges_of`, with less work: the marks of the committed transactions, in their order, tell those that
-/// a transaction can't touch. Takes no memory.
-pub fn edges_among(
-    tables: &List<TableDef>,
-    committed: &[Committed],
-    marks: &[Marks],
-    reads: &List<Made>,
-    writes: &List<Write>,
-) -> Edges
-    requires committed { All (IsMember tables.now) committed.now }
-    requires marks { AreMarksOf committed.now marks.now }
-    requires reads { ReadsFit tables.now reads.now }
-    requires writes { WritesFit tables.now writes.now }
-    ensures out { (pos : ℕ) → holds result.out pos ≡ leads_to tables.now committed.now reads.now pos }
-    ensures into { (pos : ℕ) → holds result.into pos ≡ comes_from tables.now committed.now writes.now pos }
-{
-    let own = marks_of(reads, writes);
-    let mut edges = no_edges();
-    for (done, done_marks) in committed.iter().zip(marks) {
-        note_marked(
-            &mut edges,
-            tables.as_slice(),
-            done,
-            done_marks,
-            reads.as_slice(),
-            writes.as_slice(),
-            &own,
         );
     }
     edges

@@ -1,0 +1,4 @@
+pub mod Idle
+pub mod Looked
+pub mod Marks
+pub mod Passed
