@@ -4,6 +4,7 @@ ghost use Rattle.std.specs.Prelude.{◌≡◌, ◌+◌, IfOk, length, map};
 ghost use Rattle.node_core.specs.Fresh.{fresh_in, needs_none};
 
 use crate::answers::Delivered;
+use crate::arriving::share_tx;
 use crate::jobs::Jobs;
 use crate::known::has_id;
 use crate::node::NodeCore;
@@ -35,6 +36,25 @@ fn copy_block(alloc: Global, block: &Block) -> Result<Block, NoMemory>
     }
 }
 
+/// A copy of a block, in memory of its own.
+pub fn share_block(alloc: Global, block: &Block) -> Result<Arc<Block>, NoMemory>
+    ensures { IfOk result (λ shared. shared.value ≡ block.now) }
+{
+    let shared = Arc::new(alloc, copy_block(alloc, block)?)?;
+    Ok(shared)
+}
+
+/// Copies of some transactions, each in memory of its own.
+pub fn share_txs(alloc: Global, txs: &[Tx]) -> Result<Vec<Arc<Tx>>, NoMemory>
+    ensures { IfOk result (λ shared. map (λ tx. tx.value) shared.items ≡ txs.now) }
+{
+    let mut shared = Vec::new(alloc);
+    for tx in txs {
+        shared.push(share_tx(alloc, tx)?)?;
+    }
+    Ok(shared)
+}
+
 // Whether a transaction of the block of a number, with some before it, has a cause that is known without a run, or a job.
 fn needs_none(
     app: &Checked,
@@ -50,23 +70,23 @@ fn needs_none(
     early_cause(app, known, number, tx).is_some() || jobs.find(tx).is_some()
 }
 
-// The transactions of the block of a number that need a job, each in memory of its own.
+// Of the transactions of a block, which are shared one by one, those that need a job.
 fn fresh_txs(
     alloc: Global,
     app: &Checked,
     ids: &IdIndex,
     jobs: &Jobs,
-    number: u64,
-    txs: &[Tx],
+    block: &Block,
+    shared: &[Arc<Tx>],
 ) -> Result<Vec<Arc<Tx>>, NoMemory>
-    ensures { IfOk result (λ made. map (λ tx. tx.value) made.items ≡ fresh_in app.now.app ids.now jobs.now number txs.now 0 txs.now) }
+    requires { map (λ tx. tx.value) shared.now ≡ block.now.txs }
+    ensures { IfOk result (λ made. map (λ tx. tx.value) made.items ≡ fresh_in app.now.app ids.now jobs.now block.now.number block.now.txs 0 block.now.txs) }
 {
+    let txs = block.txs.as_slice();
     let mut made = Vec::new(alloc);
     for i in 0..txs.len() {
-        if !needs_none(app, ids, jobs, number, &txs[..i], &txs[i]) {
-            let tx = txs[i].copy(alloc)?;
-            let shared = Arc::new(alloc, tx)?;
-            made.push(shared)?;
+        if !needs_none(app, ids, jobs, block.number, &txs[..i], &txs[i]) {
+            made.push(shared[i].clone()?)?;
         }
     }
     Ok(made)
@@ -84,6 +104,24 @@ impl<V: Versions> NodeCore<V> {
         ensures step { IfOk result (λ got. Delivers self.old actor block.now (delivered_as got) self.new) }
         ensures err { OnErr result (self.new ≡ self.old) }
     {
+        let shared = share_block(self.alloc, block)?;
+        let txs = share_txs(self.alloc, block.txs.as_slice())?;
+        self.deliver_shared(actor, &shared, txs.as_slice())
+    }
+
+    /// The same of a block in memory of its own, beside its transactions one by one, of which the node shares the block and those that need
+    /// a job. No copy is made.
+    pub fn deliver_shared(
+        &mut self,
+        actor: u32,
+        block: &Arc<Block>,
+        txs: &[Arc<Tx>],
+    ) -> Result<Delivered, NoMemory>
+        requires processor { actor ≡ 0 }
+        requires txs { map (λ tx. tx.value) txs.now ≡ block.now.value.txs }
+        ensures step { IfOk result (λ got. Delivers self.old actor block.now.value (delivered_as got) self.new) }
+        ensures err { OnErr result (self.new ≡ self.old) }
+    {
         if let Some(working) = &self.work {
             return Ok(Delivered::InWork {
                 number: working.block.number,
@@ -93,15 +131,15 @@ impl<V: Versions> NodeCore<V> {
         if block.number != expected {
             return Ok(Delivered::NotNext { expected });
         }
-        let shared = Arc::new(self.alloc, copy_block(self.alloc, block)?)?;
-        let noted = shared.clone()?;
+        let shared = block.clone()?;
+        let noted = block.clone()?;
         let fresh = fresh_txs(
             self.alloc,
             &self.chain.app,
             &self.ids,
             &self.jobs,
-            block.number,
-            block.txs.as_slice(),
+            block,
+            txs,
         )?;
         make_room(&mut self.journal, 1, self.jobs.held())?;
         self.jobs.add_all(fresh)?;

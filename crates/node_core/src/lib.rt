@@ -23,5 +23,7 @@ pub mod work;
 pub mod working;
 
 pub use answers::{Arrived, Decided, Delivered, Finished, Got, Looked, Next, Sealed};
+pub use arriving::share_tx;
+pub use delivering::{share_block, share_txs};
 pub use node::NodeCore;
 pub use work::Work;

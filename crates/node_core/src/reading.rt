@@ -137,13 +137,19 @@ impl<V: Versions> NodeCore<V> {
         requires held { IsHeld self.old work }
         ensures { Steps self.old work.actor (ToRelease work.job) Released self.new }
     {
+        self.give_up(&work);
+    }
+
+    /// The same of a work that its caller drops.
+    pub fn give_up(&mut self, work: &Work)
+        requires held { IsHeld self.old work.now }
+        ensures { Steps self.old work.now.actor (ToRelease work.now.job) Released self.new }
+    {
         let height = self.chain.height();
         let settled = settled_in(&self.ids, height, work.id());
         let job = work.job();
-        let actor = work.actor();
-        drop(work);
         self.journal.push_reserved(Entry {
-            actor,
+            actor: work.actor(),
             event: Event::Release { job },
         });
         give_back(&mut self.jobs, job, settled);

@@ -15,6 +15,7 @@ use turn_lock::{Pass, TurnLock};
 #[derive(Drop)]
 pub struct SharedNode<V: Versions> {
     pub(crate) lock: TurnLock<NodeCore<V>>,
+    pub(crate) alloc: Global,
 }
 
 /// One caller's pass to a node.
@@ -28,7 +29,7 @@ impl<V: Versions> SharedNode<V> {
         ensures pass { IfOk result (λ made. IsNewPass made.0.lock made.1 0 core.app []) }
     {
         let (lock, pass) = TurnLock::new(alloc, core)?;
-        Ok((SharedNode { lock }, pass))
+        Ok((SharedNode { lock, alloc }, pass))
     }
 
     /// A new pass for another caller, which has seen what this one has. Only the processor's pass splits.

@@ -102,7 +102,7 @@ impl<V: Versions> SharedNode<V> {
         answer
     }
 
-    /// Gives a held work of the pass up. Takes no memory.
+    /// Gives a held work of the pass up. Takes no memory, and drops the work after the turn.
     pub fn release<R: Wait>(&self, rt: &R, pass: &mut NodePass<V>, work: Work)
         requires lock { IsPassOf self.now.lock pass.old }
         requires no_turn { HoldsNoTurn pass.old }
@@ -116,7 +116,7 @@ impl<V: Versions> SharedNode<V> {
         let _ = pass.number();
         let mut core = self.lock.take(rt, pass);
         let _ = core.journal_len();
-        core.release(work);
+        core.give_up(&work);
         let _ = core.journal_len();
         self.lock.give(pass, core);
     }

@@ -5,8 +5,8 @@ use Rattle.node_shared.specs.Turn.{IsFound}
 use Rattle.node_shared.proofs.Turns.{found_held}
 use Rattle.node_shared.proofs.shared.SharedNode.release.Goals as goal
 
-pub release-requires : goal.release-requires
-release-requires g c =
+pub give_up-requires : goal.give_up-requires
+give_up-requires g c =
     let p = c.args.pass.now in
     let s = c.take-core.result in
     let base : s.app ≡ pass_base p = c.take-core.ensures.base in

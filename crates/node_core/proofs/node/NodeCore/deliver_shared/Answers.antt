@@ -11,43 +11,43 @@ use Rattle.node_model.specs.Steps.{InWork, NotNext, Taken}
 use Rattle.node_model.specs.declared.journal.Event.TheVariants.{Deliver}
 use Rattle.proc_syntax.specs.Declaring.{tables_of}
 use Rattle.proc_syntax.specs.declared.call.Block.{Block}
-use Rattle.node_core.proofs.node.NodeCore.deliver.Goals as goal
+use Rattle.node_core.proofs.node.NodeCore.deliver_shared.Goals as goal
 
 pub returns-in-Some-clause-step : goal.returns-in-Some-clause-step
 returns-in-Some-clause-step g c =
     let s = c.self.inside in
     let here : s.work ≡ Some c.in-Some.working = search rules in
-    subst (λ (b : Block). Delivers c.args.self.now c.args.actor c.args.block.now (InWork b.number) c.args.self.now) (sym c.deref.ensures)
-    (subst (λ (core : Core). Delivers core c.args.actor c.args.block.now (InWork c.in-Some.working.block.value.number) core) c.self.view_is
-    (deliver_in_work _ c.self.invariant.0 c.args.actor c.in-Some.working (record { ptr = s.chain.app.ptr; value = c.args.block.now }) here))
+    subst (λ (b : Block). Delivers c.args.self.now c.args.actor c.args.block.now.value (InWork b.number) c.args.self.now) (sym c.deref.ensures)
+    (subst (λ (core : Core). Delivers core c.args.actor c.args.block.now.value (InWork c.in-Some.working.block.value.number) core) c.self.view_is
+    (deliver_in_work _ c.self.invariant.0 c.args.actor c.in-Some.working (record { ptr = s.chain.app.ptr; value = c.args.block.now.value }) here))
 
-pub returns-then-block-expected-clause-step : goal.returns-then-block-expected-clause-step
-returns-then-block-expected-clause-step g c =
+pub returns-then-deref-expected-clause-step : goal.returns-then-deref-expected-clause-step
+returns-then-deref-expected-clause-step g c =
     let s = c.self.inside in
     let none : s.work ≡ None = search rules in
     let next : c.next_number-expected.result ≡ length s.chain.blocks + 1 = search rules in
-    let other : (c.args.block.now.number == c.next_number-expected.result) ≡ false = search rules in
-    subst (λ (core : Core). Delivers core c.args.actor c.args.block.now (NotNext c.next_number-expected.result) core) c.self.view_is
-    (deliver_not_next _ c.self.invariant.0 c.args.actor (record { ptr = s.chain.app.ptr; value = c.args.block.now }) c.next_number-expected.result none next other)
+    let other : (c.args.block.now.value.number == c.next_number-expected.result) ≡ false = search rules in
+    subst (λ (core : Core). Delivers core c.args.actor c.args.block.now.value (NotNext c.next_number-expected.result) core) c.self.view_is
+    (deliver_not_next _ c.self.invariant.0 c.args.actor (record { ptr = s.chain.app.ptr; value = c.args.block.now.value }) c.next_number-expected.result none next other)
 
 pub invariant_of-self-2 : goal.invariant_of-self-2
 invariant_of-self-2 g c =
     let s = c.self.inside in
     let none : s.work ≡ None = search rules in
-    let shared : c.in_ok-shared.shared.value ≡ c.args.block.now = search rules in
-    let noted : c.in_ok-noted.noted.value ≡ c.args.block.now = search rules in
-    let next : c.args.block.now.number ≡ length s.chain.blocks + 1 = search rules in
+    let shared : c.in_ok-shared.shared.value ≡ c.args.block.now.value = search rules in
+    let noted : c.in_ok-noted.noted.value ≡ c.args.block.now.value = search rules in
+    let next : c.args.block.now.value.number ≡ length s.chain.blocks + 1 = search rules in
     let more : c.push_reserved.new.self.items ≡ s.journal.items ++ record { actor = c.args.actor; event = Deliver c.in_ok-noted.noted } ∷ [] = search rules in
-    let made : map (λ tx. tx.value) c.in_ok-fresh.fresh.items ≡ fresh_in s.chain.app.value.app s.ids s.jobs c.args.block.now.number c.args.block.now.txs 0 c.args.block.now.txs = search rules in
+    let made : map (λ tx. tx.value) c.in_ok-fresh.fresh.items ≡ fresh_in s.chain.app.value.app s.ids s.jobs c.args.block.now.value.number c.args.block.now.value.txs 0 c.args.block.now.value.txs = search rules in
     let rows : c.add_all.new.self ≡ s.jobs ++ map new_row c.in_ok-fresh.fresh.items = search rules in
-    let begun : work_of c.new-2.result ≡ no_work = search rules in
-    let number : c.new-2.result.number ≡ c.args.block.now.number = search rules in
-    let time : c.new-2.result.time ≡ c.args.block.now.time = search rules in
+    let begun : work_of c.new.result ≡ no_work = search rules in
+    let number : c.new.result.number ≡ c.args.block.now.value.number = search rules in
+    let time : c.new.result.time ≡ c.args.block.now.value.time = search rules in
     let fits : vec_len c.push_reserved.new.self + count_held s.jobs ≤ vec_capacity c.push_reserved.new.self = search rules in
     let counted : count_held c.add_all.new.self ≡ count_held s.jobs = ap count_held rows ∙ count_many s.jobs c.in_ok-fresh.fresh.items in (
       deliver_kept _ c.self.invariant.0 c.args.actor none c.requires.processor c.in_ok-shared.shared c.in_ok-noted.noted (shared ∙ sym noted) (ap (λ (b : Block). b.number) noted ∙ next) c.push_reserved.new.self.items more
-          (record { block = c.in_ok-shared.shared; done = c.new-2.result }) c.in_ok-fresh.fresh.items c.add_all.new.self (shared ∙ sym noted) begun
-          (record { number = number ∙ sym (ap (λ (b : Block). b.number) shared); time = time ∙ sym (ap (λ (b : Block). b.time) shared); consistent = c.new-2.ensures.consistent (tables_of s.chain.app.value.app) })
+          (record { block = c.in_ok-shared.shared; done = c.new.result }) c.in_ok-fresh.fresh.items c.add_all.new.self (shared ∙ sym noted) begun
+          (record { number = number ∙ sym (ap (λ (b : Block). b.number) shared); time = time ∙ sym (ap (λ (b : Block). b.time) shared); consistent = c.new.ensures.consistent (tables_of s.chain.app.value.app) })
           (made ∙ ap (λ (b : Block). fresh_in s.chain.app.value.app s.ids s.jobs b.number b.txs 0 b.txs) (sym noted)) rows,
       omega (arith, fits, counted),
     )
@@ -56,9 +56,9 @@ pub returns-clause-step : goal.returns-clause-step
 returns-clause-step g c =
     let s = c.self.inside in
     let none : s.work ≡ None = search rules in
-    let shared : c.in_ok-shared.shared.value ≡ c.args.block.now = search rules in
-    let noted : c.in_ok-noted.noted.value ≡ c.args.block.now = search rules in
-    let next : c.args.block.now.number ≡ length s.chain.blocks + 1 = search rules in
+    let shared : c.in_ok-shared.shared.value ≡ c.args.block.now.value = search rules in
+    let noted : c.in_ok-noted.noted.value ≡ c.args.block.now.value = search rules in
+    let next : c.args.block.now.value.number ≡ length s.chain.blocks + 1 = search rules in
     let more : c.push_reserved.new.self.items ≡ s.journal.items ++ record { actor = c.args.actor; event = Deliver c.in_ok-noted.noted } ∷ [] = search rules in
     subst (λ (b : Block). Delivers c.args.self.now c.args.actor b Taken (record { app = s.chain.app.value.app; journal = c.push_reserved.new.self.items })) noted
     (subst (λ (core : Core). Delivers core c.args.actor c.in_ok-noted.noted.value Taken (record { app = s.chain.app.value.app; journal = c.push_reserved.new.self.items })) c.self.view_is
