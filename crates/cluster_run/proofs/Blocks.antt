@@ -1,10 +1,10 @@
 -- The turns of the processor with blocks.
 use Rattle.std.proofs.Common.{Bool, Err, IfOk, List, None, Ok, OnErr, OnOk, Option, Result, Some, [], ap, append-nil, arith, cond, false, inl, inr, length, map, refl, subst, sym, true, ◌+◌, ◌++◌, ◌==◌, ◌∙◌, ◌≡◌, ◌∷◌, ℕ}
 use Rattle.std.proofs.lemmas.Bool.{eq-eqb, false≢true}
-use Rattle.std.proofs.lemmas.Option.{none-some, same_Some}
+use Rattle.std.proofs.lemmas.Option.{none-some}
 use Rattle.std.specs.Option.{option_and_then}
 use Rattle.cluster_run.proofs.Quiet.{step_blocks}
-use Rattle.cluster_run.proofs.Turning.{answer_is, at, at_work, event, finds_none, found_later, look_blocks, look_none, step_delivers, step_none, step_state}
+use Rattle.cluster_run.proofs.Turning.{answer_is, at_work, finds_none, found_later, look_blocks, look_none, step_delivers, step_none, step_state}
 use Rattle.cluster_run.specs.Standing.{AllDecided, HasNone, HoldsNone, IsTrue, SameBlocks, Says, delivered_by, in_work, state_seen}
 use Rattle.node_core.specs.Answers.{decided_as, delivered_as, sealed_as}
 use Rattle.node_core.specs.Core.{Core, entries_for}
@@ -17,9 +17,9 @@ use Rattle.node_model.specs.History.{Sealed, ids_of}
 use Rattle.node_model.specs.Journals.{delivered, world}
 use Rattle.node_model.specs.Steps as steps
 use Rattle.node_model.specs.Steps.{Answer, Reply, Shared, ToCommit, ToDeliver, ToSeal, commits, commits_due, delivers, is_ready, noted, reply, seals, seals_due}
-use Rattle.node_model.specs.World.{BlockInWork, Held, Holds, Job, World, decided, due, is_held, job_at, new_job}
+use Rattle.node_model.specs.World.{BlockInWork, Holds, Job, World, decided, due, is_held, job_at, new_job}
 use Rattle.node_model.specs.declared.journal.Entry.{Entry}
-use Rattle.node_model.specs.declared.journal.Event.TheVariants.{Commit, Deliver, Seal}
+use Rattle.node_model.specs.declared.journal.Event.TheVariants.{Commit, Deliver}
 use Rattle.node_model.specs.declared.journal.Event.{Event}
 use Rattle.node_shared.specs.Turn.{IsDelivery, IsLook, IsTurn}
 use Rattle.proc_syntax.specs.declared.call.Block.{Block}

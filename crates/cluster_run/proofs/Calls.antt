@@ -1,9 +1,9 @@
 -- What each call of a work leaves in hand, whether or not memory was wanting.
-use Rattle.std.proofs.Common.{Err, IfErr, IfOk, IfSome, Ok, OnErr, OnOk, Option, Result, ap, subst, sym, ◌∙◌, ◌≡◌}
+use Rattle.std.proofs.Common.{Err, IfErr, IfOk, IfSome, Ok, OnErr, OnOk, Option, Result, subst, sym, ◌∙◌, ◌≡◌}
 use Rattle.cluster_run.proofs.Hands.{claim_has, finish_has, read_has}
 use Rattle.cluster_run.proofs.Quiet.{step_blocks}
 use Rattle.cluster_run.proofs.Turning.{look_blocks, look_none, look_work}
-use Rattle.cluster_run.specs.Standing.{Has, HasNone, HasWork, SameBlocks, delivered_by, in_work, left_of}
+use Rattle.cluster_run.specs.Standing.{Has, HasNone, HasWork, SameBlocks, left_of}
 use Rattle.node_core.specs.Answers.{claimed_as, finished_as, got_as}
 use Rattle.node_core.specs.Core.{Core, IsHeld}
 use Rattle.node_core.specs.Hands.{IsAnswered, IsClaimed}

@@ -3,8 +3,8 @@ use Rattle.std.proofs.Common.{Bool, IfSome, List, None, Option, Some, [], ap, co
 use Rattle.std.proofs.lemmas.Bool.{eqb-true, false≢true}
 use Rattle.std.proofs.lemmas.Option.{none-some, same_Some}
 use Rattle.std.specs.List.{list_any}
-use Rattle.cluster_run.proofs.Turning.{answer_is, at, event, finds_held, finds_none, finds_only, step_none, step_state, step_work}
-use Rattle.cluster_run.specs.Standing.{Has, HasNone, HasWork, HoldsNone, HoldsOnly, IsTrue, state_seen}
+use Rattle.cluster_run.proofs.Turning.{answer_is, finds_held, finds_none, finds_only, step_none, step_state, step_work}
+use Rattle.cluster_run.specs.Standing.{Has, HasNone, HasWork, HoldsNone, HoldsOnly, state_seen}
 use Rattle.node_core.proofs.Claims.{changed_at}
 use Rattle.node_core.specs.Answers.{claimed_as, got_as}
 use Rattle.node_core.specs.Core.{Core, IsHeld, world_of}
@@ -18,7 +18,6 @@ use Rattle.node_model.specs.Steps.{Answer, Reply, ToClaim, ToFinish, ToRead, ToR
 use Rattle.node_model.specs.World.{Done, Dropped, Held, Holds, Job, Status, Waiting, World, change_job, is_held, is_held_by, job_at, new_job}
 use Rattle.node_model.specs.declared.journal.Entry.{Entry}
 use Rattle.node_model.specs.declared.journal.Event.TheVariants as event_of
-use Rattle.node_model.specs.declared.journal.Event.{Event}
 use Rattle.node_model.specs.declared.journal.Pick.{Pick}
 use Rattle.node_shared.specs.Turn.{IsTurn, node_seen}
 use Rattle.proc_syntax.specs.declared.tree.App.{App}

@@ -4,3 +4,6 @@ pub mod Quiet
 pub mod Calls
 pub mod Blocks
 pub mod Ends
+pub mod Forks
+pub mod Crossing
+pub mod Sharing

@@ -1,7 +1,7 @@
 -- Steps that leave the blocks as they are.
-use Rattle.std.proofs.Common.{Bool, List, None, Option, Some, [], ap, append-nil, cond, false, refl, subst, sym, true, ◌+◌, ◌++◌, ◌∙◌, ◌≡◌, ◌∷◌, ℕ}
+use Rattle.std.proofs.Common.{Bool, List, None, Option, Some, [], ap, append-nil, cond, false, refl, true, ◌+◌, ◌++◌, ◌∙◌, ◌≡◌, ◌∷◌, ℕ}
 use Rattle.cluster_run.proofs.Turning.{at, at_work, event, step_delivers, step_state}
-use Rattle.cluster_run.specs.Standing.{IsTrue, SameBlocks, delivered_by, in_work, state_seen}
+use Rattle.cluster_run.specs.Standing.{IsTrue, SameBlocks, delivered_by}
 use Rattle.node_core.specs.Core.{Core, entries_for}
 use Rattle.node_model.specs.Events.{commit_next, decide_due, settled_in}
 use Rattle.node_model.specs.Journals.{delivered}
@@ -9,7 +9,7 @@ use Rattle.node_model.specs.Steps as steps
 use Rattle.node_model.specs.Steps.{Answer, Ask, Reply, ToArrive, ToClaim, ToCommit, ToDeliver, ToFinish, ToRead, ToRelease, ToSeal, chosen, claims, commits, commits_due, finishes, is_ready, noted, reads, reads_unless, reply}
 use Rattle.node_model.specs.World.{BlockInWork, Job, World, decided, due, job_at}
 use Rattle.node_model.specs.declared.journal.Entry.{Entry}
-use Rattle.node_model.specs.declared.journal.Event.TheVariants.{Arrive, Claim, Commit, Deliver, Finish, Read, Release, Seal}
+use Rattle.node_model.specs.declared.journal.Event.TheVariants.{Commit}
 use Rattle.node_model.specs.declared.journal.Event.{Event}
 use Rattle.node_shared.specs.Turn.{IsTurn}
 use Rattle.proc_syntax.specs.declared.call.Block.{Block}

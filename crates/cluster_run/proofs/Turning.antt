@@ -1,20 +1,17 @@
 -- What a turn leaves to its pass, and what it changes for it.
-use Rattle.std.proofs.Common.{All, Bool, IfSome, List, None, Option, Some, [], ap, append-nil, append_assoc, arith, cond, false, inl, inr, length, refl, subst, sym, true, ◌++◌, ◌==◌, ◌∙◌, ◌≡◌, ◌∷◌, ℕ}
-use Rattle.std.proofs.lemmas.Bool.{false≢true}
+use Rattle.std.proofs.Common.{All, List, None, Option, Some, [], ap, append-nil, append_assoc, refl, subst, sym, ◌++◌, ◌∙◌, ◌≡◌, ◌∷◌, ℕ}
 use Rattle.std.proofs.lemmas.List.Elements.{All-cons, All-nil}
-use Rattle.std.proofs.lemmas.Option.{none-some, same_Some}
-use Rattle.cluster_run.specs.Standing.{AllDecided, Has, HasNone, HasWork, HoldsNone, HoldsOnly, IsTrue, SameBlocks, delivered_by, in_work, state_seen}
-use Rattle.node_core.specs.Core.{Core, IsHeld, entries_for, world_of}
-use Rattle.node_core.specs.InHand.{InHand, job_in}
+use Rattle.cluster_run.specs.Standing.{HasNone, HasWork, HoldsNone, HoldsOnly, IsTrue, SameBlocks, delivered_by, state_seen}
+use Rattle.node_core.specs.Core.{Core, IsHeld, entries_for}
+use Rattle.node_core.specs.InHand.{InHand}
 use Rattle.node_model.specs.Events.{after}
 use Rattle.node_model.specs.Journals.{IsLegal, delivered, delivery, world, world_from}
 use Rattle.node_model.specs.Steps.{Answer, Ask, noted, reply}
-use Rattle.node_model.specs.World.{Holds, Job, World, empty}
+use Rattle.node_model.specs.World.{World, empty}
 use Rattle.node_model.specs.declared.journal.Entry.{Entry}
 use Rattle.node_model.specs.declared.journal.Event.{Event}
 use Rattle.node_shared.proofs.Turns.{found_held, turns_find_own}
 use Rattle.node_shared.specs.Turn.{IsFound, IsLook, IsTurn, node_seen}
-use Rattle.proc_syntax.specs.declared.call.Block.{Block}
 use Rattle.proc_syntax.specs.declared.tree.App.{App}
 use Rattle.rel_base.proofs.Stories.{entries_grown}
 use Rattle.rel_base.specs.declared.storied.Storied.{Ghosts}

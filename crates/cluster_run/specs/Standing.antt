@@ -13,8 +13,8 @@ use Rattle.rel_base.specs.declared.storied.Storied.{Ghosts}
 use Rattle.schedule_laws.specs.Scheduled.{block_in}
 use Rattle.schedule_laws.specs.Stable.{entries_by}
 use Rattle.std.specs.Option.{option_and_then}
-use Rattle.std.specs.Prelude.{Err, List, None, Ok, Option, Result, Some, [], ◌≡◌, ℕ}
-use Rattle.turn_lock.specs.Passes.{HoldsNoTurn, mine, pass_base, pass_number, seen}
+use Rattle.std.specs.Prelude.{Err, List, None, Ok, Option, Result, Some, ◌≡◌, ℕ}
+use Rattle.turn_lock.specs.Passes.{mine, pass_base, pass_number, seen}
 use Rattle.turn_lock.specs.declared.pass.Pass.{Pass}
 
 -- an actor holds no job

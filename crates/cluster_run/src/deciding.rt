@@ -4,6 +4,8 @@ ghost use Rattle.std.specs.Prelude.{◌≡◌, IfOk, OnOk, true};
 ghost use Rattle.cluster_run.specs.Standing.{AllDecided, HasNone, SameBlocks, Says};
 ghost use Rattle.turn_lock.specs.Passes.{HoldsNoTurn, IsPassOf, IsSamePass, pass_number};
 
+use crate::crew::Crew;
+use crate::gate::Gate;
 use crate::working::{run_work, take_work};
 use node_core::Decided;
 use node_model::Pick;
@@ -14,9 +16,10 @@ use std::sync::Wait;
 use std::thread;
 
 // The job that is due, if it waits, is claimed and run.
-fn run_due<V: Versions, R: Wait>(
+fn run_due<V: Versions, G: Gate, R: Wait>(
     rt: &R,
     node: &SharedNode<V>,
+    crew: &Crew<'_, G>,
     pass: &mut NodePass<V>,
 ) -> Result<(), NoMemory>
     requires lock { IsPassOf node.now.lock pass.old }
@@ -29,7 +32,7 @@ fn run_due<V: Versions, R: Wait>(
 {
     match take_work(rt, node, pass, Pick::Due) {
         Ok(None) => Ok(()),
-        Ok(Some(work)) => run_work(rt, node, pass, work),
+        Ok(Some(work)) => run_work(rt, node, crew, pass, work),
         Err(refused) => Err(refused),
     }
 }
@@ -54,9 +57,10 @@ fn commit_next<V: Versions, R: Wait>(
 }
 
 // One commit, and where it waits, the run of what it waits for. Answers whether nothing is undecided.
-fn decide_next<V: Versions, R: Wait>(
+fn decide_next<V: Versions, G: Gate, R: Wait>(
     rt: &R,
     node: &SharedNode<V>,
+    crew: &Crew<'_, G>,
     pass: &mut NodePass<V>,
 ) -> Result<bool, NoMemory>
     requires lock { IsPassOf node.now.lock pass.old }
@@ -72,7 +76,7 @@ fn decide_next<V: Versions, R: Wait>(
     match commit_next(rt, node, pass) {
         Ok(Decided::Outcome { .. }) => Ok(false),
         Ok(Decided::NotReady { holder: None, .. }) => {
-            run_due(rt, node, pass)?;
+            run_due(rt, node, crew, pass)?;
             Ok(false)
         }
         Ok(
@@ -91,9 +95,10 @@ fn decide_next<V: Versions, R: Wait>(
 
 /// Decides the transactions of the block in work, in order, until none is undecided. A transaction whose job waits is run by the
 /// processor itself; where another actor holds the job, the processor yields and looks again.
-pub fn decide_all<V: Versions, R: Wait>(
+pub fn decide_all<V: Versions, G: Gate, R: Wait>(
     rt: &R,
     node: &SharedNode<V>,
+    crew: &Crew<'_, G>,
     pass: &mut NodePass<V>,
 ) -> Result<(), NoMemory>
     requires lock { IsPassOf node.now.lock pass.old }
@@ -107,7 +112,7 @@ pub fn decide_all<V: Versions, R: Wait>(
     ensures all { OnOk result (AllDecided pass.new) }
 {
     for _ in rt.forever() {
-        if decide_next(rt, node, pass)? {
+        if decide_next(rt, node, crew, pass)? {
             return Ok(());
         }
     }

@@ -1,23 +1,23 @@
 //! A node that runs over the blocks of a chain.
 
-ghost use Rattle.std.specs.Prelude.{◌≡◌, IfOk, []};
+ghost use Rattle.std.specs.Prelude.{◌≡◌, ◌≤◌, IfOk, []};
+ghost use Rattle.cluster_run.specs.Nodes.{IsNodeOf};
 ghost use Rattle.cluster_run.specs.Standing.{HasNone, delivered_by, in_work};
-ghost use Rattle.node_model.specs.Fold.{node_result};
-ghost use Rattle.node_model.specs.Journals.{IsLegal, delivered};
 ghost use Rattle.serial_laws.specs.Chained.{AreNumbered};
-ghost use Rattle.serial_laws.specs.InOrder.{EachInOrder};
 ghost use Rattle.turn_lock.specs.Passes.{HoldsNoTurn, IsPassOf, left, made, pass_base, pass_number};
 
-use crate::processing::process_all;
+use crate::crew::Crew;
+use crate::gate::Gate;
+use crate::threads::run_crew;
 use node_core::NodeCore;
 use node_model::NodeResult;
 use node_shared::{NodePass, SharedNode};
 use proc_check::Checked;
-use proc_syntax::Block;
 use rel_base::NoMemory;
 use row_sets::Versions;
 use std::alloc::Global;
 use std::sync::{Arc, Wait};
+use std::thread::Threads;
 
 // A shared node to which nothing has happened, with the processor's pass.
 fn open_node<V: Versions>(
@@ -41,28 +41,24 @@ fn close_node<V: Versions>(node: SharedNode<V>, pass: NodePass<V>) -> Result<Nod
     requires processor { (pass_number pass ≡ 0) × (left pass ≡ 0) }
     requires hand { HasNone pass }
     requires rests { in_work pass ≡ [] }
-    ensures folds { IfOk result (λ made. record made { journal = [] } ≡ node_result (pass_base pass) (delivered_by pass)) }
-    ensures legal { IfOk result (λ made. IsLegal (pass_base pass) made.journal) }
-    ensures delivers { IfOk result (λ made. delivered made.journal ≡ delivered_by pass) }
+    requires numbered { AreNumbered 1 (delivered_by pass) }
+    ensures node { IfOk result (IsNodeOf (pass_base pass) (delivered_by pass)) }
 {
     node.close(pass).close()
 }
 
-/// What a node tells of the blocks of a chain, whose numbers run from 1: the results of one fold over them, each with an order in which its
-/// committed transactions run again one by one, and the journal of what it did.
-pub fn run_node<V: Versions, R: Wait>(
+/// What a node tells of the blocks of a chain, whose numbers run from 1, whatever arrives there and whatever its executors do.
+pub fn run_node<V: Versions + Send, G: Gate, R: Threads + Wait + Sync>(
     rt: &R,
     alloc: Global,
     app: &Arc<Checked>,
-    blocks: &[Block],
+    crew: &Crew<'_, G>,
 ) -> Result<NodeResult, NoMemory>
-    requires numbered { AreNumbered 1 blocks.now }
-    ensures folds { IfOk result (λ made. record made { journal = [] } ≡ node_result app.now.value.app blocks.now) }
-    ensures legal { IfOk result (λ made. IsLegal app.now.value.app made.journal) }
-    ensures delivers { IfOk result (λ made. delivered made.journal ≡ blocks.now) }
-    ensures replays { IfOk result (λ made. EachInOrder app.now.value.app blocks.now made.blocks) }
+    requires numbered { AreNumbered 1 crew.now.blocks.now }
+    requires few { crew.now.executors ≤ 16 }
+    ensures node { IfOk result (IsNodeOf app.now.value.app crew.now.blocks.now) }
 {
-    let (node, mut pass) = open_node::<V>(alloc, app)?;
-    process_all(rt, &node, &mut pass, blocks)?;
-    close_node(node, pass)
+    let (node, pass) = open_node::<V>(alloc, app)?;
+    let own = run_crew(rt, alloc, &node, crew, pass)?;
+    close_node(node, own)
 }

@@ -5,7 +5,9 @@ ghost use Rattle.cluster_run.specs.Standing.{AllDecided, HasNone, delivered_by, 
 ghost use Rattle.serial_laws.specs.Chained.{AreNumbered};
 ghost use Rattle.turn_lock.specs.Passes.{HoldsNoTurn, IsPassOf, IsSamePass, pass_number};
 
+use crate::crew::Crew;
 use crate::deciding::decide_all;
+use crate::gate::Gate;
 use node_core::{Delivered, Sealed};
 use node_shared::{NodePass, SharedNode};
 use proc_syntax::Block;
@@ -14,9 +16,10 @@ use row_sets::Versions;
 use std::sync::Wait;
 
 // The next block comes into work.
-fn deliver_block<V: Versions, R: Wait>(
+fn deliver_block<V: Versions, G: Gate, R: Wait>(
     rt: &R,
     node: &SharedNode<V>,
+    crew: &Crew<'_, G>,
     pass: &mut NodePass<V>,
     block: &Block,
 ) -> Result<Delivered, NoMemory>
@@ -31,13 +34,17 @@ fn deliver_block<V: Versions, R: Wait>(
     ensures hand { HasNone pass.new }
     ensures delivers { OnOk result (delivered_by pass.new ≡ delivered_by pass.old ++ block.now ∷ []) }
 {
-    node.deliver(rt, pass, block)
+    crew.come_to_block(rt, block.number);
+    let delivered = node.deliver(rt, pass, block);
+    crew.bell.ring();
+    delivered
 }
 
 // The block in work, of which nothing is undecided, is sealed.
-fn seal_block<V: Versions, R: Wait>(
+fn seal_block<V: Versions, G: Gate, R: Wait>(
     rt: &R,
     node: &SharedNode<V>,
+    crew: &Crew<'_, G>,
     pass: &mut NodePass<V>,
 ) -> Result<Sealed, NoMemory>
     requires lock { IsPassOf node.now.lock pass.old }
@@ -51,13 +58,16 @@ fn seal_block<V: Versions, R: Wait>(
     ensures delivers { OnOk result (delivered_by pass.new ≡ delivered_by pass.old) }
     ensures rests { OnOk result (in_work pass.new ≡ []) }
 {
-    node.seal(rt, pass)
+    let sealed = node.seal(rt, pass);
+    crew.bell.ring();
+    sealed
 }
 
 /// Delivers the next block, decides its transactions in order, and seals it.
-pub fn process_block<V: Versions, R: Wait>(
+pub fn process_block<V: Versions, G: Gate, R: Wait>(
     rt: &R,
     node: &SharedNode<V>,
+    crew: &Crew<'_, G>,
     pass: &mut NodePass<V>,
     block: &Block,
 ) -> Result<(), NoMemory>
@@ -73,16 +83,17 @@ pub fn process_block<V: Versions, R: Wait>(
     ensures delivers { OnOk result (delivered_by pass.new ≡ delivered_by pass.old ++ block.now ∷ []) }
     ensures rests { OnOk result (in_work pass.new ≡ []) }
 {
-    deliver_block(rt, node, pass, block)?;
-    decide_all(rt, node, pass)?;
-    seal_block(rt, node, pass)?;
+    deliver_block(rt, node, crew, pass, block)?;
+    decide_all(rt, node, crew, pass)?;
+    seal_block(rt, node, crew, pass)?;
     Ok(())
 }
 
 /// Processes blocks whose numbers go on from the blocks that were delivered, each to its seal.
-pub fn process_all<V: Versions, R: Wait>(
+pub fn process_all<V: Versions, G: Gate, R: Wait>(
     rt: &R,
     node: &SharedNode<V>,
+    crew: &Crew<'_, G>,
     pass: &mut NodePass<V>,
     blocks: &[Block],
 ) -> Result<(), NoMemory>
@@ -99,7 +110,7 @@ pub fn process_all<V: Versions, R: Wait>(
     ensures rests { OnOk result (in_work pass.new ≡ []) }
 {
     for block in blocks {
-        process_block(rt, node, pass, block)?;
+        process_block(rt, node, crew, pass, block)?;
     }
     Ok(())
 }

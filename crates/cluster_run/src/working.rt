@@ -5,6 +5,8 @@ ghost use Rattle.cluster_run.specs.Standing.{Has, HasNone, HasWork, SameBlocks, 
 ghost use Rattle.node_core.specs.InHand.{IsReady, WantsRead};
 ghost use Rattle.turn_lock.specs.Passes.{HoldsNoTurn, IsPassOf, IsSamePass, pass_number};
 
+use crate::crew::Crew;
+use crate::gate::{Gate, Point};
 use node_core::{Finished, Next, Work};
 use node_model::Pick;
 use node_shared::{NodePass, SharedNode};
@@ -30,8 +32,13 @@ pub fn take_work<V: Versions, R: Wait>(
     node.claim(rt, pass, pick)
 }
 
-// A work is given up.
-fn give_up<V: Versions, R: Wait>(rt: &R, node: &SharedNode<V>, pass: &mut NodePass<V>, work: Work)
+/// A work is given up.
+pub fn give_up<V: Versions, R: Wait>(
+    rt: &R,
+    node: &SharedNode<V>,
+    pass: &mut NodePass<V>,
+    work: Work,
+)
     requires lock { IsPassOf node.now.lock pass.old }
     requires no_turn { HoldsNoTurn pass.old }
     requires hand { HasWork pass.old work }
@@ -111,10 +118,11 @@ fn end_work<V: Versions, R: Wait>(
     settle(rt, node, pass, ended)
 }
 
-// A work runs to its next read and makes it, or to its end. What is left of it goes on.
-fn step_work<V: Versions, R: Wait>(
+/// A work runs to its next read and makes it, or to its end. What is left of it goes on.
+pub fn step_work<V: Versions, G: Gate, R: Wait>(
     rt: &R,
     node: &SharedNode<V>,
+    crew: &Crew<'_, G>,
     pass: &mut NodePass<V>,
     mut work: Work,
 ) -> Result<Option<Work>, NoMemory>
@@ -128,7 +136,10 @@ fn step_work<V: Versions, R: Wait>(
 {
     match work.advance() {
         Ok(Next::Wants) => make_read(rt, node, pass, work),
-        Ok(Next::Ready) => end_work(rt, node, pass, work),
+        Ok(Next::Ready) => {
+            crew.come_to(rt, pass.number(), &work, Point::Ending);
+            end_work(rt, node, pass, work)
+        }
         Ok(Next::Gone) => {
             give_up(rt, node, pass, work);
             Ok(None)
@@ -142,9 +153,10 @@ fn step_work<V: Versions, R: Wait>(
 
 /// Runs a work of a pass to its end, read by read, each in a turn of its own. It is finished where it comes to its end, and given up where
 /// its id is settled or memory runs out, so that the pass holds no job afterwards.
-pub fn run_work<V: Versions, R: Wait>(
+pub fn run_work<V: Versions, G: Gate, R: Wait>(
     rt: &R,
     node: &SharedNode<V>,
+    crew: &Crew<'_, G>,
     pass: &mut NodePass<V>,
     mut work: Work,
 ) -> Result<(), NoMemory>
@@ -156,11 +168,15 @@ pub fn run_work<V: Versions, R: Wait>(
     ensures hand { HasNone pass.new }
     ensures blocks { pass_number pass.old ≡ 0 → SameBlocks pass.old pass.new }
 {
+    crew.come_to(rt, pass.number(), &work, Point::Claimed);
+    let mut made: u32 = 0;
     for _ in rt.forever() {
-        match step_work(rt, node, pass, work)? {
+        match step_work(rt, node, crew, pass, work)? {
             None => return Ok(()),
             Some(left) => work = left,
         }
+        made = made.saturating_add(1);
+        crew.come_to(rt, pass.number(), &work, Point::Made(made));
     }
     unreachable!()
 }

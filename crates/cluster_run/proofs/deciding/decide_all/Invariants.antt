@@ -1,4 +1,3 @@
-use Rattle.std.specs.Prelude.{◌≡◌}
 use Rattle.cluster_run.specs.Standing.{HasNone, SameBlocks}
 use Rattle.turn_lock.specs.Passes.{HoldsNoTurn, IsSamePass}
 use Rattle.cluster_run.proofs.deciding.decide_all.Given as goal

@@ -1,4 +1,3 @@
-use Rattle.std.proofs.Common.{◌≡◌}
 use Rattle.cluster_run.proofs.Calls.{finish_back, finish_blocks, finish_over, same_trans}
 use Rattle.cluster_run.proofs.working.end_work.Goals as goal
 

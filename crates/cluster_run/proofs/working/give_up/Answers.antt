@@ -1,4 +1,3 @@
-use Rattle.std.proofs.Common.{◌≡◌}
 use Rattle.cluster_run.proofs.Hands.{release_has}
 use Rattle.cluster_run.proofs.Quiet.{step_blocks}
 use Rattle.node_model.specs.Steps.{Released, ToRelease}

@@ -1,4 +1,3 @@
-use Rattle.std.proofs.Common.{◌≡◌}
 use Rattle.cluster_run.proofs.Calls.{read_blocks, read_leaves, same_trans}
 use Rattle.cluster_run.proofs.working.make_read.Goals as goal
 

@@ -1,4 +1,3 @@
-use Rattle.std.proofs.Common.{◌≡◌}
 use Rattle.cluster_run.proofs.Calls.{ran_on}
 use Rattle.cluster_run.proofs.working.step_work.Goals as goal
 

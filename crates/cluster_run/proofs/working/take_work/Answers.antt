@@ -1,4 +1,3 @@
-use Rattle.std.proofs.Common.{◌≡◌}
 use Rattle.cluster_run.proofs.Calls.{claim_blocks, claim_leaves}
 use Rattle.cluster_run.proofs.Hands.{may_claim}
 use Rattle.cluster_run.specs.Standing.{state_seen}

@@ -1,0 +1,56 @@
+use denote.Param.{param}
+use denote.Param.Send.{IsSend, IsSync, param_send, param_sync, sendable}
+use Rattle.std.specs.Prelude.{vec_items}
+use Rattle.std.proofs.Common.{ap, rules, subst, sym, ◌∙◌}
+use Rattle.std.proofs.Crossing.{crosses}
+use Rattle.cluster_run.proofs.Forks.{all_snoc, blocks_trans}
+use Rattle.cluster_run.proofs.Sharing.{node_sync, pass_send}
+use Rattle.cluster_run.specs.Standing.{SameBlocks}
+use Rattle.proc_syntax.proofs.call.Block.TheSendSync as block
+use Rattle.proc_syntax.proofs.call.Tx.TheSendSync as tx
+use Rattle.cluster_run.proofs.threads.fn.run_crew.scope.Goals.{in-Err, in-Ok}
+use Rattle.cluster_run.proofs.threads.fn.run_crew.scope.Goals as goal
+
+pub spawn_with-start-requires-send-F : goal.spawn_with-start-requires-send-F
+spawn_with-start-requires-send-F g c κs within =
+    let v : IsSend (param 0 g.row.V) = search (rules, param_send) parts 8 in
+    let node = node_sync (param 0 g.row.V) g.V.Versions v in
+    let pass = pass_send (param 0 g.row.V) g.V.Versions v in
+    let gate : IsSync (param 1 g.row.G) = search (rules, c.requires, param_sync) parts 8 in
+    let runtime : IsSync (param 2 g.row.R) = search (rules, c.requires, param_sync) parts 8 in
+    search (block.the_sync, tx.the_sync, crosses, sendable) depth 60 fits 20000
+
+pub spawn_with-start-requires-send-T : goal.spawn_with-start-requires-send-T
+spawn_with-start-requires-send-T g c κs within =
+    let v : IsSend (param 0 g.row.V) = search (rules, param_send) parts 8 in
+    let pass = pass_send (param 0 g.row.V) g.V.Versions v in
+    search sendable depth 60 fits 20000
+
+pub loop-i-preserved : goal.loop-i-preserved
+loop-i-preserved g c =
+    let begun = blocks_trans c.captures.pass c.loop-i.pass c.split_off-other.new.pass c.loop-i.invariant.3 c.split_off-other.ensures.blocks in
+    elim c.match-start.branch [
+      | in-Ok w ↦ (
+        search rules,
+        search rules,
+        search rules,
+        subst (SameBlocks c.captures.pass) (sym w.pass-is) begun,
+        search rules,
+        search rules,
+        search rules,
+        search rules,
+        all_snoc c.loop-i.children.items (vec_items c.match-start.children) w.in-Ok.child (λ child. child.promise.0.value) c.captures.node.now
+            (ap vec_items w.children-is ∙ w.push_reserved.ensures.items) c.loop-i.invariant.8 (ap (λ promise. promise.0.value) w.in-Ok.ensures.ok ∙ c.new.ensures),
+      )
+      | in-Err w ↦ (
+        search rules,
+        search rules,
+        search rules,
+        subst (SameBlocks c.captures.pass) (sym w.pass-is) (blocks_trans c.captures.pass c.split_off-other.new.pass w.take_back.new.pass begun w.take_back.ensures.blocks),
+        search rules,
+        search rules,
+        search rules,
+        search rules,
+        search rules,
+      )
+    ]

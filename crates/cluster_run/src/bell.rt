@@ -1,0 +1,38 @@
+//! What idle actors sleep on.
+
+ghost use Rattle.std.specs.Prelude.{◌<◌, ◌^◌};
+
+use std::sync::Wait;
+use std::sync::atomic::{AtomicU64, Ordering};
+
+/// A count of what has happened at a node. An actor that has nothing to do sleeps until it changes.
+#[derive(Drop)]
+pub struct Bell {
+    count: AtomicU64,
+}
+
+impl Bell {
+    /// A bell that was not rung.
+    pub fn new() -> Bell {
+        Bell {
+            count: AtomicU64::new(0),
+        }
+    }
+
+    /// Something has happened: whoever sleeps wakes.
+    pub fn ring(&self) {
+        self.count.fetch_add(1, Ordering::SeqCst);
+        self.count.wake_all();
+    }
+
+    /// How often it was rung, but for multiples of 2 to the 32.
+    pub fn heard(&self) -> u32 {
+        (self.count.load(Ordering::SeqCst) % 4_294_967_296) as u32
+    }
+
+    /// Sleeps while it was rung no more than was heard. An actor asks what is heard before it looks for something to do, so that it does
+    /// not sleep over what happens meanwhile.
+    pub fn sleep<R: Wait>(&self, rt: &R, heard: u32) {
+        self.count.park(rt, heard);
+    }
+}

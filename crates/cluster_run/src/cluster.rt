@@ -1,0 +1,56 @@
+//! Several nodes over the same blocks.
+
+ghost use Rattle.std.specs.Prelude.{◌≡◌, ◌≤◌, ◌<◌, All, IfOk, length};
+ghost use Rattle.cluster_run.specs.Nodes.{IsNodeOf};
+ghost use Rattle.serial_laws.specs.Chained.{AreNumbered};
+
+use crate::crew::Crew;
+use crate::gate::Gate;
+use crate::node::run_node;
+use node_model::NodeResult;
+use proc_check::Checked;
+use proc_syntax::{Block, Tx};
+use rel_base::{List, NoMemory};
+use row_sets::Versions;
+use std::alloc::Global;
+use std::sync::{Arc, Wait};
+use std::thread;
+use std::thread::Threads;
+
+/// What nodes tell of the blocks of a chain, whose numbers run from 1: one node for each list of what arrives, in their order. Each runs in a
+/// thread of its own where one can be made, and else they run one after another.
+pub fn run_cluster<V: Versions + Send, G: Gate, R: Threads + Wait + Sync>(
+    rt: &R,
+    alloc: Global,
+    app: &Arc<Checked>,
+    blocks: &[Block],
+    arrivals: &[List<Tx>],
+    executors: u32,
+    gate: &G,
+) -> Result<List<NodeResult>, NoMemory>
+    requires numbered { AreNumbered 1 blocks.now }
+    requires nodes { (0 < length arrivals.now) × (length arrivals.now ≤ 8) }
+    requires few { executors ≤ 16 }
+    ensures counted { IfOk result (λ nodes. length nodes ≡ length arrivals.now) }
+    ensures each { IfOk result (λ nodes. All (IsNodeOf app.now.value.app blocks.now) nodes) }
+{
+    let run = move |i: usize| -> Result<NodeResult, NoMemory>
+        requires { (i < length arrivals.now) × (length arrivals.now ≤ 8) × AreNumbered 1 blocks.now × (executors ≤ 16) }
+        ensures { IfOk result (IsNodeOf app.entry.now.value.app blocks.entry.now) }
+    {
+        let crew = Crew::new(
+            i as u32 + 1,
+            executors,
+            blocks,
+            arrivals[i].as_slice(),
+            gate,
+        );
+        run_node::<V, G, R>(rt, alloc, app, &crew)
+    };
+    let told = thread::map_indices(rt, alloc, arrivals.len(), &run)?;
+    let mut nodes = List::new(alloc);
+    for node in told {
+        nodes.push(node?)?;
+    }
+    Ok(nodes)
+}

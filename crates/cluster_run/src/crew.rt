@@ -1,0 +1,71 @@
+//! What the actors of a node share beside it.
+
+ghost use Rattle.std.specs.Prelude.{◌≡◌, ◌≤◌};
+
+use crate::bell::Bell;
+use crate::gate::{Gate, Point};
+use node_core::Work;
+use proc_syntax::{Block, Tx};
+use std::sync::Wait;
+
+/// The actors of a node: the processor, which is actor 0, executors from 1 on, and behind them one that makes the arrivals. Each comes to
+/// the same gate, and who is idle hears the same bell.
+#[derive(Drop)]
+pub struct Crew<'a, G: Gate> {
+    /// The number of the node, from 1.
+    pub number: u32,
+    pub executors: u32,
+    /// What the processor processes, in order.
+    pub blocks: &'a [Block],
+    /// What arrives at the node, in order.
+    pub arrivals: &'a [Tx],
+    pub bell: Bell,
+    gate: &'a G,
+}
+
+impl<'a, G: Gate> Crew<'a, G> {
+    /// The actors of the node of this number.
+    pub fn new(
+        number: u32,
+        executors: u32,
+        blocks: &'a [Block],
+        arrivals: &'a [Tx],
+        gate: &'a G,
+    ) -> Crew<'a, G>
+        ensures executors { result.executors ≡ executors }
+        ensures blocks { result.blocks.now ≡ blocks.now }
+    {
+        Crew {
+            number,
+            executors,
+            blocks,
+            arrivals,
+            bell: Bell::new(),
+            gate,
+        }
+    }
+
+    /// How many run beside the processor: nobody feeds a node at which nothing arrives.
+    pub fn beside(&self) -> u32
+        requires few { self.now.executors ≤ 16 }
+        ensures { result ≤ 17 }
+    {
+        if self.arrivals.is_empty() {
+            self.executors
+        } else {
+            self.executors + 1
+        }
+    }
+
+    /// An actor comes to a point of a work.
+    pub fn come_to<R: Wait>(&self, rt: &R, actor: u32, work: &Work, point: Point) {
+        self.gate
+            .pause(rt, self.number, actor, Some(work.id()), point);
+    }
+
+    /// The processor is about to deliver the block of this number.
+    pub fn come_to_block<R: Wait>(&self, rt: &R, number: u64) {
+        self.gate
+            .pause(rt, self.number, 0, None, Point::Delivering(number));
+    }
+}

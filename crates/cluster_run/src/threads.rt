@@ -1,0 +1,184 @@
+//! Actors in threads of their own, beside the processor on the caller's.
+
+ghost use Rattle.std.specs.Prelude.{◌≡◌, ◌+◌, ◌++◌, ◌≤◌, All, IfOk, [], length, vec_capacity, vec_len};
+ghost use Rattle.cluster_run.specs.Standing.{HasNone, SameBlocks, delivered_by, in_work};
+ghost use Rattle.serial_laws.specs.Chained.{AreNumbered};
+ghost use Rattle.turn_lock.specs.Passes.{HoldsNoTurn, IsPassOf, IsSameHolder, left, made, pass_base, pass_number};
+
+use crate::bell::Bell;
+use crate::crew::Crew;
+use crate::executing::act;
+use crate::forking::{split_off, take_back};
+use crate::gate::Gate;
+use crate::processing::process_all;
+use node_shared::{NodePass, SharedNode};
+use rel_base::NoMemory;
+use row_sets::Versions;
+use std::alloc::Global;
+use std::snapshot::Snapshot;
+use std::sync::Wait;
+use std::sync::atomic::{AtomicBool, Ordering};
+use std::thread;
+use std::thread::{Promise, PromisedHandle, Threads};
+
+/// The promise of a thread that its result is a pass of this node, which has no turn.
+#[derive(Drop)]
+pub struct PassOf<V: Versions>(Snapshot<SharedNode<V>>);
+
+impl<V: Versions> PassOf<V> {
+    /// The promise for this node.
+    pub fn new(node: &SharedNode<V>) -> PassOf<V>
+        ensures { result.0.value ≡ node.now }
+    {
+        PassOf(Snapshot::of(node))
+    }
+}
+
+impl<V: Versions> Promise<NodePass<V>> for PassOf<V> {
+    ghost use Rattle.turn_lock.specs.Passes.{HoldsNoTurn, IsPassOf};
+
+    ghost kept_by = { λ promise pass. IsPassOf promise.0.value.lock pass × HoldsNoTurn pass };
+}
+
+// A flag for each actor, not set.
+fn flags_for(alloc: Global, actors: u32) -> Result<Vec<AtomicBool>, NoMemory>
+    ensures count { IfOk result (λ flags. vec_len flags ≡ actors) }
+{
+    let mut flags = Vec::new(alloc);
+    for _ in 0..actors {
+        flags.push(AtomicBool::new(false))?;
+    }
+    Ok(flags)
+}
+
+// Tells each actor to stop, and wakes those that sleep.
+fn stop_all(stops: &[AtomicBool], bell: &Bell) {
+    for stopped in stops {
+        stopped.store(true, Ordering::SeqCst);
+    }
+    bell.ring();
+}
+
+// The pass of each thread is taken back, once the thread has ended.
+fn join_all<V: Versions, R: Threads + Wait>(
+    rt: &R,
+    node: &SharedNode<V>,
+    pass: &mut NodePass<V>,
+    children: Vec<PromisedHandle<NodePass<V>, PassOf<V>>>,
+)
+    requires lock { IsPassOf node.now.lock pass.old }
+    requires no_turn { HoldsNoTurn pass.old }
+    requires processor { pass_number pass.old ≡ 0 }
+    requires hand { HasNone pass.old }
+    requires left { left pass.old ≡ vec_len children }
+    requires promised { All (λ child. child.promise.0.value ≡ node.now) children.items }
+    ensures same { IsSameHolder pass.old pass.new × HoldsNoTurn pass.new }
+    ensures hand { HasNone pass.new }
+    ensures blocks { SameBlocks pass.old pass.new }
+    ensures left { left pass.new ≡ 0 }
+{
+    for child in children {
+        let back = child.join(rt);
+        take_back(rt, node, pass, back);
+    }
+}
+
+// The processor processes the blocks while the others run; then these are told to stop and joined.
+fn process_beside<V: Versions, G: Gate, R: Threads + Wait>(
+    rt: &R,
+    node: &SharedNode<V>,
+    crew: &Crew<'_, G>,
+    mut pass: NodePass<V>,
+    stops: &[AtomicBool],
+    children: Vec<PromisedHandle<NodePass<V>, PassOf<V>>>,
+) -> Result<NodePass<V>, NoMemory>
+    requires lock { IsPassOf node.now.lock pass × HoldsNoTurn pass }
+    requires processor { pass_number pass ≡ 0 }
+    requires hand { HasNone pass }
+    requires rests { in_work pass ≡ [] }
+    requires numbered { AreNumbered (length (delivered_by pass) + 1) crew.now.blocks.now }
+    requires left { left pass ≡ vec_len children }
+    requires promised { All (λ child. child.promise.0.value ≡ node.now) children.items }
+    ensures lock { IfOk result (λ own. IsPassOf node.now.lock own × HoldsNoTurn own) }
+    ensures processor { IfOk result (λ own. (pass_number own ≡ 0) × (left own ≡ 0)) }
+    ensures base { IfOk result (λ own. pass_base own ≡ pass_base pass) }
+    ensures hand { IfOk result (λ own. HasNone own) }
+    ensures rests { IfOk result (λ own. in_work own ≡ []) }
+    ensures delivers { IfOk result (λ own. delivered_by own ≡ delivered_by pass ++ crew.now.blocks.now) }
+{
+    let processed = process_all(rt, node, crew, &mut pass, crew.blocks);
+    stop_all(stops, &crew.bell);
+    join_all(rt, node, &mut pass, children);
+    processed?;
+    Ok(pass)
+}
+
+/// Processes the blocks with a pass that is alone, while executors run jobs and what arrives is made to arrive, in as many threads as can be
+/// started. A thread that can't be started is absent: its closure comes back and is called with its flag set, and its pass is taken back.
+pub fn run_crew<V: Versions + Send, G: Gate, R: Threads + Wait + Sync>(
+    rt: &R,
+    alloc: Global,
+    node: &SharedNode<V>,
+    crew: &Crew<'_, G>,
+    mut pass: NodePass<V>,
+) -> Result<NodePass<V>, NoMemory>
+    requires lock { IsPassOf node.now.lock pass × HoldsNoTurn pass }
+    requires processor { (pass_number pass ≡ 0) × (made pass ≡ 0) × (left pass ≡ 0) }
+    requires hand { HasNone pass }
+    requires rests { in_work pass ≡ [] }
+    requires numbered { AreNumbered (length (delivered_by pass) + 1) crew.now.blocks.now }
+    requires few { crew.now.executors ≤ 16 }
+    ensures lock { IfOk result (λ own. IsPassOf node.now.lock own × HoldsNoTurn own) }
+    ensures processor { IfOk result (λ own. (pass_number own ≡ 0) × (left own ≡ 0)) }
+    ensures base { IfOk result (λ own. pass_base own ≡ pass_base pass) }
+    ensures hand { IfOk result (λ own. HasNone own) }
+    ensures rests { IfOk result (λ own. in_work own ≡ []) }
+    ensures delivers { IfOk result (λ own. delivered_by own ≡ delivered_by pass ++ crew.now.blocks.now) }
+{
+    let actors = crew.beside();
+    let flags = flags_for(alloc, actors)?;
+    let mut children: Vec<PromisedHandle<NodePass<V>, PassOf<V>>> = Vec::new(alloc);
+    children.reserve(actors as usize)?;
+    let stops = flags.as_slice();
+    thread::scope(
+        thread::scope_env(),
+        rt,
+        move |scope| -> Result<NodePass<V>, NoMemory>
+            requires lock { IsPassOf node.now.lock pass × HoldsNoTurn pass }
+            requires processor { (pass_number pass ≡ 0) × (made pass ≡ 0) × (left pass ≡ 0) }
+            requires hand { HasNone pass }
+            requires rests { in_work pass ≡ [] }
+            requires numbered { AreNumbered (length (delivered_by pass) + 1) crew.now.blocks.now }
+            requires few { (actors ≤ 17) × (length stops.now ≡ actors) }
+            requires room { (children.items ≡ []) × (actors ≤ vec_capacity children) }
+            ensures lock { IfOk result (λ own. IsPassOf node.entry.now.lock own × HoldsNoTurn own) }
+            ensures processor { IfOk result (λ own. (pass_number own ≡ 0) × (left own ≡ 0)) }
+            ensures base { IfOk result (λ own. pass_base own ≡ pass_base pass) }
+            ensures hand { IfOk result (λ own. HasNone own) }
+            ensures rests { IfOk result (λ own. in_work own ≡ []) }
+            ensures delivers { IfOk result (λ own. delivered_by own ≡ delivered_by pass ++ crew.entry.now.blocks.now) }
+        {
+            for i in 0..actors {
+                let other = split_off(node, &mut pass);
+                let stopped = &stops[i as usize];
+                let feeds = i == crew.executors;
+                let start = scope.spawn_with(
+                    PassOf::new(node),
+                    move || -> NodePass<V>
+                        requires { IsPassOf node.now.lock other × HoldsNoTurn other × HasNone other }
+                        ensures { IsPassOf node.entry.now.lock result × HoldsNoTurn result }
+                    { act(rt, node, crew, stopped, feeds, other) },
+                );
+                match start {
+                    Ok(child) => children.push_reserved(child),
+                    Err(refused) => {
+                        stopped.store(true, Ordering::SeqCst);
+                        let back = (refused.value)();
+                        take_back(rt, node, &mut pass, back);
+                    }
+                }
+            }
+            process_beside(rt, node, crew, pass, stops, children)
+        },
+    )
+}

@@ -1,0 +1,60 @@
+//! What journals and results tell.
+
+use crate::gating::READS;
+use node_model::{Entry, Event, NodeResult};
+
+/// The actor that made a transaction arrive, and its job.
+pub fn arrival_of(journal: &[Entry], id: &str) -> Option<(u32, u64)> {
+    for entry in journal {
+        if let Event::Arrive { job, tx } = &entry.event
+            && tx.id.as_str() == id
+        {
+            return Some((entry.actor, *job));
+        }
+    }
+    None
+}
+
+/// The actor that finished a job.
+pub fn finisher_of(journal: &[Entry], wanted: u64) -> Option<u32> {
+    for entry in journal {
+        if let Event::Finish { job } = &entry.event
+            && *job == wanted
+        {
+            return Some(entry.actor);
+        }
+    }
+    None
+}
+
+/// Whether each of two jobs makes all reads of a payment, and neither is ever ahead by more than one.
+pub fn keep_step(journal: &[Entry], first: u64, second: u64) -> bool {
+    let (mut ones, mut twos) = (0u32, 0u32);
+    for entry in journal {
+        if let Event::Read { job } = &entry.event {
+            if *job == first {
+                ones = ones.saturating_add(1);
+            }
+            if *job == second {
+                twos = twos.saturating_add(1);
+            }
+        }
+        if ones.abs_diff(twos) > 1 {
+            return false;
+        }
+    }
+    ones == READS && twos == READS
+}
+
+/// Whether two nodes tell the same blocks and tables.
+pub fn tell_the_same(one: &NodeResult, other: &NodeResult) -> bool {
+    let (blocks, others) = (one.blocks.as_slice(), other.blocks.as_slice());
+    let (tables, theirs) = (one.tables.as_slice(), other.tables.as_slice());
+    let digests = blocks.iter().map(|block| block.digest);
+    digests.eq(others.iter().map(|block| block.digest))
+        && tables.len() == theirs.len()
+        && tables
+            .iter()
+            .zip(theirs.iter())
+            .all(|(left, right)| left.table == right.table && left.rows == right.rows)
+}

@@ -1,0 +1,7 @@
+//! Tests of nodes that run in several threads: worked runs whole, in an order of reads that a gate holds.
+#![tactic(auto)]
+
+pub mod gating;
+pub mod journals;
+#[cfg(test)]
+mod tests;
