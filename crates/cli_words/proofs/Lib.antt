@@ -3,4 +3,5 @@ pub mod Sound
 pub mod Lines
 pub mod Orders
 pub mod Commands
+pub mod Ranges
 pub mod Seals

@@ -14,7 +14,7 @@ use Rattle.cli_words.specs.Table.{option_of, takes_of}
 pub fit_matches : (takes : Takes) (value : List ℕ) → fits takes value ≡ true → matches takes value ≡ true
 fit_matches Nothing value e = absurd (cc)
 fit_matches Text value e = e
-fit_matches Number value e = e
+fit_matches (Number least most) value e = e
 
 -- a word that ends an option gives it a value that it takes
 abbrev EndsSound : Option CommandOption → List ℕ → Step → Type 0
@@ -25,7 +25,7 @@ EndsSound waiting word (Ends x) = matches (takes_of x) (value_in waiting word) �
 begun_sound : (word : List ℕ) (x : CommandOption) (takes : Takes) → takes_of x ≡ takes → EndsSound None word (begun x takes)
 begun_sound word x Nothing e = ap (λ (t : Takes). matches t []) e
 begun_sound word x Text e = tt
-begun_sound word x Number e = tt
+begun_sound word x (Number least most) e = tt
 
 named_sound : (word : List ℕ) (found : Option CommandOption) → EndsSound None word (begun_by found)
 named_sound word None = tt

@@ -1,5 +1,5 @@
 -- The language of the command line.
-use Rattle.std.specs.Prelude.{ℕ, List, [], ◌∷◌, Bool, true, false, not, ◌&&◌, ◌==◌, cond, length, nat_le, Option, Some, None, is_none, is_some, unwrap_or}
+use Rattle.std.specs.Prelude.{ℕ, ◌≤◌, List, [], ◌∷◌, Bool, true, false, not, ◌&&◌, ◌==◌, cond, length, nat_le, Option, Some, None, is_none, unwrap_or}
 use Rattle.std.specs.Borrow.{Bor}
 use Rattle.std.specs.List.{list_all}
 use Rattle.literals.specs.Number.{u64_at}
@@ -40,11 +40,16 @@ alone (Some (number, byte ∷ bytes)) = None
 abbrev pub whole_number : List ℕ → Option ℕ
 whole_number word = alone (u64_at word)
 
+-- a number from least to most, if there is one
+abbrev pub is_within : ℕ → ℕ → Option ℕ → Bool
+is_within least most None = false
+is_within least most (Some number) = nat_le least number && nat_le number most
+
 -- a word is a value for an option that takes this
 abbrev pub fits : Takes → List ℕ → Bool
 fits Nothing word = false
 fits Text word = is_value word
-fits Number word = is_some (whole_number word)
+fits (Number least most) word = is_within least most (whole_number word)
 
 -- ---- the words behind the command
 
@@ -125,9 +130,10 @@ abbrev pub text_or_none : List (List ℕ) → List ℕ
 text_or_none [] = []
 text_or_none (value ∷ values) = value
 
-abbrev pub number_or_none : List (List ℕ) → ℕ
-number_or_none [] = 0
-number_or_none (value ∷ values) = unwrap_or (whole_number value) 0
+-- the number that is given, or else this one
+abbrev pub number_or : ℕ → List (List ℕ) → ℕ
+number_or other [] = other
+number_or other (value ∷ values) = unwrap_or (whole_number value) other
 
 abbrev pub is_given : List (List ℕ) → Bool
 is_given [] = false
@@ -147,11 +153,15 @@ no_flags = record { orders = false; digests = false; json = false; trace = false
 
 -- the settings of a command, by the values of its options
 abbrev pub made : Command → (CommandOption → List (List ℕ)) → Settings
-made command.Run values = Run (text_or_none (values option.App)) (text_or_none (values option.Blocks)) (flags_of values)
-made command.Simulate values = Simulate (text_or_none (values option.App)) (text_or_none (values option.Blocks)) (text_or_none (values option.Schedule)) (first (values option.Arrivals)) (flags_of values)
+made command.Run values =
+    Run (text_or_none (values option.App)) (text_or_none (values option.Blocks)) (first (values option.Arrivals)) (number_or 1 (values option.Nodes))
+    (number_or 2 (values option.Executors)) (flags_of values)
+made command.Simulate values =
+    Simulate (text_or_none (values option.App)) (text_or_none (values option.Blocks)) (text_or_none (values option.Schedule))
+    (first (values option.Arrivals)) (flags_of values)
 made command.Provenance values = Provenance (text_or_none (values option.App)) (text_or_none (values option.Blocks)) (text_or_none (values option.Query))
 made command.Seal values = Seal (text_or_none (values option.Blocks))
-made command.Load values = Load (number_or_none (values option.Number))
+made command.Load values = Load (number_or 0 (values option.Number))
 
 -- what a command and the words behind it come to
 abbrev pub settled : Option Command → List (List ℕ) → Option Settings
@@ -162,3 +172,8 @@ settled (Some command) words = cond (is_read None words && is_line command (give
 abbrev pub settings_of : List (List ℕ) → Option Settings
 settings_of [] = None
 settings_of (word ∷ words) = settled (command_of word) words
+
+-- the numbers of a run lie in their ranges: it has 1 to 8 nodes, and each node at most 16 executors
+abbrev pub AreWithin : Settings → Type 0
+AreWithin (Run app blocks arrivals nodes executors flags) = (1 ≤ nodes) × (nodes ≤ 8) × (executors ≤ 16)
+AreWithin _ = Unit {0}

@@ -15,7 +15,7 @@ abbrev pub matches : Takes → List ℕ → Bool
 matches Nothing [] = true
 matches Nothing (byte ∷ bytes) = false
 matches Text value = fits Text value
-matches Number value = fits Number value
+matches (Number least most) value = fits (Number least most) value
 
 -- an option has a value that it takes
 abbrev pub IsSound : Item → Type 0

@@ -1,5 +1,5 @@
 -- The commands and the options of the command line, as data.
-use Rattle.std.specs.Prelude.{ℕ, List, [], ◌∷◌, Bool, cond, Option, codes, bytes_eq}
+use Rattle.std.specs.Prelude.{ℕ, ◌-◌, ◌^◌, List, [], ◌∷◌, Bool, cond, Option, codes, bytes_eq}
 use Rattle.std.specs.List.{find, list_any}
 use Rattle.cli_words.specs.declared.command.Command.{Command}
 use Rattle.cli_words.specs.declared.command.Command.TheVariants.{Run, Simulate, Provenance, Seal, Load}
@@ -45,16 +45,20 @@ abbrev pub rule_of : CommandOption → Rule
 rule_of option.App = rule (codes "--app") Text (Run ∷ Simulate ∷ Provenance ∷ []) []
 rule_of option.Blocks = rule (codes "--blocks") Text (Run ∷ Simulate ∷ Provenance ∷ Seal ∷ []) []
 rule_of option.Schedule = rule (codes "--schedule") Text (Simulate ∷ []) []
-rule_of option.Arrivals = rule (codes "--arrivals") Text [] (Simulate ∷ [])
+rule_of option.Arrivals = rule (codes "--arrivals") Text [] (Run ∷ Simulate ∷ [])
 rule_of option.Query = rule (codes "--query") Text (Provenance ∷ []) []
-rule_of option.Number = rule (codes "--number") Number (Load ∷ []) []
+rule_of option.Number = rule (codes "--number") (Number 0 (2 ^ 64 - 1)) (Load ∷ []) []
+rule_of option.Nodes = rule (codes "--nodes") (Number 1 8) [] (Run ∷ [])
+rule_of option.Executors = rule (codes "--executors") (Number 0 16) [] (Run ∷ [])
 rule_of option.Orders = rule (codes "--orders") Nothing [] (Run ∷ Simulate ∷ [])
 rule_of option.Digests = rule (codes "--digests") Nothing [] (Run ∷ Simulate ∷ [])
 rule_of option.Json = rule (codes "--json") Nothing [] (Run ∷ Simulate ∷ [])
-rule_of option.Trace = rule (codes "--trace") Nothing [] (Simulate ∷ [])
+rule_of option.Trace = rule (codes "--trace") Nothing [] (Run ∷ Simulate ∷ [])
 
 abbrev pub options : List CommandOption
-options = option.App ∷ option.Blocks ∷ option.Schedule ∷ option.Arrivals ∷ option.Query ∷ option.Number ∷ option.Orders ∷ option.Digests ∷ option.Json ∷ option.Trace ∷ []
+options =
+    option.App ∷ option.Blocks ∷ option.Schedule ∷ option.Arrivals ∷ option.Query ∷ option.Number ∷ option.Nodes ∷ option.Executors ∷ option.Orders
+    ∷ option.Digests ∷ option.Json ∷ option.Trace ∷ []
 
 abbrev pub word_of : CommandOption → List ℕ
 word_of x = (rule_of x).word

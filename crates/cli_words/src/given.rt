@@ -25,7 +25,7 @@ fn begin(word: &str) -> Step
         None => Step::Bad,
         Some(option) => match option.takes() {
             Takes::Nothing => Step::Ends(option),
-            Takes::Text | Takes::Number => Step::Awaits(option),
+            Takes::Text | Takes::Number { .. } => Step::Awaits(option),
         },
     }
 }

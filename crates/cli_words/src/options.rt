@@ -20,6 +20,10 @@ pub enum CommandOption {
     Query,
     /// `--number`, from which blocks are generated.
     Number,
+    /// `--nodes`, how many nodes run the blocks.
+    Nodes,
+    /// `--executors`, how many executors each node has.
+    Executors,
     /// `--orders`: the report shows the serial orders.
     Orders,
     /// `--digests`: the report shows the digests.
@@ -31,13 +35,15 @@ pub enum CommandOption {
 }
 
 /// All options.
-pub const OPTIONS: [CommandOption; 10] = [
+pub const OPTIONS: [CommandOption; 12] = [
     CommandOption::App,
     CommandOption::Blocks,
     CommandOption::Schedule,
     CommandOption::Arrivals,
     CommandOption::Query,
     CommandOption::Number,
+    CommandOption::Nodes,
+    CommandOption::Executors,
     CommandOption::Orders,
     CommandOption::Digests,
     CommandOption::Json,
@@ -51,8 +57,13 @@ pub enum Takes {
     Nothing,
     /// A text, as the name of a file.
     Text,
-    /// A number below 2^64, in canonical decimal.
-    Number,
+    /// A number in canonical decimal.
+    Number {
+        /// The least that is taken.
+        least: u64,
+        /// The most that is taken.
+        most: u64,
+    },
 }
 
 /// How often a command takes an option.
@@ -78,6 +89,8 @@ impl CommandOption {
             CommandOption::Arrivals => "--arrivals",
             CommandOption::Query => "--query",
             CommandOption::Number => "--number",
+            CommandOption::Nodes => "--nodes",
+            CommandOption::Executors => "--executors",
             CommandOption::Orders => "--orders",
             CommandOption::Digests => "--digests",
             CommandOption::Json => "--json",
@@ -99,7 +112,12 @@ impl CommandOption {
         match self {
             CommandOption::App | CommandOption::Blocks | CommandOption::Query => Takes::Text,
             CommandOption::Schedule | CommandOption::Arrivals => Takes::Text,
-            CommandOption::Number => Takes::Number,
+            CommandOption::Number => Takes::Number {
+                least: 0,
+                most: u64::MAX,
+            },
+            CommandOption::Nodes => Takes::Number { least: 1, most: 8 },
+            CommandOption::Executors => Takes::Number { least: 0, most: 16 },
             CommandOption::Orders
             | CommandOption::Digests
             | CommandOption::Json
@@ -114,8 +132,8 @@ fn use_in_run(option: CommandOption) -> Use
 {
     match option {
         CommandOption::App | CommandOption::Blocks => Use::Must,
-        CommandOption::Orders | CommandOption::Digests | CommandOption::Json => Use::May,
-        _ => Use::No,
+        CommandOption::Schedule | CommandOption::Query | CommandOption::Number => Use::No,
+        _ => Use::May,
     }
 }
 
@@ -126,6 +144,7 @@ fn use_in_simulate(option: CommandOption) -> Use
     match option {
         CommandOption::App | CommandOption::Blocks | CommandOption::Schedule => Use::Must,
         CommandOption::Query | CommandOption::Number => Use::No,
+        CommandOption::Nodes | CommandOption::Executors => Use::No,
         _ => Use::May,
     }
 }

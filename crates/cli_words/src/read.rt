@@ -1,7 +1,7 @@
 //! From words to settings.
 
 ghost use Rattle.std.specs.Prelude.{◌≡◌, ◌↔◌, IfOk, IsErrOf, Option, Some, None, length};
-ghost use Rattle.cli_words.specs.Language.{are_taken, first, flags_of, given, is_allowed, is_given, is_line, made, number_or_none, settings_of, settled, text_or_none, texts};
+ghost use Rattle.cli_words.specs.Language.{AreWithin, are_taken, first, flags_of, given, is_allowed, is_given, is_line, made, number_or, settings_of, settled, text_or_none, texts};
 
 use crate::command::{Command, command_of};
 use crate::flags::Flags;
@@ -50,14 +50,30 @@ fn text_of(alloc: Global, words: &[&str], option: CommandOption) -> Result<Word,
     Word::new(alloc, find(words, option).unwrap_or(""))
 }
 
-// The number that the words give an option.
-fn number_of(words: &[&str], option: CommandOption) -> u64
-    ensures { result ≡ number_or_none (given (texts words.now) option) }
+// The number that the words give an option, or else this one.
+fn number_or(other: u64, words: &[&str], option: CommandOption) -> u64
+    ensures { result ≡ number_or other (given (texts words.now) option) }
 {
     match find(words, option) {
-        None => 0,
-        Some(value) => whole_number(value).unwrap_or(0),
+        None => other,
+        Some(value) => whole_number(value).unwrap_or(other),
     }
+}
+
+// How many nodes the words ask for.
+#[tactic(auto, using(crate::proofs::Ranges::few_nodes))]
+fn nodes_of(words: &[&str]) -> u32
+    ensures { result ≡ number_or 1 (given (texts words.now) CommandOption.Nodes) }
+{
+    number_or(1, words, CommandOption::Nodes) as u32
+}
+
+// How many executors the words ask for.
+#[tactic(auto, using(crate::proofs::Ranges::few_executors))]
+fn executors_of(words: &[&str]) -> u32
+    ensures { result ≡ number_or 2 (given (texts words.now) CommandOption.Executors) }
+{
+    number_or(2, words, CommandOption::Executors) as u32
 }
 
 // The value of an option, if the words give it.
@@ -99,6 +115,9 @@ fn to_run(alloc: Global, words: &[&str]) -> Result<Settings, NoMemory>
     Ok(Settings::Run {
         app: text_of(alloc, words, CommandOption::App)?,
         blocks: text_of(alloc, words, CommandOption::Blocks)?,
+        arrivals: text_if_given(alloc, words, CommandOption::Arrivals)?,
+        nodes: nodes_of(words),
+        executors: executors_of(words),
         flags: flags_of(words),
     })
 }
@@ -143,7 +162,7 @@ fn to_settings(alloc: Global, command: Command, words: &[&str]) -> Result<Settin
         Command::Provenance => to_provenance(alloc, words),
         Command::Seal => to_seal(alloc, words),
         Command::Load => Ok(Settings::Load {
-            number: number_of(words, CommandOption::Number),
+            number: number_or(0, words, CommandOption::Number),
         }),
     }
 }
@@ -161,9 +180,10 @@ fn settle(alloc: Global, command: Command, words: &[&str]) -> Result<Settings, W
 }
 
 /// Reads the words after the program's name. The fault `Usage` comes exactly where the words are not in the language of
-/// the command line.
+/// the command line; so a run that is asked for has 1 to 8 nodes, and at most 16 executors a node.
 pub fn read_words(alloc: Global, words: &[&str]) -> Result<Settings, WordsFault>
     ensures ok { IfOk result (λ settings. settings_of (texts words.now) ≡ Some settings) }
+    ensures within { IfOk result AreWithin }
     ensures usage { IsErrOf result WordsFault.Usage ↔ (settings_of (texts words.now) ≡ None) }
 {
     let Some((word, options)) = words.split_first() else {

@@ -7,12 +7,18 @@ use rel_base::NoMemory;
 /// What the program is to do.
 #[derive(Drop)]
 pub enum Settings {
-    /// Runs the blocks of a file on the application of another.
+    /// Runs the blocks of a file on the application of another, on one node or several.
     Run {
         /// The name of the application's file.
         app: Word,
         /// The name of the file of blocks.
         blocks: Word,
+        /// The front of the names of the files of what arrives, if there are any.
+        arrivals: Option<Word>,
+        /// How many nodes run the blocks, 1 to 8.
+        nodes: u32,
+        /// How many executors each node has, at most 16.
+        executors: u32,
         /// The form of the report, and what it shows besides.
         flags: Flags,
     },

@@ -47,3 +47,67 @@ fn commands(rt: HostRuntime) -> Result<(), Fail> {
     assert!(rt; matches!(refused, Err(WordsFault::Usage)));
     Ok(())
 }
+
+// A run has one node with two executors where the words say nothing else.
+#[test]
+fn a_run(rt: HostRuntime) -> Result<(), Fail> {
+    let alloc = rt.alloc();
+    let plain = read_words(alloc, &["run", "--app", "a", "--blocks", "b"]);
+    assert!(rt;
+        matches!(
+            plain,
+            Ok(Settings::Run {
+                arrivals: None,
+                nodes: 1,
+                executors: 2,
+                ..
+            })
+        )
+    );
+    let all = [
+        "run",
+        "--trace",
+        "--executors",
+        "0",
+        "--app",
+        "a",
+        "--nodes",
+        "8",
+        "--json",
+        "--arrivals",
+        "front",
+        "--orders",
+        "--blocks",
+        "b",
+        "--digests",
+    ];
+    assert!(rt;
+        matches!(
+            read_words(alloc, &all),
+            Ok(Settings::Run {
+                arrivals: Some(_),
+                nodes: 8,
+                executors: 0,
+                ..
+            })
+        )
+    );
+    Ok(())
+}
+
+// Numbers outside their ranges, and numbers in another form, are refused.
+#[test]
+fn out_of_range(rt: HostRuntime) -> Result<(), Fail> {
+    let alloc = rt.alloc();
+    let refused = [
+        ("--nodes", "9"),
+        ("--nodes", "0"),
+        ("--executors", "17"),
+        ("--nodes", "01"),
+    ];
+    for (option, number) in refused {
+        let words = ["run", "--app", "a", "--blocks", "b", option, number];
+        assert!(rt; matches!(read_words(alloc, &words), Err(WordsFault::Usage)));
+    }
+    Ok(())
+}

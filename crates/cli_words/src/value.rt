@@ -1,7 +1,7 @@
 //! The values of options.
 
 ghost use Rattle.std.specs.Prelude.{◌≡◌, Option};
-ghost use Rattle.cli_words.specs.Language.{fits, is_value, whole_number};
+ghost use Rattle.cli_words.specs.Language.{fits, is_value, is_within, whole_number};
 
 use crate::options::Takes;
 use literals::read_number;
@@ -26,6 +26,16 @@ pub fn whole_number(word: &str) -> Option<u64>
     }
 }
 
+// Whether a word is a number from least to most.
+fn is_within(least: u64, most: u64, word: &str) -> bool
+    ensures { result ≡ is_within least most (whole_number word.now) }
+{
+    match whole_number(word) {
+        Some(number) => least <= number && number <= most,
+        None => false,
+    }
+}
+
 /// Whether a word is a value for an option that takes this.
 pub fn fits(takes: Takes, word: &str) -> bool
     ensures { result ≡ fits takes word.now }
@@ -33,6 +43,6 @@ pub fn fits(takes: Takes, word: &str) -> bool
     match takes {
         Takes::Nothing => false,
         Takes::Text => is_value(word),
-        Takes::Number => whole_number(word).is_some(),
+        Takes::Number { least, most } => is_within(least, most, word),
     }
 }
