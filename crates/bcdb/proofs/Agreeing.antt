@@ -1,14 +1,12 @@
 -- A simulation answers as a run does, where it is not refused.
 use Rattle.std.proofs.Common.{Bool, IfSome, List, None, Option, Some, [], ap, append-nil, cond, false, length, refl, sym, true, ◌++◌, ◌==◌, ◌∙◌, ◌≡◌, ◌∷◌, ℕ}
 use Rattle.std.proofs.lemmas.Bool.{eqb-true}
-use Rattle.std.specs.Option.{option_map}
 use Rattle.std.specs.Prelude.{Err, Ok, Result}
 use Rattle.bcdb.specs.Accepted.{accepted}
-use Rattle.bcdb.specs.Agrees.{Adds, AnswersAsRun, is_refused, untraced}
-use Rattle.bcdb.specs.Answer.{arrived_in, first_node, look_of, over_app, over_arrivals, over_blocks, over_schedule, over_simulation, over_told, says, simulation_of, status_of}
+use Rattle.bcdb.specs.Agrees.{Adds, AnswersAsRun, is_refused}
+use Rattle.bcdb.specs.Answer.{Answer, arrived_in, cluster_of, file_at, look_of, over_arrivals, over_cluster, over_schedule, over_simulation, over_told, says, simulation_of, status_of}
 use Rattle.bcdb.specs.Refusals.{refusal_line}
 use Rattle.bcdb.specs.declared.refusal.Refusal.{Refusal}
-use Rattle.bcdb.specs.declared.task.Task.TheVariants.{Report}
 use Rattle.chain_file.specs.Chain.{chain}
 use Rattle.cli_words.specs.declared.settings.Settings.TheVariants.{Load, Provenance, Run, Seal, Simulate}
 use Rattle.cli_words.specs.declared.settings.Settings.{Settings}
@@ -17,61 +15,62 @@ use Rattle.node_model.specs.Fold.{all_rows, node_result, results_of}
 use Rattle.node_model.specs.History.{Sealed, snapshot}
 use Rattle.node_model.specs.declared.result.NodeResult.{NodeResult}
 use Rattle.proc_syntax.specs.Declaring.{tables_of}
+use Rattle.proc_syntax.specs.declared.call.Block.{Block}
 use Rattle.proc_syntax.specs.declared.call.Tx.{Tx}
 use Rattle.proc_syntax.specs.declared.chain_fault.ChainFault.{ChainFault}
 use Rattle.proc_syntax.specs.declared.tree.App.{App}
-use Rattle.report_text.specs.Report.{journal_lines, numbered, report_lines, report_text, shown_if}
+use Rattle.report_text.specs.Report.{journals_text, report_lines, shown_if}
 use Rattle.report_text.specs.declared.look.Look.{Look}
 use Rattle.schedule_sim.proofs.Legal.{schedules_seal_the_fold}
 use Rattle.schedule_sim.specs.Running.{Given, scheduled, simulated, told_of}
 use Rattle.schedule_sim.specs.Schedules.{schedule_of}
 use Rattle.schedule_sim.specs.declared.step.Step.{Step}
 
-abbrev quiet : Look → Look
-quiet look = record look { trace = false }
-
 abbrev told_by : App → List Sealed → NodeResult
 told_by app sealed = record { blocks = results_of (tables_of app) sealed; tables = all_rows (snapshot (length sealed) sealed) 0 (tables_of app); journal = [] }
 
+-- the report of a run of one node
+abbrev one_reported : Look → App → List Block → Option ChainFault → Answer
+one_reported look app blocks stop = says (status_of stop) (report_lines look (tables_of app) (node_result app blocks ∷ []) stop)
+
 simulated_as_run : (look : Look) (given : Given) (lines : List Step) (stop : Option ChainFault) → is_refused (over_told look given.app stop (simulated given lines)).status ≡ false
-    → Adds look.trace (over_blocks (Report (quiet look)) given.app given.blocks stop) (over_told look given.app stop (simulated given lines))
+    → Adds look.trace (one_reported look given.app given.blocks stop) (over_told look given.app stop (simulated given lines))
 simulated_as_run look given lines stop kept = by (length (scheduled given lines).sealed == length given.blocks) refl kept
   where
     by : (all : Bool) → (length (scheduled given lines).sealed == length given.blocks) ≡ all
         → is_refused (over_told look given.app stop (cond {A = Result NodeResult ℕ} all (Ok (told_of given.app (scheduled given lines))) (Err (length (scheduled given lines).sealed)))).status ≡ false
-        → Adds look.trace (over_blocks (Report (quiet look)) given.app given.blocks stop)
+        → Adds look.trace (one_reported look given.app given.blocks stop)
         (over_told look given.app stop (cond {A = Result NodeResult ℕ} all (Ok (told_of given.app (scheduled given lines))) (Err (length (scheduled given lines).sealed))))
     by true e kept =
         let sealed = (schedules_seal_the_fold given lines (eqb-true (length (scheduled given lines).sealed) (length given.blocks) e)).1 in
-        let journals : List ℕ = numbered journal_lines 1 (told_of given.app (scheduled given lines) ∷ []) in
+        let journals : List ℕ = journals_text (told_of given.app (scheduled given lines) ∷ []) in
         record {
           status = refl;
           more = shown_if look.trace journals;
-          bytes = ap (λ (chain : List Sealed). report_lines look (tables_of given.app) (told_by given.app chain ∷ []) stop ++ shown_if look.trace journals) sealed
-              ∙ ap (λ text. text ++ shown_if look.trace journals) (sym (append-nil (report_lines look (tables_of given.app) (node_result given.app given.blocks ∷ []) stop)));
+          bytes = ap (λ (chain : List Sealed). report_lines look (tables_of given.app) (told_by given.app chain ∷ []) stop ++ shown_if look.trace journals) sealed;
           none = λ silent. ap (λ b. shown_if b journals) silent;
         }
     by false e kept = absurd (cc)
 
 scheduled_as_run : (look : Look) (app : App) (txs : List Tx) (steps : Result (List Step) ℕ) (bytes : List ℕ) → is_refused (over_schedule look app txs steps bytes).status ≡ false
-    → Adds look.trace (over_app (Report (quiet look)) (Ok app) bytes) (over_schedule look app txs steps bytes)
+    → Adds look.trace (one_reported look app (chain bytes).0 (chain bytes).1) (over_schedule look app txs steps bytes)
 scheduled_as_run look app txs (Err line) bytes kept = absurd (cc)
 scheduled_as_run look app txs (Ok steps) bytes kept = simulated_as_run look (record { app = app; blocks = (chain bytes).0; arrivals = txs }) steps (chain bytes).1 kept
 
 arrived_as_run : (look : Look) (app : App) (txs : Result (List Tx) ℕ) (schedule blocks : List ℕ) → is_refused (over_arrivals look app txs schedule blocks).status ≡ false
-    → Adds look.trace (over_app (Report (quiet look)) (Ok app) blocks) (over_arrivals look app txs schedule blocks)
+    → Adds look.trace (one_reported look app (chain blocks).0 (chain blocks).1) (over_arrivals look app txs schedule blocks)
 arrived_as_run look app (Err line) schedule blocks kept = absurd (cc)
 arrived_as_run look app (Ok txs) schedule blocks kept = scheduled_as_run look app txs (schedule_of schedule) blocks kept
 
 as_run : (settings : Option Settings) (files : Files) → AnswersAsRun settings files
 as_run None files = tt
-as_run (Some (Run app blocks flags)) files = tt
+as_run (Some (Run app blocks front nodes executors flags)) files = tt
 as_run (Some (Simulate app blocks schedule front flags)) files = λ kept. by (accepted (files app)) kept
   where
     by : (found : Result App Refusal) → is_refused (over_simulation (simulation_of app blocks schedule front flags) found files).status ≡ false
-        → Adds flags.trace (over_app (Report (look_of (untraced flags))) found (files blocks)) (over_simulation (simulation_of app blocks schedule front flags) found files)
+        → Adds flags.trace (over_cluster (cluster_of app blocks None 1 0 flags) found files) (over_simulation (simulation_of app blocks schedule front flags) found files)
     by (Err refusal) kept = record { status = refl; more = []; bytes = sym (append-nil (refusal_line refusal)); none = λ silent. refl }
-    by (Ok checked) kept = arrived_as_run (look_of flags) checked (arrived_in (option_map first_node front) files) (files schedule) (files blocks) kept
+    by (Ok checked) kept = arrived_as_run (look_of flags) checked (arrived_in (file_at front 1) files) (files schedule) (files blocks) kept
 as_run (Some (Provenance app blocks query)) files = tt
 as_run (Some (Seal blocks)) files = tt
 as_run (Some (Load number)) files = tt

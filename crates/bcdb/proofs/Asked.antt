@@ -73,12 +73,12 @@ keeps_schedule told old new asked keeps allows = (
   λ ok. keeps_blocks told old new asked.blocks keeps (allows.1 ok),
 )
 
+pub keeps_arrivals_of : (told : Option Files) (old new : Leave) (name : Option (List ℕ)) → Keeps old new → AllowsArrivals told old name → AllowsArrivals told new name
+keeps_arrivals_of told old new None keeps allows = tt
+keeps_arrivals_of told old new (Some name) keeps allows = λ at clear. keeps name at 65536 (allows at clear)
+
 pub keeps_arrivals : (told : Option Files) (old new : Leave) (asked : Simulation) → Keeps old new → AllowsFromArrivals asked told old → AllowsFromArrivals asked told new
 keeps_arrivals told old new asked keeps allows = (
-  by asked.arrivals allows.0,
+  keeps_arrivals_of told old new asked.arrivals keeps allows.0,
   λ ok. keeps_schedule told old new asked keeps (allows.1 ok),
 )
-  where
-    by : (name : Option (List ℕ)) → AllowsArrivals told old name → AllowsArrivals told new name
-    by None allows = tt
-    by (Some name) allows = λ at clear. keeps name at 65536 (allows at clear)

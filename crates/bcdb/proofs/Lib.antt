@@ -11,3 +11,6 @@ pub mod Long
 pub mod Asked
 pub mod Leaves
 pub mod Agreeing
+pub mod Clustered
+pub mod Gathering
+pub mod Replying

@@ -1,10 +1,9 @@
 -- The orders that a run answers.
 use Rattle.std.proofs.Common.{Bool, IfSome, List, None, Option, Some, [], cond, false, length, refl, subst, sym, true, ◌+◌, ◌==◌, ◌≡◌, ◌∷◌, ℕ}
 use Rattle.std.proofs.lemmas.Bool.{eqb-true}
-use Rattle.std.specs.Option.{option_map}
 use Rattle.std.specs.Prelude.{Err, Ok, Result}
 use Rattle.bcdb.specs.Accepted.{accepted}
-use Rattle.bcdb.specs.Answer.{arrived_in, first_node}
+use Rattle.bcdb.specs.Answer.{arrived_in, file_at}
 use Rattle.bcdb.specs.InOrder.{BlocksInOrder, RunsInOrder, StepsInOrder, ToldInOrder}
 use Rattle.bcdb.specs.declared.refusal.Refusal.{Refusal}
 use Rattle.chain_file.proofs.Counted.{file_numbered}
@@ -31,6 +30,10 @@ numbered : (number : ℕ) (blocks : List Block) → NumberedFrom number blocks �
 numbered number [] are = tt
 numbered number (block ∷ rest) are = (are.0, numbered (number + 1) rest are.2)
 
+-- blocks of a file are numbered as the nodes want them
+pub numbered_from : (blocks taken : List Block) → taken ≡ blocks → NumberedFrom 1 blocks → AreNumbered 1 taken
+numbered_from blocks taken same are = subst (AreNumbered 1) (sym same) (numbered 1 blocks are)
+
 blocks_in_order : (found : Result App Refusal) (bytes : List ℕ) → BlocksInOrder found bytes
 blocks_in_order (Err refusal) bytes = tt
 blocks_in_order (Ok app) bytes = results_run app (chain bytes).0 (numbered 1 (chain bytes).0 (file_numbered bytes))
@@ -55,9 +58,9 @@ steps_in_order (Ok app) (Ok txs) (Ok steps) bytes = simulated_in_order (record {
 
 runs_in_order : (settings : Option Settings) (files : Files) → RunsInOrder settings files
 runs_in_order None files = tt
-runs_in_order (Some (Run app blocks flags)) files = blocks_in_order (accepted (files app)) (files blocks)
+runs_in_order (Some (Run app blocks front nodes executors flags)) files = blocks_in_order (accepted (files app)) (files blocks)
 runs_in_order (Some (Simulate app blocks schedule front flags)) files =
-    steps_in_order (accepted (files app)) (arrived_in (option_map first_node front) files) (schedule_of (files schedule)) (files blocks)
+    steps_in_order (accepted (files app)) (arrived_in (file_at front 1) files) (schedule_of (files schedule)) (files blocks)
 runs_in_order (Some (Provenance app blocks query)) files = tt
 runs_in_order (Some (Seal blocks)) files = tt
 runs_in_order (Some (Load number)) files = tt

@@ -87,7 +87,7 @@ arrivals_mean None look app txs name schedule blocks reply is means = tt
 arrivals_mean (Some files) look app txs name schedule blocks reply is means = subst (λ found. Means (over_arrivals look app found (files schedule) (files blocks)) reply) (sym is) means
 
 pub arrivals_refused : (told : Option Files) (look : Look) (app : App) (line : ℕ) (name : Option (List ℕ)) (schedule blocks : List ℕ) (reply : Reply) → IfSome told (λ files. arrived_in name files ≡ Err line)
-    → Means (says ArrivalRefused (arrivals_refusal line)) reply → IfSome told (λ files. Means (over_arrivals look app (arrived_in name files) (files schedule) (files blocks)) reply)
+    → Means (says ArrivalRefused (arrivals_refusal (record { node = 1; line = line }))) reply → IfSome told (λ files. Means (over_arrivals look app (arrived_in name files) (files schedule) (files blocks)) reply)
 arrivals_refused None look app line name schedule blocks reply is means = tt
 arrivals_refused (Some files) look app line name schedule blocks reply is means = subst (λ found. Means (over_arrivals look app found (files schedule) (files blocks)) reply) (sym is) means
 

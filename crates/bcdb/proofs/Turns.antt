@@ -8,7 +8,6 @@ use Rattle.bcdb.specs.Reply.{Means}
 use Rattle.bcdb.specs.Taking.{GivesApp}
 use Rattle.bcdb.specs.declared.decide.Reply.{Reply}
 use Rattle.bcdb.specs.declared.status.Status.TheVariants.{AppRefused}
-use Rattle.bcdb.specs.declared.task.Task.{Task}
 use Rattle.edge_traits.specs.Shelf.{Files}
 use Rattle.bcdb.specs.Refusals.{refusal_line}
 use Rattle.bcdb.specs.declared.refusal.Refusal.{Refusal}
@@ -38,11 +37,11 @@ too_long_told None name long = tt
 too_long_told (Some files) name long = refused (nat_le (length (files name)) 1048576) (typed (application (tokens_of (files name)))) (not_short 1048576 (length (files name)) long)
 
 -- bytes that are no application are refused
-pub refused_told : (task : Task) (told : Option Files) (app_name name bytes : List ℕ) (refusal : Refusal) (reply : Reply) → IfSome told (λ files. bytes ≡ files app_name) → accepted bytes ≡ Err refusal
-    → Means (says AppRefused (refusal_line refusal)) reply → IfSome told (λ files. Means (over_app task (accepted (files app_name)) (files name)) reply)
-refused_told task None app_name name bytes refusal reply same is means = tt
-refused_told task (Some files) app_name name bytes refusal reply same is means =
-    subst (λ found. Means (over_app task found (files name)) reply) (sym (ap accepted (sym same) ∙ is)) means
+pub refused_told : (query : List ℕ) (told : Option Files) (app_name name bytes : List ℕ) (refusal : Refusal) (reply : Reply) → IfSome told (λ files. bytes ≡ files app_name) → accepted bytes ≡ Err refusal
+    → Means (says AppRefused (refusal_line refusal)) reply → IfSome told (λ files. Means (over_app query (accepted (files app_name)) (files name)) reply)
+refused_told query None app_name name bytes refusal reply same is means = tt
+refused_told query (Some files) app_name name bytes refusal reply same is means =
+    subst (λ found. Means (over_app query found (files name)) reply) (sym (ap accepted (sym same) ∙ is)) means
 
 -- what the bytes of a file are read as is what the file is
 pub given_told : (told : Option Files) (name bytes : List ℕ) (read : Result Checked Refusal) → IfSome told (λ files. bytes ≡ files name) → GivesApp read (accepted bytes)

@@ -3,7 +3,6 @@ use Rattle.std.specs.Prelude.{Bool, List, None, Option, Some, [], false, true, �
 use Rattle.bcdb.specs.Answer.{Answer, over_settings}
 use Rattle.bcdb.specs.declared.status.Status.TheVariants.{ArrivalRefused, ScheduleRefused}
 use Rattle.bcdb.specs.declared.status.Status.{Status}
-use Rattle.cli_words.specs.declared.flags.Flags.{Flags}
 use Rattle.cli_words.specs.declared.settings.Settings.TheVariants.{Run, Simulate}
 use Rattle.cli_words.specs.declared.settings.Settings.{Settings}
 use Rattle.edge_traits.specs.Shelf.{Files}
@@ -21,15 +20,11 @@ pub record Adds (asked : Bool) (first second : Answer) : Type 0 where
   pub bytes : second.bytes ≡ first.bytes ++ more
   pub none : asked ≡ false → more ≡ []
 
--- the flags of a report without journals
-abbrev pub untraced : Flags → Flags
-untraced flags = record flags { trace = false }
-
--- whatever arrives and whatever the schedule, where these are not refused the answer is that of a run of the same blocks on the same application,
--- and then the journal, if that is asked for
+-- whatever arrives and whatever the schedule, where these are not refused the answer is that of a run of one node over the same blocks on the same
+-- application, and then the journal, if that is asked for
 abbrev pub AnswersAsRun : Option Settings → Files → Type 0
 AnswersAsRun None files = Unit {0}
 AnswersAsRun (Some (Simulate app blocks schedule front flags)) files =
     is_refused (over_settings (Some (Simulate app blocks schedule front flags)) files).status ≡ false
-    → Adds flags.trace (over_settings (Some (Run app blocks (untraced flags))) files) (over_settings (Some (Simulate app blocks schedule front flags)) files)
+    → Adds flags.trace (over_settings (Some (Run app blocks None 1 0 flags)) files) (over_settings (Some (Simulate app blocks schedule front flags)) files)
 AnswersAsRun (Some _) files = Unit {0}

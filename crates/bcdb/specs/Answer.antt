@@ -1,15 +1,15 @@
--- What the program means to answer, over whole files: the report of the fold of the blocks on the application, or of a node that a schedule drives,
--- or the versions that a query selects, or the blocks as a chain.
-use Rattle.std.specs.Prelude.{Err, List, None, Ok, Option, Result, Some, [], codes, false, ◌++◌, ◌≡◌, ◌∷◌, ℕ}
+-- What the program means to answer, over whole files: the report of nodes that each make the fold of the blocks on the application, or of a node that a
+-- schedule drives, or the versions that a query selects, or the blocks as a chain.
+use Rattle.std.specs.Prelude.{Err, List, None, Ok, Option, Result, Some, [], decimal, replicate, suc, zero, codes, false, ◌+◌, ◌++◌, ◌≡◌, ◌∷◌, ℕ}
 use Rattle.bcdb.specs.Accepted.{accepted}
 use Rattle.bcdb.specs.Refusals.{arrivals_refusal, query_refusal, refusal_line, schedule_refusal, short_refusal}
 use Rattle.bcdb.specs.Selected.{selected}
+use Rattle.bcdb.specs.declared.cluster.Cluster.{Cluster}
+use Rattle.bcdb.specs.declared.refusal.BadArrivals.{BadArrivals}
 use Rattle.bcdb.specs.declared.refusal.Refusal.{Refusal}
 use Rattle.bcdb.specs.declared.simulation.Simulation.{Simulation}
 use Rattle.bcdb.specs.declared.status.Status.TheVariants.{AppRefused, ArrivalRefused, ChainRefused, Done, NoMemory, QueryRefused, ReadFault, ScheduleRefused, Usage, WriteFault}
 use Rattle.bcdb.specs.declared.status.Status.{Status}
-use Rattle.bcdb.specs.declared.task.Task.{Task}
-use Rattle.bcdb.specs.declared.task.Task.TheVariants.{Query, Report}
 use Rattle.chain_file.specs.Chain.{chain}
 use Rattle.chain_file.specs.ChainText.{chain_text}
 use Rattle.cli_words.specs.Language.{settings_of}
@@ -32,7 +32,7 @@ use Rattle.provenance.specs.Grammar.{query_of}
 use Rattle.provenance.specs.declared.query.QueryFault.{QueryFault}
 use Rattle.rel_base.specs.declared.schema.TableDef.{TableDef}
 use Rattle.report_text.specs.Ending.{end_line, stopped_line}
-use Rattle.report_text.specs.Report.{report_text}
+use Rattle.report_text.specs.Report.{report_lines, report_text}
 use Rattle.report_text.specs.Summary.{summary_text}
 use Rattle.report_text.specs.Versions.{versions_text}
 use Rattle.report_text.specs.declared.look.Look.{Look}
@@ -64,15 +64,14 @@ abbrev pub over_versions : List TableDef → Option ChainFault → Result (List 
 over_versions tables stop (Ok versions) = says (status_of stop) (versions_text tables versions ++ end_line stop)
 over_versions tables stop (Err fault) = says QueryRefused (query_refusal fault)
 
--- the blocks decide after the application: what is asked is answered over those before the first fault
-abbrev pub over_blocks : Task → App → List Block → Option ChainFault → Answer
-over_blocks (Report look) app blocks stop = says (status_of stop) (report_text look (tables_of app) (node_result app blocks ∷ []) stop)
-over_blocks (Query text) app blocks stop = over_versions (tables_of app) stop (selected app blocks (query_of text))
+-- the blocks decide after the application: a query is answered over those before the first fault
+abbrev pub over_blocks : (query : List ℕ) → App → List Block → Option ChainFault → Answer
+over_blocks query app blocks stop = over_versions (tables_of app) stop (selected app blocks (query_of query))
 
 -- the application decides before the blocks
-abbrev pub over_app : Task → Result App Refusal → List ℕ → Answer
-over_app task (Err refusal) bytes = says AppRefused (refusal_line refusal)
-over_app task (Ok app) bytes = over_blocks task app (chain bytes).0 (chain bytes).1
+abbrev pub over_app : (query : List ℕ) → Result App Refusal → List ℕ → Answer
+over_app query (Err refusal) bytes = says AppRefused (refusal_line refusal)
+over_app query (Ok app) bytes = over_blocks query app (chain bytes).0 (chain bytes).1
 
 -- a seal is the chain file of the blocks of a file without a fault, and else where the file stopped
 abbrev pub sealed : List Block → Option ChainFault → Answer
@@ -83,6 +82,51 @@ sealed blocks (Some fault) = says ChainRefused (stopped_line fault)
 abbrev pub over_load : ℕ → Result App Refusal → Answer
 over_load number (Err refusal) = says AppRefused (refusal_line refusal)
 over_load number (Ok app) = says Done (summary_text number (node_result app (load_blocks number)).blocks)
+
+-- ---- what arrives
+
+-- the file of what arrives at a node is named by the words, and behind these the node's number
+abbrev pub node_file : List ℕ → ℕ → List ℕ
+node_file front node = front ++ decimal node
+
+abbrev pub file_at : Option (List ℕ) → ℕ → Option (List ℕ)
+file_at front node = option_map (λ name. node_file name node) front
+
+-- what arrives by a file, if one is named; or the first line with a fault
+abbrev pub arrived_in : Option (List ℕ) → Files → Result (List Tx) ℕ
+arrived_in None files = Ok []
+arrived_in (Some name) files = arrivals (files name)
+
+-- what arrives at a node, and then what does at others; or of the first file with a fault the node and the line
+abbrev pub arrived_before : ℕ → Result (List Tx) ℕ → Result (List (List Tx)) BadArrivals → Result (List (List Tx)) BadArrivals
+arrived_before node (Err line) others = Err (record { node = node; line = line })
+arrived_before node (Ok txs) (Err bad) = Err bad
+arrived_before node (Ok txs) (Ok others) = Ok (txs ∷ others)
+
+-- what arrives at so many nodes, which are numbered one after another
+abbrev pub all_arrived : Option (List ℕ) → (node count : ℕ) → Files → Result (List (List Tx)) BadArrivals
+all_arrived front node zero files = Ok []
+all_arrived front node (suc count) files = arrived_before node (arrived_in (file_at front node) files) (all_arrived front (node + 1) count files)
+
+-- ---- a run of nodes
+
+-- each node makes the fold of the blocks; how many executors it has, and what arrives, has no part in that
+abbrev pub reported : Cluster → App → List Block → Option ChainFault → Answer
+reported asked app blocks stop = says (status_of stop) (report_lines asked.look (tables_of app) (replicate asked.nodes (node_result app blocks)) stop)
+
+-- what arrives decides before the blocks
+abbrev pub over_nodes : Cluster → App → Result (List (List Tx)) BadArrivals → List ℕ → Answer
+over_nodes asked app (Err bad) bytes = says ArrivalRefused (arrivals_refusal bad)
+over_nodes asked app (Ok txs) bytes = reported asked app (chain bytes).0 (chain bytes).1
+
+-- the application decides before all of these
+abbrev pub over_cluster : Cluster → Result App Refusal → Files → Answer
+over_cluster asked (Err refusal) files = says AppRefused (refusal_line refusal)
+over_cluster asked (Ok app) files = over_nodes asked app (all_arrived asked.arrivals 1 asked.nodes files) (files asked.blocks)
+
+abbrev pub cluster_of : (app blocks : List ℕ) → Option (List ℕ) → (nodes executors : ℕ) → Flags → Cluster
+cluster_of app blocks front nodes executors flags =
+    record { app = app; arrivals = front; nodes = nodes; executors = executors; blocks = blocks; look = look_of flags }
 
 -- ---- a simulation
 
@@ -98,25 +142,16 @@ over_schedule look app txs (Ok steps) bytes = over_told look app (chain bytes).1
 
 -- what arrives decides before the schedule
 abbrev pub over_arrivals : Look → App → Result (List Tx) ℕ → (schedule blocks : List ℕ) → Answer
-over_arrivals look app (Err line) schedule blocks = says ArrivalRefused (arrivals_refusal line)
+over_arrivals look app (Err line) schedule blocks = says ArrivalRefused (arrivals_refusal (record { node = 1; line = line }))
 over_arrivals look app (Ok txs) schedule blocks = over_schedule look app txs (schedule_of schedule) blocks
-
--- what arrives by a file, if one is named
-abbrev pub arrived_in : Option (List ℕ) → Files → Result (List Tx) ℕ
-arrived_in None files = Ok []
-arrived_in (Some name) files = arrivals (files name)
 
 -- the application decides before all of these
 abbrev pub over_simulation : Simulation → Result App Refusal → Files → Answer
 over_simulation asked (Err refusal) files = says AppRefused (refusal_line refusal)
 over_simulation asked (Ok app) files = over_arrivals asked.look app (arrived_in asked.arrivals files) (files asked.schedule) (files asked.blocks)
 
--- the file of what arrives at the first node is named by the words, and behind these the node's number
-abbrev pub first_node : List ℕ → List ℕ
-first_node front = front ++ codes "1"
-
 abbrev pub simulation_of : (app blocks schedule : List ℕ) → Option (List ℕ) → Flags → Simulation
-simulation_of app blocks schedule front flags = record { app = app; arrivals = option_map first_node front; schedule = schedule; blocks = blocks; look = look_of flags }
+simulation_of app blocks schedule front flags = record { app = app; arrivals = file_at front 1; schedule = schedule; blocks = blocks; look = look_of flags }
 
 -- words that are not in the language
 abbrev pub usage_refused : Answer
@@ -125,9 +160,9 @@ usage_refused = says Usage (codes "refused usage\n")
 -- the words decide first
 abbrev pub over_settings : Option Settings → Files → Answer
 over_settings None files = usage_refused
-over_settings (Some (Run app blocks flags)) files = over_app (Report (look_of flags)) (accepted (files app)) (files blocks)
+over_settings (Some (Run app blocks front nodes executors flags)) files = over_cluster (cluster_of app blocks front nodes executors flags) (accepted (files app)) files
 over_settings (Some (Simulate app blocks schedule front flags)) files = over_simulation (simulation_of app blocks schedule front flags) (accepted (files app)) files
-over_settings (Some (Provenance app blocks query)) files = over_app (Query query) (accepted (files app)) (files blocks)
+over_settings (Some (Provenance app blocks query)) files = over_app query (accepted (files app)) (files blocks)
 over_settings (Some (Seal blocks)) files = sealed (chain (files blocks)).0 (chain (files blocks)).1
 over_settings (Some (Load number)) files = over_load number (accepted app_text)
 

@@ -1,6 +1,6 @@
 -- What a run over files answers, and the orders in it.
 use Rattle.std.specs.Prelude.{Err, List, None, Ok, Option, Result, Some, ℕ}
-use Rattle.bcdb.specs.Answer.{arrived_in, first_node}
+use Rattle.bcdb.specs.Answer.{arrived_in, file_at}
 use Rattle.bcdb.specs.Accepted.{accepted}
 use Rattle.bcdb.specs.declared.refusal.Refusal.{Refusal}
 use Rattle.chain_file.specs.Chain.{chain}
@@ -16,7 +16,6 @@ use Rattle.schedule_sim.specs.Running.{simulated}
 use Rattle.schedule_sim.specs.Schedules.{schedule_of}
 use Rattle.schedule_sim.specs.declared.step.Step.{Step}
 use Rattle.serial_laws.specs.InOrder.{EachInOrder}
-use Rattle.std.specs.Option.{option_map}
 
 -- of the blocks of a file, on an application, the results that are reported tell for each block an order in which its committed
 -- transactions run again one by one
@@ -38,7 +37,7 @@ StepsInOrder (Ok app) (Ok txs) (Ok steps) bytes = ToldInOrder app (chain bytes).
 -- so it is with each run and each simulation over files
 abbrev pub RunsInOrder : Option Settings → Files → Type 0
 RunsInOrder None files = Unit {0}
-RunsInOrder (Some (Run app blocks flags)) files = BlocksInOrder (accepted (files app)) (files blocks)
+RunsInOrder (Some (Run app blocks front nodes executors flags)) files = BlocksInOrder (accepted (files app)) (files blocks)
 RunsInOrder (Some (Simulate app blocks schedule front flags)) files =
-    StepsInOrder (accepted (files app)) (arrived_in (option_map first_node front) files) (schedule_of (files schedule)) (files blocks)
+    StepsInOrder (accepted (files app)) (arrived_in (file_at front 1) files) (schedule_of (files schedule)) (files blocks)
 RunsInOrder (Some _) files = Unit {0}

@@ -12,3 +12,5 @@ pub mod Collecting
 pub mod ArrivalReading
 pub mod Taking
 pub mod Agrees
+pub mod Traced
+pub mod Gathered

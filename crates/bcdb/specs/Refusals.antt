@@ -1,5 +1,6 @@
 -- The lines that say why an application, what arrives, a schedule or a query is refused.
 use Rattle.std.specs.Prelude.{List, codes, decimal, ◌++◌, ℕ}
+use Rattle.bcdb.specs.declared.refusal.BadArrivals.{BadArrivals}
 use Rattle.bcdb.specs.declared.refusal.Refusal.{Refusal}
 use Rattle.bcdb.specs.declared.refusal.RefusalKind.TheVariants.{Bad, Syntax, TooLong}
 use Rattle.bcdb.specs.declared.refusal.RefusalKind.{RefusalKind}
@@ -43,9 +44,9 @@ query_refusal fault = codes "refused query " ++ fault_text fault ++ codes "\n"
 abbrev pub numbered_refusal : List ℕ → ℕ → List ℕ
 numbered_refusal what number = codes "refused " ++ what ++ codes " " ++ decimal number ++ codes "\n"
 
--- `refused arrivals NODE LINE`, of the one node that there is
-abbrev pub arrivals_refusal : ℕ → List ℕ
-arrivals_refusal line = numbered_refusal (codes "arrivals 1") line
+-- `refused arrivals NODE LINE`
+abbrev pub arrivals_refusal : BadArrivals → List ℕ
+arrivals_refusal bad = numbered_refusal (codes "arrivals " ++ decimal bad.node) bad.line
 
 -- `refused schedule line LINE`
 abbrev pub schedule_refusal : ℕ → List ℕ

@@ -2,29 +2,34 @@
 ghost use Rattle.std.specs.Prelude.{◌≡◌, IfOk, IfSome, IsErrOf, Ok, Some, true};
 ghost use Rattle.std.specs.Result.{IsOk};
 ghost use Rattle.bcdb.specs.Accepted.{accepted};
-ghost use Rattle.bcdb.specs.Refusals.{refusal_line};
-ghost use Rattle.bcdb.specs.Answer.{look_of, over_app, over_settings, says, sealed};
+ghost use Rattle.bcdb.specs.Refusals.{arrivals_refusal, refusal_line};
+ghost use Rattle.bcdb.specs.Answer.{over_app, says, sealed};
 ghost use Rattle.bcdb.specs.Causes.{AllowsBlocks, AllowsNamed, AllowsRun, Counted, RoseAtNamed, RoseAtRun, RoseInRun, RoseInTurn};
 ghost use Rattle.bcdb.specs.Reply.{Means, is_answer};
+ghost use Rattle.bcdb.specs.Traced.{Replies};
 ghost use Rattle.chain_file.specs.Chain.{chain};
+ghost use Rattle.cli_words.specs.Language.{AreWithin};
 ghost use Rattle.edge_traits.specs.Causes.{Rose};
 
 use crate::blocks::read_blocks;
+use crate::cluster::cluster_of;
+use crate::clustering::answer_cluster;
 use crate::fault::FilesFault;
 use crate::files::{AppFault, LONGEST_APPLICATION, read_application};
 use crate::load::answer_load;
-use crate::refusal::{Refusal, TOO_LONG, refusal_line};
+use crate::refusal::{BadArrivals, Refusal, TOO_LONG, arrivals_refusal, refusal_line};
 use crate::run::{answer_blocks, answer_seal};
 use crate::simulating::answer_simulation;
-use crate::simulation::{Simulation, arrivals_name};
+use crate::simulation::simulation_of;
 use crate::status::Status;
-use crate::task::Task;
-use cli_words::{Flags, Settings};
+use cli_words::Settings;
+use cluster_run::Gate;
 use edge_traits::{FetchFault, Shelf, read_whole};
 use proc_check::Checked;
 use rel_base::{List, NoMemory};
-use report_text::Look;
 use std::alloc::Global;
+use std::sync::Wait;
+use std::thread::Threads;
 
 /// A status, and what is to be written.
 #[derive(Drop)]
@@ -45,21 +50,33 @@ pub fn refuse_app(alloc: Global, refusal: Refusal) -> Result<Reply, NoMemory>
     })
 }
 
-// The reply over an accepted application, once the blocks are read.
-fn run_app<S: Shelf>(
+/// The reply that refuses what arrives at a node.
+pub fn refuse_arrivals(alloc: Global, bad: BadArrivals) -> Result<Reply, NoMemory>
+    ensures means { IfOk result (λ reply. Means (says Status.ArrivalRefused (arrivals_refusal bad)) reply) }
+    ensures kind { IfOk result (λ reply. is_answer reply.status ≡ true) }
+{
+    let bytes = arrivals_refusal(alloc, bad)?;
+    Ok(Reply {
+        status: Status::ArrivalRefused,
+        bytes,
+    })
+}
+
+// The reply to a query over an accepted application, once the blocks are read.
+fn query_app<S: Shelf>(
     alloc: Global,
     shelf: &mut S,
     app: Checked,
     name: &str,
-    task: &Task,
+    query: &str,
 ) -> Result<Reply, FilesFault>
     requires allowed { AllowsBlocks (S.told shelf.old) (S.may_read shelf.old) name.now }
-    ensures told { IfOk result (λ reply. IfSome (S.told shelf.old) (λ files. Means (over_app task.now (Ok app.app) (files name.now)) reply)) }
+    ensures told { IfOk result (λ reply. IfSome (S.told shelf.old) (λ files. Means (over_app query.now (Ok app.app) (files name.now)) reply)) }
     ensures counted { Counted result (Rose (S.faults shelf.old name.now) (S.faults shelf.new name.now)) (S.faults shelf.old) (S.faults shelf.new) }
     ensures kind { IfOk result (λ reply. is_answer reply.status ≡ true) }
 {
     let read = read_blocks(alloc, shelf, name)?;
-    let reply = answer_blocks(alloc, task, app, &read)?;
+    let reply = answer_blocks(alloc, query, app, &read)?;
     Ok(reply)
 }
 
@@ -75,7 +92,7 @@ fn seal_file<S: Shelf>(alloc: Global, shelf: &mut S, name: &str) -> Result<Reply
     Ok(reply)
 }
 
-// The reply over the bytes of an application, and then the block file.
+// The reply to a query over the bytes of an application, and then the block file.
 #[tactic(auto, using(crate::proofs::Turns::has_turn))]
 fn check_app<S: Shelf>(
     alloc: Global,
@@ -83,17 +100,17 @@ fn check_app<S: Shelf>(
     app_name: &str,
     app: &[u8],
     name: &str,
-    task: &Task,
+    query: &str,
 ) -> Result<Reply, FilesFault>
     requires bytes { IfSome (S.told shelf.old) (λ files. app.now ≡ files app_name.now) }
     requires allowed { IfSome (S.told shelf.old) (λ files. IsOk (accepted (files app_name.now))) → AllowsBlocks (S.told shelf.old) (S.may_read shelf.old) name.now }
-    ensures told { IfOk result (λ reply. IfSome (S.told shelf.old) (λ files. Means (over_app task.now (accepted (files app_name.now)) (files name.now)) reply)) }
+    ensures told { IfOk result (λ reply. IfSome (S.told shelf.old) (λ files. Means (over_app query.now (accepted (files app_name.now)) (files name.now)) reply)) }
     ensures turn { IsErrOf result FilesFault.Failed → IfSome (S.told shelf.old) (λ files. IsOk (accepted (files app_name.now))) }
     ensures counted { Counted result (Rose (S.faults shelf.old name.now) (S.faults shelf.new name.now)) (S.faults shelf.old) (S.faults shelf.new) }
     ensures kind { IfOk result (λ reply. is_answer reply.status ≡ true) }
 {
     match read_application(alloc, app) {
-        Ok(checked) => run_app(alloc, shelf, checked, name, task),
+        Ok(checked) => query_app(alloc, shelf, checked, name, query),
         Err(AppFault::Refused(refusal)) => {
             let reply = refuse_app(alloc, refusal)?;
             Ok(reply)
@@ -102,35 +119,23 @@ fn check_app<S: Shelf>(
     }
 }
 
-// What the flags of a run ask the report to show.
-fn look_of(flags: Flags) -> Look
-    ensures { result ≡ look_of flags }
-{
-    Look {
-        orders: flags.orders,
-        digests: flags.digests,
-        json: flags.json,
-        trace: flags.trace,
-    }
-}
-
-// The reply over two names.
+// The reply to a query over two names.
 #[tactic(auto, using(crate::proofs::Turns::too_long_told))]
 fn read_app<S: Shelf>(
     alloc: Global,
     shelf: &mut S,
     app_name: &str,
     name: &str,
-    task: &Task,
+    query: &str,
 ) -> Result<Reply, FilesFault>
     requires allowed { AllowsRun app_name.now name.now (S.told shelf.old) (S.may_read shelf.old) }
-    ensures told { IfOk result (λ reply. IfSome (S.told shelf.old) (λ files. Means (over_app task.now (accepted (files app_name.now)) (files name.now)) reply)) }
+    ensures told { IfOk result (λ reply. IfSome (S.told shelf.old) (λ files. Means (over_app query.now (accepted (files app_name.now)) (files name.now)) reply)) }
     ensures turn { IsErrOf result FilesFault.Failed → IfSome (S.told shelf.old) (λ files. RoseInRun app_name.now name.now files (S.faults shelf.old) (S.faults shelf.new)) }
     ensures counted { Counted result (RoseAtRun app_name.now name.now (S.faults shelf.old) (S.faults shelf.new)) (S.faults shelf.old) (S.faults shelf.new) }
     ensures kind { IfOk result (λ reply. is_answer reply.status ≡ true) }
 {
     match read_whole(alloc, shelf, app_name, LONGEST_APPLICATION) {
-        Ok(app) => check_app(alloc, shelf, app_name, app.as_slice(), name, task),
+        Ok(app) => check_app(alloc, shelf, app_name, app.as_slice(), name, query),
         Err(FetchFault::TooLong) => {
             let reply = refuse_app(alloc, TOO_LONG)?;
             Ok(reply)
@@ -142,21 +147,32 @@ fn read_app<S: Shelf>(
 
 /// What is meant to be answered to these settings over this shelf. No read that failed is tried again: the counts of failed
 /// reads are as they were, unless the answer is that one failed.
-pub fn decide<S: Shelf>(
+#[tactic(auto, using(crate::proofs::Replying::replies_told))]
+pub fn decide<R: Threads + Wait + Sync, S: Shelf, G: Gate>(
+    rt: &R,
     alloc: Global,
     settings: Settings,
     shelf: &mut S,
+    gate: &G,
 ) -> Result<Reply, FilesFault>
+    requires within { AreWithin settings }
     requires allowed { AllowsNamed (Some settings) (S.told shelf.old) (S.may_read shelf.old) }
-    ensures told { IfOk result (λ reply. IfSome (S.told shelf.old) (λ files. Means (over_settings (Some settings) files) reply)) }
+    ensures told { IfOk result (λ reply. IfSome (S.told shelf.old) (λ files. Replies (Some settings) files reply)) }
     ensures turn { IsErrOf result FilesFault.Failed → IfSome (S.told shelf.old) (λ files. RoseInTurn (Some settings) files (S.faults shelf.old) (S.faults shelf.new)) }
     ensures counted { Counted result (RoseAtNamed (Some settings) (S.faults shelf.old) (S.faults shelf.new)) (S.faults shelf.old) (S.faults shelf.new) }
     ensures kind { IfOk result (λ reply. is_answer reply.status ≡ true) }
 {
     match settings {
-        Settings::Run { app, blocks, flags } => {
-            let task = Task::Report(look_of(flags));
-            read_app(alloc, shelf, app.as_str(), blocks.as_str(), &task)
+        Settings::Run {
+            app,
+            blocks,
+            arrivals,
+            nodes,
+            executors,
+            flags,
+        } => {
+            let cluster = cluster_of(app, blocks, arrivals, nodes, executors, flags);
+            answer_cluster(rt, alloc, shelf, &cluster, gate)
         }
         Settings::Simulate {
             app,
@@ -165,20 +181,17 @@ pub fn decide<S: Shelf>(
             arrivals,
             flags,
         } => {
-            let simulation = Simulation {
-                app,
-                arrivals: arrivals_name(alloc, &arrivals)?,
-                schedule,
-                blocks,
-                look: look_of(flags),
-            };
+            let simulation = simulation_of(alloc, app, blocks, schedule, &arrivals, flags)?;
             answer_simulation(alloc, shelf, &simulation)
         }
-        Settings::Provenance { app, blocks, query } => {
-            let task = Task::Query(query);
-            read_app(alloc, shelf, app.as_str(), blocks.as_str(), &task)
-        }
+        Settings::Provenance { app, blocks, query } => read_app(
+            alloc,
+            shelf,
+            app.as_str(),
+            blocks.as_str(),
+            query.as_str(),
+        ),
         Settings::Seal { blocks } => seal_file(alloc, shelf, blocks.as_str()),
-        Settings::Load { number } => Ok(answer_load(alloc, number)?),
+        Settings::Load { number } => Ok(answer_load(rt, alloc, number, gate)?),
     }
 }

@@ -1,6 +1,6 @@
 //! Loads: blocks that are generated from a number, and what became of their transactions.
 
-ghost use Rattle.std.specs.Prelude.{◌≡◌, IfOk, true};
+ghost use Rattle.std.specs.Prelude.{◌≡◌, IfOk, length, true};
 ghost use Rattle.bcdb.specs.Accepted.{accepted};
 ghost use Rattle.bcdb.specs.Answer.{over_load, says};
 ghost use Rattle.bcdb.specs.Reply.{Means, is_answer};
@@ -11,26 +11,46 @@ ghost use Rattle.report_text.specs.Summary.{summary_text};
 
 use crate::decide::{Reply, refuse_app};
 use crate::files::{AppFault, read_application};
-use crate::run::run_blocks;
 use crate::status::Status;
-use load_gen::generate;
+use cluster_run::{Gate, run_cluster};
+use load_gen::{Load, generate};
 use proc_check::Checked;
-use proc_syntax::Block;
 use rel_base::NoMemory;
 use report_text::summary;
 use std::alloc::Global;
-use std::sync::Arc;
+use std::sync::{Arc, Wait};
+use std::thread::Threads;
 use version_index::IndexVersions;
 
-// The reply to the load of a number, over its application and its blocks.
-fn run_load(alloc: Global, number: u64, app: Checked, blocks: &[Block]) -> Result<Reply, NoMemory>
-    requires { NumberedFrom 1 blocks.now }
-    ensures means { IfOk result (λ reply. Means (says Status.Done (summary_text number (node_result app.app blocks.now).blocks)) reply) }
+/// How many executors a node of a load has.
+pub const LOAD_EXECUTORS: u32 = 4;
+
+// The reply to the load of a number, over its application: three nodes run its blocks, and the first is reported.
+#[tactic(auto, using(crate::proofs::Clustered::first_tells))]
+fn run_load<R: Threads + Wait + Sync, G: Gate>(
+    rt: &R,
+    alloc: Global,
+    number: u64,
+    app: Checked,
+    load: &Load,
+    gate: &G,
+) -> Result<Reply, NoMemory>
+    requires blocks { NumberedFrom 1 load.now.blocks }
+    requires nodes { length load.now.arrivals ≡ 3 }
+    ensures means { IfOk result (λ reply. Means (says Status.Done (summary_text number (node_result app.app load.now.blocks).blocks)) reply) }
     ensures kind { IfOk result (λ reply. is_answer reply.status ≡ true) }
 {
     let app = Arc::new(alloc, app)?;
-    let node = run_blocks::<IndexVersions>(alloc, &app, blocks)?;
-    let bytes = summary(alloc, number, node.blocks())?;
+    let nodes = run_cluster::<IndexVersions, G, R>(
+        rt,
+        alloc,
+        &app,
+        load.blocks.as_slice(),
+        load.arrivals.as_slice(),
+        LOAD_EXECUTORS,
+        gate,
+    )?;
+    let bytes = summary(alloc, number, &nodes.as_slice()[0].blocks)?;
     Ok(Reply {
         status: Status::Done,
         bytes,
@@ -39,13 +59,18 @@ fn run_load(alloc: Global, number: u64, app: Checked, blocks: &[Block]) -> Resul
 
 /// The reply to the load of a number. Its application is read as that of a file.
 #[tactic(auto, using(crate::proofs::Loads::loads_numbered))]
-pub fn answer_load(alloc: Global, number: u64) -> Result<Reply, NoMemory>
+pub fn answer_load<R: Threads + Wait + Sync, G: Gate>(
+    rt: &R,
+    alloc: Global,
+    number: u64,
+    gate: &G,
+) -> Result<Reply, NoMemory>
     ensures means { IfOk result (λ reply. Means (over_load number (accepted app_text)) reply) }
     ensures kind { IfOk result (λ reply. is_answer reply.status ≡ true) }
 {
     let load = generate(alloc, number)?;
     match read_application(alloc, load.app.as_slice()) {
-        Ok(app) => run_load(alloc, number, app, load.blocks.as_slice()),
+        Ok(app) => run_load(rt, alloc, number, app, &load, gate),
         Err(AppFault::Refused(refusal)) => refuse_app(alloc, refusal),
         Err(AppFault::NoMemory) => Err(NoMemory),
     }

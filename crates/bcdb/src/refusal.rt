@@ -28,6 +28,13 @@ pub struct Refusal {
     pub kind: RefusalKind,
 }
 
+/// Why what arrives is refused: the node, and the first line of its file that has a fault.
+#[derive(Clone, Copy, Debug, PartialEq, Eq)]
+pub struct BadArrivals {
+    pub node: u32,
+    pub line: u64,
+}
+
 /// Why an application with too many bytes is refused.
 pub const TOO_LONG: Refusal = Refusal {
     line: 0,
@@ -114,11 +121,13 @@ fn numbered_refusal(alloc: Global, what: &[u8], number: u64) -> Result<List<u8>,
     Ok(List::from_vec(out))
 }
 
-/// The line that says in which line what arrives at the node is wrong.
-pub fn arrivals_refusal(alloc: Global, line: u64) -> Result<List<u8>, NoMemory>
-    ensures { IfOk result (λ bytes. bytes ≡ arrivals_refusal line) }
+/// The line that says at which node what arrives is wrong, and in which line of its file.
+pub fn arrivals_refusal(alloc: Global, bad: BadArrivals) -> Result<List<u8>, NoMemory>
+    ensures { IfOk result (λ bytes. bytes ≡ arrivals_refusal bad) }
 {
-    numbered_refusal(alloc, b"arrivals 1", line)
+    let mut what = b"arrivals ".to_vec(alloc)?;
+    push_number(&mut what, u64::from(bad.node))?;
+    numbered_refusal(alloc, &what, bad.line)
 }
 
 /// The line that says in which line a schedule is wrong.

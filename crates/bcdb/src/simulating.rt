@@ -6,7 +6,7 @@ ghost use Rattle.std.specs.List.{AllByRecursion};
 ghost use Rattle.bcdb.specs.Accepted.{accepted};
 ghost use Rattle.bcdb.specs.Answer.{over_arrivals, over_schedule, over_simulation, over_told, arrived_in, says, status_of};
 ghost use Rattle.bcdb.specs.Causes.{AllowsBlocks, AllowsFromArrivals, AllowsFromSchedule, AllowsSimulation, Counted, RoseAtArrivals, RoseAtSchedule, RoseAtSimulation, RoseInArrivals, RoseInSchedule, RoseInSimulation};
-ghost use Rattle.bcdb.specs.Refusals.{arrivals_refusal, schedule_refusal, short_refusal};
+ghost use Rattle.bcdb.specs.Refusals.{schedule_refusal, short_refusal};
 ghost use Rattle.bcdb.specs.Reply.{Means, is_answer};
 ghost use Rattle.bcdb.specs.Taking.{GivesApp, GivesSteps};
 ghost use Rattle.edge_traits.specs.Causes.{Rose};
@@ -18,11 +18,11 @@ ghost use Rattle.schedule_sim.specs.Steps.{IsStep};
 
 use crate::arrivals::read_arrivals;
 use crate::blocks::read_blocks;
-use crate::decide::{Reply, refuse_app};
+use crate::decide::{Reply, refuse_app, refuse_arrivals};
 use crate::fault::FilesFault;
 use crate::files::fetch_application;
-use crate::refusal::{Refusal, arrivals_refusal, schedule_refusal, short_refusal};
-use crate::run::status_of;
+use crate::refusal::{BadArrivals, Refusal, schedule_refusal, short_refusal};
+use crate::run::report_nodes;
 use crate::schedule::read_schedule;
 use crate::simulation::Simulation;
 use crate::status::Status;
@@ -32,7 +32,7 @@ use node_model::NodeResult;
 use proc_check::Checked;
 use proc_syntax::{ChainFault, Tx};
 use rel_base::{List, NoMemory, TableDef};
-use report_text::{Look, report};
+use report_text::Look;
 use schedule_sim::{Schedule, SimFault, simulate};
 use std::alloc::Global;
 use std::sync::Arc;
@@ -80,18 +80,6 @@ fn refuse_short(alloc: Global, sealed: u64) -> Result<Reply, NoMemory>
     })
 }
 
-// The reply that refuses what arrives for the first line with a fault.
-fn refuse_arrivals(alloc: Global, line: u64) -> Result<Reply, NoMemory>
-    ensures means { IfOk result (λ reply. Means (says Status.ArrivalRefused (arrivals_refusal line)) reply) }
-    ensures kind { IfOk result (λ reply. is_answer reply.status ≡ true) }
-{
-    let bytes = arrivals_refusal(alloc, line)?;
-    Ok(Reply {
-        status: Status::ArrivalRefused,
-        bytes,
-    })
-}
-
 // The reply that reports one node.
 fn report_node(
     alloc: Global,
@@ -105,11 +93,7 @@ fn report_node(
 {
     let mut nodes = List::new(alloc);
     nodes.push(node)?;
-    let bytes = report(alloc, tables, &nodes, stop.as_ref(), look)?;
-    Ok(Reply {
-        status: status_of(*stop),
-        bytes,
-    })
+    report_nodes(alloc, look, tables, &nodes, stop)
 }
 
 // The reply over the blocks that a file gave.
@@ -226,7 +210,7 @@ fn take_arrivals<S: Shelf>(
             read_steps(alloc, shelf, asked, &start)
         }
         Err(line) => {
-            let reply = refuse_arrivals(alloc, line)?;
+            let reply = refuse_arrivals(alloc, BadArrivals { node: 1, line })?;
             Ok(reply)
         }
     }

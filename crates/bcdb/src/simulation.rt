@@ -1,10 +1,11 @@
 //! What the words of a simulation ask for.
 
 ghost use Rattle.std.specs.Prelude.{◌≡◌, IfOk};
-ghost use Rattle.std.specs.Option.{option_map};
-ghost use Rattle.bcdb.specs.Answer.{first_node};
+ghost use Rattle.bcdb.specs.Answer.{simulation_of};
 
-use cli_words::Word;
+use crate::all_arrivals::arrivals_name;
+use crate::cluster::look_of;
+use cli_words::{Flags, Word};
 use rel_base::NoMemory;
 use report_text::Look;
 use std::alloc::Global;
@@ -24,21 +25,22 @@ pub struct Simulation {
     pub look: Look,
 }
 
-// The name of the file of what arrives at the first node.
-fn first_node(alloc: Global, front: &str) -> Result<Word, NoMemory>
-    ensures { IfOk result (λ name. name ≡ first_node front.now) }
+/// The simulation that the words ask for. What arrives at its node is that of the first node of a run.
+pub fn simulation_of(
+    alloc: Global,
+    app: Word,
+    blocks: Word,
+    schedule: Word,
+    arrivals: &Option<Word>,
+    flags: Flags,
+) -> Result<Simulation, NoMemory>
+    ensures { IfOk result (λ asked. asked ≡ simulation_of app blocks schedule arrivals.now flags) }
 {
-    let mut name = String::from_str(alloc, front)?;
-    name.push_str("1")?;
-    Word::new(alloc, name.as_str())
-}
-
-/// The name of the file of what arrives at the first node, if the words name such files by the front of their names.
-pub fn arrivals_name(alloc: Global, front: &Option<Word>) -> Result<Option<Word>, NoMemory>
-    ensures { IfOk result (λ name. name ≡ option_map first_node front.now) }
-{
-    match front {
-        None => Ok(None),
-        Some(front) => Ok(Some(first_node(alloc, front.as_str())?)),
-    }
+    Ok(Simulation {
+        app,
+        arrivals: arrivals_name(alloc, arrivals, 1)?,
+        schedule,
+        blocks,
+        look: look_of(flags),
+    })
 }

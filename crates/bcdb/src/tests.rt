@@ -1,5 +1,6 @@
 use crate::status::Status;
 use crate::top::bcdb;
+use cluster_run::NoGate;
 use edge_traits::{MemShelf, MemSink};
 use rel_base::{List, Name};
 use std::alloc::Global;
@@ -36,7 +37,7 @@ fn one_insert(rt: HostRuntime) -> Result<(), Fail> {
     let alloc = rt.alloc();
     let mut files = shelf(alloc, ONE_INSERT, &[])?;
     let mut out = sink(alloc, 1000, &[])?;
-    let status = bcdb(alloc, &WORDS, &mut files, &mut out);
+    let status = bcdb(&rt, alloc, &WORDS, &mut files, &mut out, &NoGate);
     assert_eq!(rt; status, Status::Done);
     assert!(rt; out.bytes() == REPORT);
     Ok(())
@@ -47,12 +48,12 @@ fn failing_devices(rt: HostRuntime) -> Result<(), Fail> {
     let alloc = rt.alloc();
     let mut failing = shelf(alloc, ONE_INSERT, &[1])?;
     let mut out = sink(alloc, 1000, &[])?;
-    let status = bcdb(alloc, &WORDS, &mut failing, &mut out);
+    let status = bcdb(&rt, alloc, &WORDS, &mut failing, &mut out, &NoGate);
     assert_eq!(rt; status, Status::ReadFault);
     assert!(rt; out.bytes() == b"refused read\n".as_slice());
     let mut files = shelf(alloc, ONE_INSERT, &[])?;
     let mut stuck = sink(alloc, 1000, &[1])?;
-    let status = bcdb(alloc, &WORDS, &mut files, &mut stuck);
+    let status = bcdb(&rt, alloc, &WORDS, &mut files, &mut stuck, &NoGate);
     assert_eq!(rt; status, Status::WriteFault);
     assert!(rt; stuck.bytes().is_empty());
     Ok(())
@@ -64,7 +65,7 @@ fn a_full_sink(rt: HostRuntime) -> Result<(), Fail> {
     let alloc = rt.alloc();
     let mut files = shelf(alloc, ONE_INSERT, &[])?;
     let mut small = sink(alloc, 10, &[])?;
-    let status = bcdb(alloc, &WORDS, &mut files, &mut small);
+    let status = bcdb(&rt, alloc, &WORDS, &mut files, &mut small, &NoGate);
     assert_eq!(rt; status, Status::WriteFault);
     assert!(rt; small.bytes() == &REPORT[..10]);
     Ok(())

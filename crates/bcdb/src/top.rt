@@ -1,18 +1,22 @@
 //! The top call.
 ghost use Rattle.std.specs.Prelude.{◌≡◌, ◌⊎◌, IfSome, None, Some, Option, List, ℕ};
 ghost use Rattle.bcdb.specs.Agrees.{AnswersAsRun};
-ghost use Rattle.bcdb.specs.Answer.{Ends, Writes, answer, over_settings, read_refused, says, usage_refused};
+ghost use Rattle.bcdb.specs.Answer.{Ends, Writes, read_refused, says, usage_refused};
 ghost use Rattle.bcdb.specs.Causes.{AllowsNamed, RoseAtNamed, RoseInTurn};
 ghost use Rattle.bcdb.specs.InOrder.{RunsInOrder};
-ghost use Rattle.cli_words.specs.Language.{settings_of, texts};
+ghost use Rattle.bcdb.specs.Traced.{EndsTraced};
+ghost use Rattle.cli_words.specs.Language.{AreWithin, settings_of, texts};
 ghost use Rattle.edge_traits.specs.Causes.{Rose};
 
 use crate::decide::decide;
 use crate::fault::FilesFault;
 use crate::status::Status;
 use cli_words::{Settings, WordsFault, read_words};
+use cluster_run::Gate;
 use edge_traits::{Shelf, Sink, write_whole};
 use std::alloc::Global;
+use std::sync::Wait;
+use std::thread::Threads;
 
 // Writes what is answered. A write that failed is not tried again.
 #[tactic(auto, using(crate::proofs::Ends::writes_whole))]
@@ -43,11 +47,19 @@ pub fn refuse_words<W: Sink>(out: &mut W, fault: WordsFault) -> Status
 }
 
 // Does what the settings ask for.
-#[tactic(auto, using(crate::proofs::Ends::ends_means))]
-fn serve<S: Shelf, W: Sink>(alloc: Global, settings: Settings, shelf: &mut S, out: &mut W) -> Status
+#[tactic(auto, using(crate::proofs::Ends::ends_traced, crate::proofs::Ends::ends_short))]
+fn serve<R: Threads + Wait + Sync, S: Shelf, W: Sink, G: Gate>(
+    rt: &R,
+    alloc: Global,
+    settings: Settings,
+    shelf: &mut S,
+    out: &mut W,
+    gate: &G,
+) -> Status
+    requires within { AreWithin settings }
     requires allowed { AllowsNamed (Some settings) (S.told shelf.old) (S.may_read shelf.old) }
     ensures ends { IfSome (S.told shelf.old) (λ files.
-        (Ends (over_settings (Some settings) files) result (W.written out.old) (W.written out.new) × (S.faults shelf.new ≡ S.faults shelf.old))
+        (EndsTraced (Some settings) files result (W.written out.old) (W.written out.new) × (S.faults shelf.new ≡ S.faults shelf.old))
         ⊎ (Writes read_refused result (W.written out.old) (W.written out.new)
         × RoseInTurn (Some settings) files (S.faults shelf.old) (S.faults shelf.new))) }
     ensures words { result ≡ Status.Usage → ⊥ }
@@ -56,7 +68,7 @@ fn serve<S: Shelf, W: Sink>(alloc: Global, settings: Settings, shelf: &mut S, ou
     ensures write { result ≡ Status.WriteFault → Rose (W.faults out.old) (W.faults out.new) }
     ensures quiet { (result ≡ Status.WriteFault) ⊎ (W.faults out.new ≡ W.faults out.old) }
 {
-    match decide(alloc, settings, shelf) {
+    match decide(rt, alloc, settings, shelf, gate) {
         Ok(reply) => deliver(out, reply.status, reply.bytes.as_slice()),
         Err(FilesFault::Failed) => deliver(out, Status::ReadFault, b"refused read\n"),
         Err(FilesFault::NoMemory) => Status::NoMemory,
@@ -65,18 +77,31 @@ fn serve<S: Shelf, W: Sink>(alloc: Global, settings: Settings, shelf: &mut S, ou
 
 /// Does what the words ask for, over the files that they name, and writes the answer.
 ///
-/// The answer to the words over the files of the shelf is a definition that shares no code with the program: the report of one
-/// fold over the blocks, or of what a schedule comes to, the versions that a query selects in it, the blocks as a chain or the
-/// summary of a load; or the refusal that comes first. Over a shelf that tells its files, either no read failed and the call ends
-/// with the status and all the bytes of that answer; or the count of a named file rose in its turn, and it ends with those of a
-/// failed read. At `WriteFault` and `NoMemory` a front of the bytes was written. Nothing is asked for but bytes of the named files,
-/// of each only once the one before it is accepted, and none of the blocks or of what arrives behind the first fault: that is what
-/// `allowed`, which every shelf here meets, asks of the body.
-#[tactic(auto, using(crate::proofs::Orders::told_in_order, crate::proofs::Agreeing::told_as_run))]
-pub fn bcdb<S: Shelf, W: Sink>(alloc: Global, words: &[&str], shelf: &mut S, out: &mut W) -> Status
+/// The answer to the words over the files of the shelf is a definition that shares no code with the program: the report of nodes that
+/// each make one fold over the blocks, or of what a schedule comes to, the versions that a query selects in it, the blocks as a chain
+/// or the summary of a load; or the refusal that comes first. So for every permitted number of nodes and of executors, whatever arrives,
+/// and for every interleaving of the turns of the nodes' locks, a run reports the same results at each node: the fold of the blocks. If
+/// journals are asked for, those of as many nodes follow: each is one that steps can make, delivers these blocks and comes to these
+/// results.
+///
+/// Over a shelf that tells its files, either no read failed and the call ends with the status and all the bytes of that answer; or the
+/// count of a named file rose in its turn, and it ends with those of a failed read. At `WriteFault` and `NoMemory` a front of the bytes
+/// was written. Nothing is asked for but bytes of the named files, of each only once the one before it is accepted, and none of the
+/// blocks or of what arrives behind the first fault: that is what `allowed`, which every shelf here meets, asks of the body.
+///
+/// The gate can hold the executors and the processor of a node at some points, for a test; no answer depends on it.
+#[tactic(auto, using(crate::proofs::Orders::told_in_order, crate::proofs::Agreeing::told_as_run, crate::proofs::Ends::ends_refused, crate::proofs::Ends::ends_short))]
+pub fn bcdb<R: Threads + Wait + Sync, S: Shelf, W: Sink, G: Gate>(
+    rt: &R,
+    alloc: Global,
+    words: &[&str],
+    shelf: &mut S,
+    out: &mut W,
+    gate: &G,
+) -> Status
     requires allowed { AllowsNamed (settings_of (texts words.now)) (S.told shelf.old) (S.may_read shelf.old) }
     ensures ends { IfSome (S.told shelf.old) (λ files.
-        (Ends (answer (texts words.now) files) result (W.written out.old) (W.written out.new) × (S.faults shelf.new ≡ S.faults shelf.old))
+        (EndsTraced (settings_of (texts words.now)) files result (W.written out.old) (W.written out.new) × (S.faults shelf.new ≡ S.faults shelf.old))
         ⊎ (Writes read_refused result (W.written out.old) (W.written out.new)
         × RoseInTurn (settings_of (texts words.now)) files (S.faults shelf.old) (S.faults shelf.new))) }
 
@@ -84,8 +109,8 @@ pub fn bcdb<S: Shelf, W: Sink>(alloc: Global, words: &[&str], shelf: &mut S, out
     // transactions run again one by one, with the same reads, writes and tables.
     ensures replays { IfSome (S.told shelf.old) (RunsInOrder (settings_of (texts words.now))) }
 
-    // Whatever arrives and whatever the schedule: a simulation that is not refused for these answers what a run of the same blocks
-    // answers, and then its journal, if that is asked for.
+    // Whatever arrives and whatever the schedule: a simulation that is not refused for these answers what a run of one node over the
+    // same blocks answers, and then its journal, if that is asked for.
     ensures agrees { IfSome (S.told shelf.old) (AnswersAsRun (settings_of (texts words.now))) }
 
     // Over any shelf: the words alone decide on `Usage`.
@@ -100,7 +125,7 @@ pub fn bcdb<S: Shelf, W: Sink>(alloc: Global, words: &[&str], shelf: &mut S, out
     ensures quiet { (result ≡ Status.WriteFault) ⊎ (W.faults out.new ≡ W.faults out.old) }
 {
     match read_words(alloc, words) {
-        Ok(settings) => serve(alloc, settings, shelf, out),
+        Ok(settings) => serve(rt, alloc, settings, shelf, out, gate),
         Err(fault) => refuse_words(out, fault),
     }
 }

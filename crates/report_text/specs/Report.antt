@@ -100,6 +100,10 @@ text_lines look tables nodes stop = numbered (node_lines look tables) 1 nodes ++
 abbrev pub report_lines : Look → List TableDef → List NodeResult → Option ChainFault → List ℕ
 report_lines look tables nodes stop = cond look.json (json_line look tables nodes stop) (text_lines look tables nodes stop)
 
+-- the journals of nodes that are numbered from 1
+abbrev pub journals_text : List NodeResult → List ℕ
+journals_text nodes = numbered journal_lines 1 nodes
+
 -- a report, and then the journal of each node, if it is asked for
 abbrev pub report_text : Look → List TableDef → List NodeResult → Option ChainFault → List ℕ
-report_text look tables nodes stop = report_lines look tables nodes stop ++ shown_if look.trace (numbered journal_lines 1 nodes)
+report_text look tables nodes stop = report_lines look tables nodes stop ++ shown_if look.trace (journals_text nodes)

@@ -1,0 +1,53 @@
+use Rattle.std.proofs.Common.{Err, IfSome, List, Ok, Option, Result, rules, subst, sym, ◌+◌, ◌∙◌, ◌≡◌, ℕ}
+use Rattle.bcdb.proofs.Gathering.{Gathers, failed_counts, failed_turns, gathers_more, may_read_node}
+use Rattle.bcdb.proofs.all_arrivals.read_all_arrivals.Goals as goal
+use Rattle.bcdb.specs.Answer.{arrived_in, file_at}
+use Rattle.bcdb.specs.Causes.{AllowsArrivals, Counted, RoseAtGiven, RoseAtNodes}
+use Rattle.bcdb.specs.declared.fault.FilesFault.{FilesFault}
+use Rattle.bcdb.specs.declared.refusal.BadArrivals.{BadArrivals}
+use Rattle.edge_traits.specs.Causes.{Counts}
+use Rattle.edge_traits.specs.Shelf.{Files}
+use Rattle.proc_syntax.specs.declared.call.Tx.{Tx}
+
+pub read_node-requires : goal.read_node-requires
+read_node-requires g c = record {
+  allowed = subst (λ (told : Option Files). AllowsArrivals told (g.S.Shelf.may_read c.loop-node.shelf) (file_at c.args.asked.now.arrivals c.loop-node.node)) (sym c.loop-node.invariant.0)
+      (may_read_node c.args.asked.now (g.S.Shelf.told c.args.shelf.now) (g.S.Shelf.may_read c.loop-node.shelf) c.loop-node.node c.loop-node.all c.loop-node.invariant.2 c.loop-node-test.true);
+}
+
+pub returns-in_err-txs-clause-turn : goal.returns-in_err-txs-clause-turn
+returns-in_err-txs-clause-turn g c =
+    let before = g.S.Shelf.faults c.args.shelf.now in
+    let now = g.S.Shelf.faults c.read_node.new.shelf in
+    let name = file_at c.args.asked.now.arrivals c.loop-node.node in
+    let same : c.from_residual.result ≡ Err c.in_err-txs.field-0.0 = search rules in
+    let counted : Counted {T = Result (List Tx) ℕ} (Err c.in_err-txs.field-0.0) (RoseAtGiven name before now) before now =
+    subst (λ (counts : Counts). Counted {T = Result (List Tx) ℕ} (Err c.in_err-txs.field-0.0) (RoseAtGiven name counts now) counts now) c.loop-node.invariant.1 c.in_err-txs.ensures.counted in
+    λ failed. failed_turns c.args.asked.now (g.S.Shelf.told c.args.shelf.now) (g.S.Shelf.may_read c.loop-node.shelf) c.loop-node.node c.loop-node.all (Result (List Tx) ℕ) c.from_residual.result c.in_err-txs.field-0.0 before now
+    c.loop-node.invariant.2 c.loop-node-test.true counted same failed
+
+pub returns-in_err-txs-clause-counted : goal.returns-in_err-txs-clause-counted
+returns-in_err-txs-clause-counted g c =
+    let before = g.S.Shelf.faults c.args.shelf.now in
+    let now = g.S.Shelf.faults c.read_node.new.shelf in
+    let name = file_at c.args.asked.now.arrivals c.loop-node.node in
+    let same : c.from_residual.result ≡ Err c.in_err-txs.field-0.0 = search rules in
+    let counted : Counted {T = Result (List Tx) ℕ} (Err c.in_err-txs.field-0.0) (RoseAtGiven name before now) before now =
+    subst (λ (counts : Counts). Counted {T = Result (List Tx) ℕ} (Err c.in_err-txs.field-0.0) (RoseAtGiven name counts now) counts now) c.loop-node.invariant.1 c.in_err-txs.ensures.counted in
+    subst (λ (r : Result (Result (List (List Tx)) BadArrivals) FilesFault). Counted r (RoseAtNodes c.args.asked.now.arrivals 1 c.args.asked.now.nodes c.args.asked.now.blocks before now) before now) (sym same)
+    (failed_counts c.args.asked.now (g.S.Shelf.told c.args.shelf.now) (g.S.Shelf.may_read c.loop-node.shelf) c.loop-node.node c.loop-node.all (Result (List Tx) ℕ) (Result (List (List Tx)) BadArrivals) c.in_err-txs.field-0.0 before now
+    c.loop-node.invariant.2 c.loop-node-test.true counted)
+
+pub loop-node-preserved : goal.loop-node-preserved
+loop-node-preserved g c =
+    let told = g.S.Shelf.told c.args.shelf.now in
+    let name = file_at c.args.asked.now.arrivals c.loop-node.node in
+    let arrives : IfSome told (λ files. arrived_in name files ≡ Ok c.in-Ok.txs) =
+    subst (λ (read : Result (List Tx) ℕ). IfSome told (λ files. arrived_in name files ≡ read)) c.in-Ok.is
+    (subst (λ (shown : Option Files). IfSome shown (λ files. arrived_in name files ≡ c.in_ok-txs.field-0)) c.loop-node.invariant.0 c.in_ok-txs.ensures.told) in (
+      c.read_node.ensures.same ∙ c.loop-node.invariant.0,
+      c.in_ok-txs.ensures.counted ∙ c.loop-node.invariant.1,
+      subst (λ all. (left : ℕ) × Gathers c.args.asked.now told (g.S.Shelf.may_read c.read_node.new.shelf) (c.loop-node.node + 1) all left) (sym c.in_ok-push-in-Ok.ensures.ok)
+          (gathers_more c.args.asked.now told (g.S.Shelf.may_read c.loop-node.shelf) c.loop-node.node c.loop-node.all (g.S.Shelf.may_read c.read_node.new.shelf) c.in-Ok.txs c.loop-node.invariant.2
+          c.loop-node-test.true arrives c.read_node.ensures.allowed),
+    )

@@ -1,0 +1,15 @@
+use Rattle.std.proofs.Common.{IfSome, Option, subst, sym, ◌≡◌, ◌⊎◌}
+use Rattle.bcdb.proofs.top.bcdb.Goals as goal
+use Rattle.bcdb.specs.Answer.{Writes, read_refused}
+use Rattle.bcdb.specs.Causes.{RoseInTurn}
+use Rattle.bcdb.specs.Traced.{EndsTraced}
+use Rattle.cli_words.specs.declared.settings.Settings.{Settings}
+
+pub returns-in-Ok-clause-ends : goal.returns-in-Ok-clause-ends
+returns-in-Ok-clause-ends g c =
+    let before = g.W.Sink.written c.args.out.now in
+    let now = g.W.Sink.written c.serve.new.out in
+    let was = g.S.Shelf.faults c.args.shelf.now in
+    let is = g.S.Shelf.faults c.serve.new.shelf in
+    subst (λ (found : Option Settings). IfSome (g.S.Shelf.told c.args.shelf.now) (λ files.
+    (EndsTraced found files c.serve.result before now × (is ≡ was)) ⊎ (Writes read_refused c.serve.result before now × RoseInTurn found files was is))) (sym c.in-Ok.ensures.ok) c.serve.ensures.ends

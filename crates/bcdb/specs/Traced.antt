@@ -1,0 +1,69 @@
+-- The journals that follow the report of a run, if they are asked for.
+use Rattle.std.specs.Prelude.{All, Bool, Err, List, None, Ok, Option, Result, Some, [], false, length, true, ◌++◌, ◌≡◌, ◌⊎◌, ℕ}
+use Rattle.bcdb.specs.Accepted.{accepted}
+use Rattle.bcdb.specs.Answer.{Answer, Writes, all_arrived, cluster_of, over_cluster, over_settings, reported, says}
+use Rattle.bcdb.specs.Reply.{Means}
+use Rattle.bcdb.specs.declared.cluster.Cluster.{Cluster}
+use Rattle.bcdb.specs.declared.decide.Reply.{Reply}
+use Rattle.bcdb.specs.declared.refusal.BadArrivals.{BadArrivals}
+use Rattle.bcdb.specs.declared.refusal.Refusal.{Refusal}
+use Rattle.bcdb.specs.declared.status.Status.TheVariants.{NoMemory}
+use Rattle.bcdb.specs.declared.status.Status.{Status}
+use Rattle.chain_file.specs.Chain.{chain}
+use Rattle.cli_words.specs.declared.settings.Settings.TheVariants.{Run}
+use Rattle.cli_words.specs.declared.settings.Settings.{Settings}
+use Rattle.cluster_run.specs.Nodes.{IsNodeOf}
+use Rattle.edge_traits.specs.Shelf.{Files}
+use Rattle.edge_traits.specs.Sink.{WroteFront}
+use Rattle.node_model.specs.declared.result.NodeResult.{NodeResult}
+use Rattle.proc_syntax.specs.declared.call.Block.{Block}
+use Rattle.proc_syntax.specs.declared.call.Tx.{Tx}
+use Rattle.proc_syntax.specs.declared.chain_fault.ChainFault.{ChainFault}
+use Rattle.proc_syntax.specs.declared.tree.App.{App}
+use Rattle.report_text.specs.Report.{journals_text}
+
+-- so many nodes tell of these blocks: each the results that are reported, and a journal of its own that steps can make, that delivers the blocks and
+-- comes to these results
+pub record AreNodesOf (app : App) (blocks : List Block) (count : ℕ) (told : List NodeResult) : Type 0 where
+  pub counted : length told ≡ count
+  pub each : All (IsNodeOf app blocks) told
+
+-- the journals of such nodes, if they are asked for
+abbrev pub AreJournals : (asked : Bool) → App → List Block → (count : ℕ) → List ℕ → Type 0
+AreJournals false app blocks count lines = lines ≡ []
+AreJournals true app blocks count lines = (told : List NodeResult) × (AreNodesOf app blocks count told × (lines ≡ journals_text told))
+
+-- none where what arrives, or the application, is refused
+abbrev pub FollowsNodes : Cluster → App → Result (List (List Tx)) BadArrivals → List ℕ → List ℕ → Type 0
+FollowsNodes asked app (Err bad) bytes lines = lines ≡ []
+FollowsNodes asked app (Ok txs) bytes lines = AreJournals asked.look.trace app (chain bytes).0 asked.nodes lines
+
+abbrev pub FollowsCluster : Cluster → Result App Refusal → Files → List ℕ → Type 0
+FollowsCluster asked (Err refusal) files lines = lines ≡ []
+FollowsCluster asked (Ok app) files lines = FollowsNodes asked app (all_arrived asked.arrivals 1 asked.nodes files) (files asked.blocks) lines
+
+-- and none behind what other commands answer
+abbrev pub Follows : Option Settings → Files → List ℕ → Type 0
+Follows (Some (Run app blocks front nodes executors flags)) files lines = FollowsCluster (cluster_of app blocks front nodes executors flags) (accepted (files app)) files lines
+Follows settings files lines = lines ≡ []
+
+-- an answer, and lines that follow it
+abbrev pub followed_by : List ℕ → Answer → Answer
+followed_by lines meant = says meant.status (meant.bytes ++ lines)
+
+-- a reply has the answer and what may follow it: of nodes that ran, of a run over files, and of each command
+abbrev pub RepliesNodes : Cluster → App → List Block → Option ChainFault → Reply → Type 0
+RepliesNodes asked app blocks stop reply =
+    (lines : List ℕ) × (AreJournals asked.look.trace app blocks asked.nodes lines × Means (followed_by lines (reported asked app blocks stop)) reply)
+
+abbrev pub RepliesCluster : Cluster → Result App Refusal → Files → Reply → Type 0
+RepliesCluster asked found files reply = (lines : List ℕ) × (FollowsCluster asked found files lines × Means (followed_by lines (over_cluster asked found files)) reply)
+
+abbrev pub Replies : Option Settings → Files → Reply → Type 0
+Replies settings files reply = (lines : List ℕ) × (Follows settings files lines × Means (followed_by lines (over_settings settings files)) reply)
+
+-- The answer and what may follow it is written; or memory runs out, and a front of the answer was written.
+abbrev pub EndsTraced : Option Settings → Files → Status → Option (List ℕ) → Option (List ℕ) → Type 0
+EndsTraced settings files status before now =
+    ((status ≡ NoMemory) × WroteFront before now (over_settings settings files).bytes)
+    ⊎ ((lines : List ℕ) × (Follows settings files lines × Writes (followed_by lines (over_settings settings files)) status before now))

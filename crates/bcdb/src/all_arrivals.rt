@@ -1,0 +1,85 @@
+//! What arrives at the nodes of a run: a file for each, read one after another.
+
+ghost use Rattle.std.specs.Prelude.{◌≡◌, IfOk, IfSome, IsErrOf, length};
+ghost use Rattle.bcdb.specs.Answer.{all_arrived, arrived_in, file_at, node_file};
+ghost use Rattle.bcdb.specs.Causes.{AllowsArrivals, AllowsBlocks, AllowsNodes, Counted, RoseAtGiven, RoseAtNodes, RoseInNodes};
+ghost use Rattle.edge_traits.specs.Causes.{Keeps};
+
+use crate::arrivals::read_arrivals;
+use crate::cluster::Cluster;
+use crate::fault::FilesFault;
+use crate::refusal::BadArrivals;
+use cli_words::Word;
+use edge_traits::Shelf;
+use itoa::Buffer;
+use proc_syntax::Tx;
+use rel_base::{List, NoMemory};
+use std::alloc::Global;
+
+// The name of the file of what arrives at a node.
+fn node_file(alloc: Global, front: &str, node: u32) -> Result<Word, NoMemory>
+    ensures { IfOk result (λ name. name ≡ node_file front.now node) }
+{
+    let mut digits = Buffer::new();
+    let mut name = String::from_str(alloc, front)?;
+    name.push_str(digits.format(node))?;
+    Word::new(alloc, name.as_str())
+}
+
+/// The name of the file of what arrives at a node, if the words name such files by the front of their names.
+pub fn arrivals_name(
+    alloc: Global,
+    front: &Option<Word>,
+    node: u32,
+) -> Result<Option<Word>, NoMemory>
+    ensures { IfOk result (λ name. name ≡ file_at front.now node) }
+{
+    match front {
+        None => Ok(None),
+        Some(front) => Ok(Some(node_file(alloc, front.as_str(), node)?)),
+    }
+}
+
+// What arrives at one node: its transactions, or the first line of its file with a fault.
+fn read_node<S: Shelf>(
+    alloc: Global,
+    shelf: &mut S,
+    front: &Option<Word>,
+    node: u32,
+) -> Result<Result<List<Tx>, u64>, FilesFault>
+    requires allowed { AllowsArrivals (S.told shelf.old) (S.may_read shelf.old) (file_at front.now node) }
+    ensures told { IfOk result (λ read. IfSome (S.told shelf.old) (λ files. arrived_in (file_at front.now node) files ≡ read)) }
+    ensures same { S.told shelf.new ≡ S.told shelf.old }
+    ensures allowed { Keeps (S.may_read shelf.old) (S.may_read shelf.new) }
+    ensures counted { Counted result (RoseAtGiven (file_at front.now node) (S.faults shelf.old) (S.faults shelf.new)) (S.faults shelf.old) (S.faults shelf.new) }
+{
+    let name = arrivals_name(alloc, front, node)?;
+    read_arrivals(alloc, shelf, &name)
+}
+
+/// What arrives at each node of a run, in the order of the nodes; or the first node whose file has a fault, with the line.
+///
+/// A file is read only once those of the nodes before it have no fault, and none behind the first fault. A read that fails is not
+/// tried again.
+pub fn read_all_arrivals<S: Shelf>(
+    alloc: Global,
+    shelf: &mut S,
+    asked: &Cluster,
+) -> Result<Result<List<List<Tx>>, BadArrivals>, FilesFault>
+    requires allowed { AllowsNodes asked.now.arrivals 1 asked.now.nodes asked.now.blocks (S.told shelf.old) (S.may_read shelf.old) }
+    ensures told { IfOk result (λ read. IfSome (S.told shelf.old) (λ files. all_arrived asked.now.arrivals 1 asked.now.nodes files ≡ read)) }
+    ensures all { IfOk result (λ read. IfOk read (λ txs. length txs ≡ asked.now.nodes)) }
+    ensures same { S.told shelf.new ≡ S.told shelf.old }
+    ensures allowed { IfOk result (λ read. IfOk read (λ txs. AllowsBlocks (S.told shelf.old) (S.may_read shelf.new) asked.now.blocks)) }
+    ensures turn { IsErrOf result FilesFault.Failed → IfSome (S.told shelf.old) (λ files. RoseInNodes asked.now.arrivals 1 asked.now.nodes asked.now.blocks files (S.faults shelf.old) (S.faults shelf.new)) }
+    ensures counted { Counted result (RoseAtNodes asked.now.arrivals 1 asked.now.nodes asked.now.blocks (S.faults shelf.old) (S.faults shelf.new)) (S.faults shelf.old) (S.faults shelf.new) }
+{
+    let mut all = List::new(alloc);
+    for node in 1..=asked.nodes {
+        match read_node(alloc, shelf, &asked.arrivals, node)? {
+            Ok(txs) => all.push(txs)?,
+            Err(line) => return Ok(Err(BadArrivals { node, line })),
+        }
+    }
+    Ok(Ok(all))
+}
