@@ -1,0 +1,1 @@
+table acct (id int, id int) key (id);

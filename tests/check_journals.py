@@ -1,0 +1,249 @@
+#!/usr/bin/env python3
+"""Draws runs of several nodes with executors on the built program, and checks what they tell.
+
+The report of each run has to be that of one node without executors, byte for byte, once for each node; and each journal has to be one that the rule of
+the node's steps allows, here written anew from docs/DEFINITIONS.md: a job is made by an arrival or a delivery, claimed once its height is sealed, read and
+finished or released by its holder, and a transaction is committed at its turn once its job is done. Which rows a read gives is not looked at.
+Usage: check_journals.py PROGRAM [COUNT] [SEED]
+"""
+import os
+import random
+import re
+import subprocess
+import sys
+import tempfile
+
+from draw_schedules import CASES, HERE, arrivals_of, blocks_of, changed, read
+
+EARLY = ("aborted duplicate-id", "aborted future-height", "aborted unknown-procedure", "aborted bad-arguments")
+MOST_READS = 100000
+
+
+KINDS = {"int": re.compile(r"-?[0-9]+"), "text": re.compile(r'"(?:[^"\\]|\\.)*"'), "bool": re.compile("true|false"), "bytes": re.compile(r'x"(?:[0-9a-f]{2})*"')}
+ARGUMENT = re.compile(r'x?"(?:[^"\\]|\\.)*"|[^ ]+')
+
+
+class Illegal(Exception):
+    """An entry that no step makes."""
+
+
+def need(holds, why):
+    if not holds:
+        raise Illegal(why)
+
+
+class Procedures:
+    """The procedures of an application: the kinds of what each takes."""
+
+    def __init__(self, app):
+        text = re.sub("#[^\n]*", "", app)
+        self.kinds = {name: [parameter.split()[-1] for parameter in parameters.split(",") if parameter.strip()]
+                      for name, parameters in re.findall(r"\bproc\s+(\w+)\s*\(([^)]*)\)", text)}
+
+    def takes(self, line):
+        """Whether a transaction line calls one of them with such arguments."""
+        name, *arguments = ARGUMENT.findall(line)[3:]
+        kinds = self.kinds.get(name)
+        return kinds is not None and len(kinds) == len(arguments) and all(KINDS[kind].fullmatch(given) for kind, given in zip(kinds, arguments))
+
+
+class Job:
+    """A job: the whole transaction, and how far it is."""
+
+    def __init__(self, line):
+        self.line = line
+        self.id = line.split(" ")[1]
+        self.height = int(line.split(" ")[2])
+        self.state = "waiting"
+        self.holder = None
+        self.reads = 0
+
+
+class Node:
+    """The state that the entries of a journal come to."""
+
+    def __init__(self, blocks, outcomes, arrivals, feeder):
+        self.blocks, self.outcomes, self.feeder = blocks, outcomes, feeder
+        self.arrivals = iter(arrivals)
+        self.jobs = []
+        self.sealed = 0
+        self.decided = None
+        self.settled = set()
+
+    def is_known(self, line):
+        id = line.split(" ")[1]
+        in_work = self.decided is not None and any(other.split(" ")[1] == id for other in self.blocks[self.sealed])
+        return id in self.settled or in_work or self.find(line) is not None
+
+    def find(self, line):
+        for job in self.jobs:
+            if job.state != "dropped" and job.line == line:
+                return job
+        return None
+
+    def job(self, number):
+        need(1 <= number <= len(self.jobs), "no such job")
+        return self.jobs[number - 1]
+
+    def held(self, actor, number):
+        job = self.job(number)
+        need(job.state == "held" and job.holder == actor, "not held by this actor")
+        return job
+
+    def arrive(self, actor, number, id):
+        need(actor == self.feeder, "not the feeder")
+        need(number == len(self.jobs) + 1, "not the next job")
+        # those before it in the file made no entry: they were known then, or before
+        for line in self.arrivals:
+            if line.split(" ")[1] == id and not self.is_known(line):
+                self.jobs.append(Job(line))
+                return
+        raise Illegal("arrives from nowhere")
+
+    def claim(self, actor, number):
+        job = self.job(number)
+        need(not any(other.state == "held" and other.holder == actor for other in self.jobs), "holds another job")
+        need(job.state == "waiting", "does not wait")
+        need(job.height <= self.sealed, "its height is not sealed")
+        job.state, job.holder, job.reads = "held", actor, 0
+
+    def read(self, actor, number):
+        job = self.held(actor, number)
+        need(job.id not in self.settled, "reads though its id is settled")
+        job.reads += 1
+        need(job.reads <= MOST_READS, "reads too often")
+
+    def finish(self, actor, number):
+        job = self.held(actor, number)
+        job.state = "dropped" if job.id in self.settled else "done"
+
+    def release(self, actor, number):
+        job = self.held(actor, number)
+        job.state = "dropped" if job.id in self.settled else "waiting"
+
+    def deliver(self, actor, number):
+        need(actor == 0, "not the processor")
+        need(self.decided is None, "a block is in work")
+        need(number == self.sealed + 1 and number <= len(self.blocks), "not the next block")
+        self.decided = 0
+        for line, outcome in zip(self.blocks[number - 1], self.outcomes[number - 1]):
+            if outcome not in EARLY and self.find(line) is None:
+                self.jobs.append(Job(line))
+
+    def commit(self, actor, pos):
+        need(actor == 0, "not the processor")
+        need(self.decided is not None, "no block is in work")
+        need(pos == self.decided + 1 and pos <= len(self.blocks[self.sealed]), "not the first undecided")
+        line, outcome = self.blocks[self.sealed][pos - 1], self.outcomes[self.sealed][pos - 1]
+        if outcome not in EARLY:
+            job = self.find(line)
+            need(job is not None and job.state == "done", "its job is not done")
+        self.decided = pos
+
+    def seal(self, actor, number):
+        need(actor == 0, "not the processor")
+        need(self.decided == len(self.blocks[self.sealed]), "not all are decided")
+        need(number == self.sealed + 1, "not the block in work")
+        self.settled |= {line.split(" ")[1] for line in self.blocks[self.sealed]}
+        for job in self.jobs:
+            if job.state in ("waiting", "done") and job.id in self.settled:
+                job.state = "dropped"
+        self.sealed, self.decided = number, None
+
+    def step(self, line):
+        actor, event, *rest = line.split(" ")
+        if event == "arrive":
+            self.arrive(int(actor), int(rest[0]), rest[1])
+        else:
+            getattr(self, event)(int(actor), int(rest[0]))
+
+
+def outcomes_of(report):
+    """The outcomes of each block of a report of one node."""
+    blocks = []
+    for line in report.split("\n"):
+        if line.startswith("block "):
+            blocks.append([])
+        elif line.startswith("tx "):
+            blocks[-1].append(line.split(" ", 3)[3])
+    return blocks
+
+
+def check_journal(lines, blocks, outcomes, arrivals, executors):
+    """A journal of a node that seals all blocks, with the arrivals that are calls of the application."""
+    node = Node(blocks, outcomes, arrivals, executors + 1)
+    for place, line in enumerate(lines):
+        try:
+            node.step(line)
+        except Illegal as fault:
+            raise Illegal(f"entry {place + 1}, `{line}`: {fault}")
+        need(int(line.split(" ")[0]) <= executors + 1, "no such actor")
+    need(node.sealed == len(blocks) and node.decided is None, "not all blocks are sealed")
+
+
+def split_trace(text, nodes):
+    """The report, and the lines of each journal."""
+    report, *journals = text.split("journal ")
+    need(len(journals) == nodes, "not one journal for each node")
+    for place, journal in enumerate(journals):
+        need(journal.startswith(f"{place + 1}\n"), "journals in another order")
+    return report, [journal.split("\n")[1:-1] for journal in journals]
+
+
+def expected(plain, nodes):
+    """The report of so many nodes, by that of one."""
+    body, done = plain[len("node 1\n"):-len("done\n")], "done\n"
+    return "".join(f"node {place + 1}\n{body}" for place in range(nodes)) + done
+
+
+def output(program, words):
+    done = subprocess.run([program, *words], stdout=subprocess.PIPE, text=True, timeout=120)
+    if done.returncode != 0:
+        raise Illegal(f"status {done.returncode}: {done.stdout[:80]}")
+    return done.stdout
+
+
+def late_or_never(draw, blocks):
+    """Lists of arrivals, some of them with many changed lines, some empty."""
+    lines = arrivals_of(draw, blocks) if draw.random() < 0.8 else []
+    if draw.random() < 0.3:
+        lines += [changed(draw, line) for block in blocks for line in block]
+    return lines
+
+
+def draw_run(program, draw, folder, case):
+    app, draft = os.path.join(HERE, "cases", case, "a.app"), os.path.join(HERE, "cases", case, "b.draft")
+    procedures, blocks = Procedures(read(app)), blocks_of(read(draft))
+    nodes, executors = draw.randrange(1, 4), draw.choice([0, 1, 2, 4, 16])
+    arrivals = [late_or_never(draw, blocks) for _ in range(nodes)]
+    for place, lines in enumerate(arrivals):
+        with open(os.path.join(folder, f"arrivals{place + 1}"), "w") as out:
+            out.write("arrivals 1\n" + "".join(line + "\n" for line in lines))
+    files = ["--app", app, "--blocks", draft]
+    plain = output(program, ["run", *files, "--executors", "0"])
+    words = ["--nodes", str(nodes), "--executors", str(executors), "--arrivals", os.path.join(folder, "arrivals"), "--trace"]
+    report, journals = split_trace(output(program, ["run", *files, *words]), nodes)
+    need(report == expected(plain, nodes), "another report")
+    for lines, arrived in zip(journals, arrivals):
+        check_journal(lines, blocks, outcomes_of(plain), filter(procedures.takes, arrived), executors)
+
+
+def main():
+    program = os.path.abspath(sys.argv[1])
+    count = int(sys.argv[2]) if len(sys.argv) > 2 else 300
+    seed = int(sys.argv[3]) if len(sys.argv) > 3 else random.randrange(2 ** 32)
+    draw, failed = random.Random(seed), 0
+    with tempfile.TemporaryDirectory() as folder:
+        for number in range(count):
+            case = draw.choice(CASES)
+            try:
+                draw_run(program, draw, folder, case)
+            except (Illegal, subprocess.TimeoutExpired) as fault:
+                failed += 1
+                print(f"run {number} of seed {seed}, {case}: {fault}")
+    print(f"{count - failed} passed, {failed} failed")
+    sys.exit(1 if failed else 0)
+
+
+if __name__ == "__main__":
+    main()
