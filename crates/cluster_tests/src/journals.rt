@@ -53,8 +53,6 @@ pub fn tell_the_same(one: &NodeResult, other: &NodeResult) -> bool {
     let digests = blocks.iter().map(|block| block.digest);
     digests.eq(others.iter().map(|block| block.digest))
         && tables.len() == theirs.len()
-        && tables
-            .iter()
-            .zip(theirs.iter())
-            .all(|(left, right)| left.table == right.table && left.rows == right.rows)
+        && tables.iter().zip(theirs.iter()).all(|(left, right)| left.table == right.table
+            && left.rows == right.rows)
 }

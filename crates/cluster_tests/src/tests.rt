@@ -120,13 +120,21 @@ fn two_payments_side_by_side(rt: HostRuntime) -> Result<(), Fail> {
     let made = run_node::<IndexVersions, _, _>(&rt, alloc, &app, &crew)?;
     assert!(rt; gate.is_passed());
     let journal = made.journal.as_slice();
-    let (Some((3, first)), Some((3, second))) = (arrival_of(journal, "p1"), arrival_of(journal, "p2")) else {
+    let (Some((3, first)), Some((3, second))) = (
+        arrival_of(journal, "p1"),
+        arrival_of(journal, "p2"),
+    ) else {
         return Err("a payment that did not arrive by actor 3".into());
     };
     assert!(rt; first < second);
     assert_eq!(rt; journal.iter().filter(|entry| arrives(entry)).count(), 2);
     assert!(rt; keep_step(journal, first, second));
-    assert!(rt; matches!((finisher_of(journal, first), finisher_of(journal, second)), (Some(1), Some(2)) | (Some(2), Some(1))));
+    assert!(rt;
+        matches!(
+            (finisher_of(journal, first), finisher_of(journal, second)),
+            (Some(1), Some(2)) | (Some(2), Some(1))
+        )
+    );
     let alone = Crew::new(1, 0, &blocks, &[], &NoGate);
     let plain = run_node::<IndexVersions, _, _>(&rt, alloc, &app, &alone)?;
     assert!(rt; all_commit(&plain));
@@ -144,8 +152,9 @@ fn three_nodes_at_which_other_things_arrive(rt: HostRuntime) -> Result<(), Fail>
     others.push(pay(alloc, "p1", [2, 1, 7])?)?;
     others.push(pay(alloc, "p2", [4, 3, 60])?)?;
     let arrivals = [payments(alloc)?, others, List::new(alloc)];
-    let nodes =
-        run_cluster::<IndexVersions, _, _>(&rt, alloc, &app, &blocks, &arrivals, 2, &NoGate)?;
+    let nodes = run_cluster::<IndexVersions, _, _>(
+        &rt, alloc, &app, &blocks, &arrivals, 2, &NoGate,
+    )?;
     let [one, two, three] = nodes.as_slice() else {
         return Err("not three nodes".into());
     };
