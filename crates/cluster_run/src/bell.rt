@@ -4,6 +4,10 @@ ghost use Rattle.std.specs.Prelude.{◌<◌, ◌^◌};
 
 use std::sync::Wait;
 use std::sync::atomic::{AtomicU64, Ordering};
+use std::thread;
+
+// How often one that waits looks before it sleeps. What it waits for is mostly over in less time than a thread takes to wake.
+const LOOKS_BEFORE_SLEEP: u32 = 100;
 
 /// A count of what has happened at a node. An actor that has nothing to do sleeps until it changes.
 #[derive(Drop)]
@@ -30,9 +34,15 @@ impl Bell {
         (self.count.load(Ordering::SeqCst) % 4_294_967_296) as u32
     }
 
-    /// Sleeps while it was rung no more than was heard. An actor asks what is heard before it looks for something to do, so that it does
-    /// not sleep over what happens meanwhile.
-    pub fn sleep<R: Wait>(&self, rt: &R, heard: u32) {
+    /// Waits while it was rung no more than was heard, asleep after some looks. An actor asks what is heard before it looks for something to
+    /// do, so that it does not sleep over what happens meanwhile.
+    pub fn wait<R: Wait>(&self, rt: &R, heard: u32) {
+        for _ in 0..LOOKS_BEFORE_SLEEP {
+            if self.heard() != heard {
+                return;
+            }
+            thread::yield_now();
+        }
         self.count.park(rt, heard);
     }
 }

@@ -9,7 +9,7 @@ use proc_syntax::{Block, Tx};
 use std::sync::Wait;
 
 /// The actors of a node: the processor, which is actor 0, executors from 1 on, and behind them one that makes the arrivals. Each comes to
-/// the same gate, and who is idle hears the same bell.
+/// the same gate. Executors that are idle hear one bell, and the processor, while an executor holds the job that is due, another.
 #[derive(Drop)]
 pub struct Crew<'a, G: Gate> {
     /// The number of the node, from 1.
@@ -19,7 +19,10 @@ pub struct Crew<'a, G: Gate> {
     pub blocks: &'a [Block],
     /// What arrives at the node, in order.
     pub arrivals: &'a [Tx],
+    /// Rung where there may be a job to claim.
     pub bell: Bell,
+    /// Rung where an executor holds its job no more.
+    pub ended: Bell,
     gate: &'a G,
 }
 
@@ -41,6 +44,7 @@ impl<'a, G: Gate> Crew<'a, G> {
             blocks,
             arrivals,
             bell: Bell::new(),
+            ended: Bell::new(),
             gate,
         }
     }

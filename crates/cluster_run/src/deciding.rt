@@ -13,7 +13,6 @@ use node_shared::{NodePass, SharedNode};
 use rel_base::NoMemory;
 use row_sets::Versions;
 use std::sync::Wait;
-use std::thread;
 
 // The job that is due, if it waits, is claimed and run.
 fn run_due<V: Versions, G: Gate, R: Wait>(
@@ -73,6 +72,7 @@ fn decide_next<V: Versions, G: Gate, R: Wait>(
     ensures blocks { SameBlocks pass.old pass.new }
     ensures all { IfOk result (λ all. all ≡ true → AllDecided pass.new) }
 {
+    let heard = crew.ended.heard();
     match commit_next(rt, node, pass) {
         Ok(Decided::Outcome { .. }) => Ok(false),
         Ok(Decided::NotReady { holder: None, .. }) => {
@@ -85,7 +85,7 @@ fn decide_next<V: Versions, G: Gate, R: Wait>(
                 ..
             },
         ) => {
-            thread::yield_now();
+            crew.ended.wait(rt, heard);
             Ok(false)
         }
         Ok(Decided::AllDecided { .. }) | Ok(Decided::NoBlock { .. }) => Ok(true),
@@ -94,7 +94,7 @@ fn decide_next<V: Versions, G: Gate, R: Wait>(
 }
 
 /// Decides the transactions of the block in work, in order, until none is undecided. A transaction whose job waits is run by the
-/// processor itself; where another actor holds the job, the processor yields and looks again.
+/// processor itself; where another actor holds the job, the processor waits until a job is held no more, and looks again.
 pub fn decide_all<V: Versions, G: Gate, R: Wait>(
     rt: &R,
     node: &SharedNode<V>,

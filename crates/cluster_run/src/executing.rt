@@ -4,7 +4,6 @@ ghost use Rattle.std.specs.Prelude.{◌≡◌};
 ghost use Rattle.cluster_run.specs.Standing.{HasNone};
 ghost use Rattle.turn_lock.specs.Passes.{HoldsNoTurn, IsPassOf, IsSamePass};
 
-use crate::bell::Bell;
 use crate::crew::Crew;
 use crate::gate::Gate;
 use crate::working::{run_work, take_work};
@@ -14,10 +13,9 @@ use rel_base::NoMemory;
 use row_sets::Versions;
 use std::sync::Wait;
 use std::sync::atomic::{AtomicBool, Ordering};
-use std::thread;
 
-// How often an executor that finds no job lets others run before it sleeps.
-const TRIES: u32 = 64;
+// After so many arrivals the bell is rung: each ring wakes all idle executors.
+const ARRIVALS_A_RING: u32 = 32;
 
 // The first job that can be claimed is run. Answers whether there was one.
 fn run_first<V: Versions, G: Gate, R: Wait>(
@@ -36,25 +34,13 @@ fn run_first<V: Versions, G: Gate, R: Wait>(
     match take_work(rt, node, pass, Pick::Nth(0)) {
         Ok(None) => Ok(false),
         Ok(Some(work)) => {
-            run_work(rt, node, crew, pass, work)?;
+            let ended = run_work(rt, node, crew, pass, work);
+            crew.ended.ring();
+            ended?;
             Ok(true)
         }
         Err(refused) => Err(refused),
     }
-}
-
-// An executor that has found a job goes on at once; one that has found none lets others run, and after some tries it sleeps until the bell
-// is rung. Answers how many tries in a row have found none.
-fn rest<R: Wait>(rt: &R, bell: &Bell, heard: u32, found: bool, idle: u32) -> u32 {
-    if found {
-        return 0;
-    }
-    if idle < TRIES {
-        thread::yield_now();
-        return idle + 1;
-    }
-    bell.sleep(rt, heard);
-    idle
 }
 
 /// Claims jobs and runs them, until the executor's flag is set or memory runs out. It holds none afterwards.
@@ -72,21 +58,21 @@ pub fn execute<V: Versions, G: Gate, R: Wait>(
     ensures no_turn { HoldsNoTurn result }
     ensures hand { HasNone result }
 {
-    let mut idle = 0;
     for _ in rt.forever() {
         let heard = crew.bell.heard();
         if stopped.load(Ordering::SeqCst) {
             return pass;
         }
         match run_first(rt, node, crew, &mut pass) {
-            Ok(found) => idle = rest(rt, &crew.bell, heard, found, idle),
+            Ok(true) => {}
+            Ok(false) => crew.bell.wait(rt, heard),
             Err(_) => return pass,
         }
     }
     unreachable!()
 }
 
-/// Makes the arrivals in order, until the flag is set or memory runs out.
+/// Makes the arrivals in order, until the flag is set or memory runs out. The bell is rung now and then, and at the end.
 pub fn feed<V: Versions, G: Gate, R: Wait>(
     rt: &R,
     node: &SharedNode<V>,
@@ -99,12 +85,18 @@ pub fn feed<V: Versions, G: Gate, R: Wait>(
     ensures same { IsSamePass pass result }
     ensures no_turn { HoldsNoTurn result }
 {
+    let mut made: u32 = 0;
     for tx in crew.arrivals {
         if stopped.load(Ordering::SeqCst) || node.arrive(rt, &mut pass, tx).is_err() {
+            crew.bell.ring();
             return pass;
         }
-        crew.bell.ring();
+        made = (made + 1) % ARRIVALS_A_RING;
+        if made == 0 {
+            crew.bell.ring();
+        }
     }
+    crew.bell.ring();
     pass
 }
 
