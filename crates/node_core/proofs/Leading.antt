@@ -1,13 +1,12 @@
 -- The first rows, which are over.
 use Rattle.std.proofs.Common.{Bool, List, [], ap, arith, cond, drop, false, length, map, refl, subst, suc, sym, take, true, zero, ◌+◌, ◌++◌, ◌∙◌, ◌≡◌, ◌≤◌, ◌∷◌, ℕ}
 use Rattle.block_work.specs.declared.ids.IdIndex.{IdIndex}
-use Rattle.node_core.proofs.Table.{eligible_is}
 use Rattle.node_core.specs.Over.{drop_settled}
-use Rattle.node_core.specs.Rows.{eligible_rows, leading_over, put_at, row_is_eligible, shown_all, status_of}
+use Rattle.node_core.specs.Rows.{leading_over, put_at, status_of}
 use Rattle.node_core.specs.declared.jobs.Row.{Row}
 use Rattle.node_core.specs.declared.jobs.Stage.TheVariants as stage
 use Rattle.node_core.specs.declared.jobs.Stage.{Stage}
-use Rattle.node_model.specs.World.{eligible, is_live}
+use Rattle.node_model.specs.World.{is_live}
 
 -- a row that is over, where more than none of the first are
 over_here : (row : Row) (rows : List Row) (n : ℕ) → suc n ≤ leading_over (row ∷ rows) → (row.stage ≡ stage.Dropped) × (n ≤ leading_over rows)
@@ -37,20 +36,6 @@ over_split (suc n) (row ∷ rows) within =
     let rest : n + leading_over (drop n rows) ≡ leading_over rows = over_split n rows here.1 in
     let next : suc n + leading_over (drop n rows) ≡ suc (leading_over rows) = omega (arith, rest) in
     next ∙ sym (ap (λ (now : Stage). cond (is_live (status_of now)) 0 (suc (leading_over rows))) here.0)
-
--- none of them is to be claimed
-eligible_behind : (n number height : ℕ) (rows : List Row) → n ≤ leading_over rows → eligible_rows number height rows ≡ eligible_rows (number + n) height (drop n rows)
-eligible_behind zero number height rows within = ap (λ m. eligible_rows m height rows) (let same : number ≡ number + 0 = omega arith in same)
-eligible_behind (suc n) number height [] within = refl
-eligible_behind (suc n) number height (row ∷ rows) within =
-    let here = over_here row rows n within in
-    ap (λ (now : Stage). cond (row_is_eligible height (record { tx = row.tx; stage = now })) (number ∷ eligible_rows (number + 1) height rows) (eligible_rows (number + 1) height rows)) here.0
-    ∙ eligible_behind n (number + 1) height rows here.1
-    ∙ ap (λ m. eligible_rows m height (drop n rows)) (let same : number + 1 + n ≡ number + suc n = omega arith in same)
-
-pub left_is : (height first : ℕ) (rows : List Row) → first ≤ leading_over rows → eligible_rows (first + 1) height (drop first rows) ≡ eligible height (shown_all rows)
-left_is height first rows within =
-    ap (λ n. eligible_rows n height (drop first rows)) (let same : first + 1 ≡ 1 + first = omega arith in same) ∙ sym (eligible_behind first 1 height rows within) ∙ eligible_is height rows
 
 -- they stay so where others come behind them
 pub over_more : (n : ℕ) (rows more : List Row) → n ≤ leading_over rows → n ≤ leading_over (rows ++ more)

@@ -1,4 +1,5 @@
 pub mod Rows
+pub mod Waiting
 pub mod ById
 pub mod JobTable
 pub mod InHand

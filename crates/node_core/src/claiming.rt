@@ -85,9 +85,10 @@ impl<V: Versions> NodeCore<V> {
     ghost use Rattle.node_core.specs.Hands.{IsClaimed};
     ghost use Rattle.node_model.specs.Steps.{ToClaim, chosen};
 
-    // The number of the job that is chosen.
-    fn choose(&self, pick: Pick) -> Option<u64>
-        ensures { result ≡ chosen self.now.app (world_of self.now) pick }
+    // The number of the job that is chosen. The node stays as it is, and only what is known of its jobs grows.
+    fn choose(&mut self, pick: Pick) -> Option<u64>
+        ensures chosen { result ≡ chosen self.old.app (world_of self.old) pick }
+        ensures same { self.new ≡ self.old }
     {
         match pick {
             Pick::Nth(n) => self.jobs.find_nth(self.chain.height(), n),

@@ -4,12 +4,11 @@ ghost use Rattle.std.specs.Prelude.{◌≡◌, ◌<◌, ◌≤◌, ◌+◌, ◌%
 ghost use Rattle.std.specs.Option.{option_copied, option_map};
 ghost use Rattle.node_model.specs.World.{eligible, is_held, is_waiting, number_of};
 
+use crate::bounds::{WaitBounds, note_all};
 use crate::dropping::{drop_settled, skip_over};
 use crate::index::{JobIndex, hold_all};
 use crate::lookup::find_number;
-use crate::rows::{
-    change_stage, count_eligible, find_eligible, is_waiting, one_held, push_row, push_rows,
-};
+use crate::rows::{change_stage, is_waiting, one_held, push_row, push_rows};
 use block_work::IdIndex;
 use proc_syntax::Tx;
 use proc_syntax::run::Ran;
@@ -55,6 +54,8 @@ pub struct Jobs {
     held: usize,
     // So many of the first jobs are over, and are not walked again.
     first: usize,
+    // Where a claim looks for a job.
+    bounds: WaitBounds,
     index: JobIndex,
 }
 
@@ -68,7 +69,7 @@ impl Model for Jobs {
 
     ghost view = { λ jobs. jobs.rows.items };
 
-    ghost invariant = { λ jobs. IsTable jobs.rows.items jobs.held jobs.first jobs.index };
+    ghost invariant = { λ jobs. IsTable jobs.rows.items jobs.held jobs.first jobs.bounds jobs.index };
 }
 
 impl Jobs {
@@ -84,6 +85,7 @@ impl Jobs {
             rows: Vec::new(alloc),
             held: 0,
             first: 0,
+            bounds: WaitBounds::new(),
             index: JobIndex::new(alloc),
         }
     }
@@ -110,16 +112,17 @@ impl Jobs {
         find_number(self.rows.as_slice(), &self.index, tx)
     }
 
-    /// Of the jobs that wait and whose height is at most the given one, in order of number, the one at `n` modulo their count.
-    pub fn find_nth(&self, height: u64, n: u64) -> Option<u64>
-        ensures { result ≡ slice_get (eligible height (shown_all self.now)) (n % length (eligible height (shown_all self.now))) }
+    /// Of the jobs that wait and whose height is at most the given one, in order of number, the one at `n` modulo their count. The jobs
+    /// stay as they are, and only what is known of them grows: where `n` is 0, jobs that did not wait and heights of no job are not walked
+    /// again.
+    pub fn find_nth(&mut self, height: u64, n: u64) -> Option<u64>
+        ensures found { result ≡ slice_get (eligible height (shown_all self.old)) (n % length (eligible height (shown_all self.old))) }
+        ensures same { self.new ≡ self.old }
     {
-        let count = count_eligible(self.rows.as_slice(), self.first, height);
-        if count == 0 {
-            return None;
+        if n == 0 {
+            return self.bounds.find_first(self.rows.as_slice(), height);
         }
-        let place = (n % count as u64) as usize;
-        find_eligible(self.rows.as_slice(), self.first, height, place)
+        self.bounds.find_nth(self.rows.as_slice(), height, n)
     }
 
     /// The job of a number.
@@ -158,6 +161,7 @@ impl Jobs {
         self.rows.reserve(1)?;
         self.index.reserve(1)?;
         self.index.hold(&tx.id)?;
+        self.bounds.note(&tx);
         push_row(&mut self.rows, &mut self.index, tx);
         Ok(())
     }
@@ -170,6 +174,7 @@ impl Jobs {
         self.rows.reserve(txs.len())?;
         self.index.reserve(txs.len())?;
         hold_all(&mut self.index, txs.as_slice())?;
+        note_all(&mut self.bounds, txs.as_slice());
         push_rows(&mut self.rows, &mut self.index, txs);
         Ok(())
     }
@@ -186,6 +191,7 @@ impl Jobs {
         self.held = self.held - one_held(&was) + more;
         // The jobs before the place are over still.
         self.first = self.first.min(place);
+        self.bounds.change(self.rows.as_slice(), place);
         was
     }
 

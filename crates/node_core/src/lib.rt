@@ -3,6 +3,7 @@
 
 pub mod answers;
 pub mod arriving;
+pub mod bounds;
 pub mod claiming;
 pub mod committing;
 pub mod delivering;

@@ -1,6 +1,6 @@
 //! Tests on jobs and walks over them.
 
-ghost use Rattle.std.specs.Prelude.{◌≡◌, ◌<◌, ◌≤◌, ◌+◌, ◌++◌, ◌∷◌, List, Some, [], drop, length, map, slice_get, vec_capacity, vec_len, ℕ};
+ghost use Rattle.std.specs.Prelude.{◌≡◌, ◌<◌, ◌≤◌, ◌+◌, ◌%◌, ◌++◌, ◌∷◌, List, Some, [], drop, length, map, slice_get, vec_capacity, vec_len, ℕ};
 ghost use Rattle.std.specs.Option.{option_map};
 ghost use Rattle.node_core.specs.ById.{HasRoom, Indexes, ids_of, tx_ids};
 ghost use Rattle.node_core.specs.Rows.{eligible_rows, is_open, new_row, one_held, put_at, row_is_eligible, status_of};
@@ -58,8 +58,8 @@ fn is_eligible(row: &Row, height: u64) -> bool
     is_waiting(&row.stage) && row.tx.height <= height
 }
 
-/// How many jobs wait whose tables are there, among those from a place on.
-pub fn count_eligible(rows: &[Row], first: usize, height: u64) -> usize
+// How many jobs wait whose tables are there, among those from a place on.
+fn count_eligible(rows: &[Row], first: usize, height: u64) -> usize
     requires { first ≤ length rows.now }
     ensures { result ≡ length (eligible_rows (first + 1) height (drop first rows.now)) }
 {
@@ -96,6 +96,19 @@ pub fn change_stage(rows: &mut Vec<Row>, place: usize, stage: Stage) -> Stage
     ensures now { rows.new.items ≡ put_at rows.old.items place stage }
 {
     std::mem::replace(&mut rows[place].stage, stage)
+}
+
+/// The number of the job at `n` modulo their count among these.
+pub fn find_among(rows: &[Row], first: usize, height: u64, n: u64) -> Option<u64>
+    requires { first ≤ length rows.now }
+    ensures { result ≡ slice_get (eligible_rows (first + 1) height (drop first rows.now)) (n % length (eligible_rows (first + 1) height (drop first rows.now))) }
+{
+    let count = count_eligible(rows, first, height);
+    if count == 0 {
+        return None;
+    }
+    let place = (n % count as u64) as usize;
+    find_eligible(rows, first, height, place)
 }
 
 /// Adds a job that waits, for which there is room.

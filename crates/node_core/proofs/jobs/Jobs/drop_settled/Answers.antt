@@ -15,5 +15,6 @@ pub invariant_of-self : goal.invariant_of-self
 invariant_of-self c =
     let rows : c.drop_settled.new.rows.items ≡ map (drop_settled c.args.ids.now) c.self.inside.rows.items = search rules in
     let now : c.as_slice.result.now ≡ c.drop_settled.new.rows.items = search rules in
-    table_dropped c.args.ids.now c.self.inside.rows.items c.drop_settled.new.rows.items c.self.inside.held c.self.inside.first c.skip_over-self-inside.result c.self.inside.index c.self.invariant rows
+    table_dropped c.args.ids.now c.self.inside.rows.items c.drop_settled.new.rows.items c.self.inside.held c.self.inside.first c.skip_over-self-inside.result c.self.inside.bounds c.self.inside.index
+    c.self.invariant rows
     (c.skip_over-self-inside.ensures ∙ ap leading_over now)

@@ -14,22 +14,27 @@ use Rattle.node_core.proofs.node.NodeCore.claim.Goals as goal
 
 pub share_tx-requires : goal.share_tx-requires
 share_tx-requires g c =
+    let s = c.self.inside in
+    let view : record { app = s.chain.app.value.app; journal = s.journal.items } ≡ c.args.self.now = c.self.view_is ∙ c.choose.ensures.same in
     let is : chosen c.args.self.now.app (world_of c.args.self.now) c.args.pick ≡ Some c.in-Some.job = search rules in
-    claim_there _ c.self.invariant.0 c.args.actor c.in-Some.job c.args.pick (subst (λ (core : Core). MayAsk core c.args.actor (ToClaim c.args.pick)) (sym c.self.view_is) c.requires.free)
-    (ap (λ (core : Core). chosen core.app (world_of core) c.args.pick) c.self.view_is ∙ is)
+    claim_there _ c.self.invariant.0 c.args.actor c.in-Some.job c.args.pick (subst (λ (core : Core). MayAsk core c.args.actor (ToClaim c.args.pick)) (sym view) c.requires.free)
+    (ap (λ (core : Core). chosen core.app (world_of core) c.args.pick) view ∙ is)
 
 pub hold-requires : goal.hold-requires
 hold-requires g c =
+    let s = c.self.inside in
+    let view : record { app = s.chain.app.value.app; journal = s.journal.items } ≡ c.args.self.now = c.self.view_is ∙ c.choose.ensures.same in
     let is : chosen c.args.self.now.app (world_of c.args.self.now) c.args.pick ≡ Some c.in-Some.job = search rules in
-    claim_waits _ c.self.invariant.0 c.args.actor c.in-Some.job c.args.pick (subst (λ (core : Core). MayAsk core c.args.actor (ToClaim c.args.pick)) (sym c.self.view_is) c.requires.free)
-    (ap (λ (core : Core). chosen core.app (world_of core) c.args.pick) c.self.view_is ∙ is)
+    claim_waits _ c.self.invariant.0 c.args.actor c.in-Some.job c.args.pick (subst (λ (core : Core). MayAsk core c.args.actor (ToClaim c.args.pick)) (sym view) c.requires.free)
+    (ap (λ (core : Core). chosen core.app (world_of core) c.args.pick) view ∙ is)
 
 pub invariant_of-self-in-Some : goal.invariant_of-self-in-Some
 invariant_of-self-in-Some g c =
     let s = c.self.inside in
+    let view : record { app = s.chain.app.value.app; journal = s.journal.items } ≡ c.args.self.now = c.self.view_is ∙ c.choose.ensures.same in
     let chose : chosen c.args.self.now.app (world_of c.args.self.now) c.args.pick ≡ Some c.in-Some.job = search rules in
-    let is = ap (λ (core : Core). chosen core.app (world_of core) c.args.pick) c.self.view_is ∙ chose in
-    let may = subst (λ (core : Core). MayAsk core c.args.actor (ToClaim c.args.pick)) (sym c.self.view_is) c.requires.free in
+    let is = ap (λ (core : Core). chosen core.app (world_of core) c.args.pick) view ∙ chose in
+    let may = subst (λ (core : Core). MayAsk core c.args.actor (ToClaim c.args.pick)) (sym view) c.requires.free in
     let more : c.push_reserved.new.self.items ≡ s.journal.items ++ record { actor = c.args.actor; event = Claim c.in-Some.job } ∷ [] = search rules in
     let rows : c.hold.new.self ≡ put_row s.jobs c.in-Some.job (Held c.args.actor) = search rules in
     let fits : vec_len c.make_room.new.journal + 2 + count_held s.jobs ≤ vec_capacity c.push_reserved.new.self = search rules in
@@ -42,9 +47,10 @@ invariant_of-self-in-Some g c =
 pub returns-in_ok-make_room-in-Some-clause-held : goal.returns-in_ok-make_room-in-Some-clause-held
 returns-in_ok-make_room-in-Some-clause-held g c =
     let s = c.self.inside in
+    let view : record { app = s.chain.app.value.app; journal = s.journal.items } ≡ c.args.self.now = c.self.view_is ∙ c.choose.ensures.same in
     let chose : chosen c.args.self.now.app (world_of c.args.self.now) c.args.pick ≡ Some c.in-Some.job = search rules in
-    let is = ap (λ (core : Core). chosen core.app (world_of core) c.args.pick) c.self.view_is ∙ chose in
-    let may = subst (λ (core : Core). MayAsk core c.args.actor (ToClaim c.args.pick)) (sym c.self.view_is) c.requires.free in
+    let is = ap (λ (core : Core). chosen core.app (world_of core) c.args.pick) view ∙ chose in
+    let may = subst (λ (core : Core). MayAsk core c.args.actor (ToClaim c.args.pick)) (sym view) c.requires.free in
     let more : c.push_reserved.new.self.items ≡ s.journal.items ++ record { actor = c.args.actor; event = Claim c.in-Some.job } ∷ [] = search rules in
     let tx = c.in_ok-tx-in-Some.tx.value in
     let shares : option_map (λ row. row.tx.value) (row_at s.jobs c.in-Some.job) ≡ Some tx = search rules in
