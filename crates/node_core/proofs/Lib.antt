@@ -1,5 +1,4 @@
 pub mod Table
-pub mod Leading
 pub mod Quiet
 pub mod Newest
 pub mod Walks

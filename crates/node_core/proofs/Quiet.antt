@@ -3,11 +3,10 @@ use Rattle.std.proofs.Common.{Bool, IsSome, List, None, Option, Some, [], ap, ar
 use Rattle.std.proofs.lemmas.Bool.Decides.{nat_tests}
 use Rattle.std.proofs.lemmas.Bool.{false≢true}
 use Rattle.std.proofs.lemmas.Option.{none-some, same_Some}
-use Rattle.std.specs.Option.{is_some}
+use Rattle.std.specs.List.{list_any}
 use Rattle.std.specs.Prelude.{nat_le}
-use Rattle.block_work.specs.Ids.{place_of}
-use Rattle.block_work.specs.declared.ids.IdIndex.{IdIndex}
-use Rattle.node_core.specs.Over.{drop_settled}
+use Rattle.std.specs.Str.{bytes_eq}
+use Rattle.node_core.specs.Over.{drop_among}
 use Rattle.node_core.specs.Rows.{at_stage, eligible_rows, is_open, new_row, put_at, row_at, row_is_eligible, status_of}
 use Rattle.node_core.specs.Waiting.{BoundsHold, WaitFrom, WaitsFrom, leading_quiet}
 use Rattle.node_core.specs.declared.bounds.WaitBounds.{WaitBounds}
@@ -95,28 +94,28 @@ quiet_ended (suc n) (row ∷ rows) (suc place) now is within =
 
 -- ---- a seal lets no job wait
 
-not_after : (ids : IdIndex) (row : Row) → waits row ≡ false → waits (drop_settled ids row) ≡ false
-not_after ids row is = by (is_open row.stage && is_some (place_of ids row.tx.value.id))
+not_after : (ids : List (List ℕ)) (row : Row) → waits row ≡ false → waits (drop_among ids row) ≡ false
+not_after ids row is = by (is_open row.stage && list_any (bytes_eq row.tx.value.id) ids)
   where
     by : (b : Bool) → waits (cond b (at_stage stage.Dropped row) row) ≡ false
     by true = refl
     by false = is
 
-quiet_dropped : (ids : IdIndex) (n : ℕ) (rows : List Row) → n ≤ leading_quiet rows → n ≤ leading_quiet (map (drop_settled ids) rows)
+quiet_dropped : (ids : List (List ℕ)) (n : ℕ) (rows : List Row) → n ≤ leading_quiet rows → n ≤ leading_quiet (map (drop_among ids) rows)
 quiet_dropped ids zero rows within = omega arith
 quiet_dropped ids (suc n) [] within = absurd (omega (arith, within))
 quiet_dropped ids (suc n) (row ∷ rows) within =
     let here = quiet_here row rows n within in
-    quiet_next (drop_settled ids row) (map (drop_settled ids) rows) n (not_after ids row here.0) (quiet_dropped ids n rows here.1)
+    quiet_next (drop_among ids row) (map (drop_among ids) rows) n (not_after ids row here.0) (quiet_dropped ids n rows here.1)
 
-from_settled : (ids : IdIndex) (least : ℕ) (row : Row) → WaitsFrom least row → WaitsFrom least (drop_settled ids row)
-from_settled ids least row from = by (is_open row.stage && is_some (place_of ids row.tx.value.id))
+from_settled : (ids : List (List ℕ)) (least : ℕ) (row : Row) → WaitsFrom least row → WaitsFrom least (drop_among ids row)
+from_settled ids least row from = by (is_open row.stage && list_any (bytes_eq row.tx.value.id) ids)
   where
     by : (b : Bool) → WaitsFrom least (cond b (at_stage stage.Dropped row) row)
     by true = λ is. absurd (false≢true is)
     by false = from
 
-from_dropped : (ids : IdIndex) (least : ℕ) (rows : List Row) → WaitFrom least rows → WaitFrom least (map (drop_settled ids) rows)
+from_dropped : (ids : List (List ℕ)) (least : ℕ) (rows : List Row) → WaitFrom least rows → WaitFrom least (map (drop_among ids) rows)
 from_dropped ids least [] from = tt
 from_dropped ids least (row ∷ rows) from = (from_settled ids least row from.0, from_dropped ids least rows from.1)
 
@@ -205,7 +204,7 @@ bounds_ended old before rows place now row is here ended was =
       least = from_put old.least before place now row there (λ waits. absurd (false≢true (sym ended ∙ waits))) was.least;
     })
 
-pub bounds_dropped : (ids : IdIndex) (bounds : WaitBounds) (rows : List Row) → BoundsHold bounds rows → BoundsHold bounds (map (drop_settled ids) rows)
+pub bounds_dropped : (ids : List (List ℕ)) (bounds : WaitBounds) (rows : List Row) → BoundsHold bounds rows → BoundsHold bounds (map (drop_among ids) rows)
 bounds_dropped ids bounds rows was = record { quiet = quiet_dropped ids bounds.quiet rows was.quiet; least = from_dropped ids bounds.least rows was.least }
 
 -- ---- the first one is that at 0 modulo their count

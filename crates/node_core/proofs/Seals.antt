@@ -1,7 +1,8 @@
 -- A seal is a step.
-use Rattle.std.proofs.Common.{Bool, List, None, Option, Some, [], ap, append-nil, arith, cond, false, length, map, refl, subst, sym, true, ◌&&◌, ◌+◌, ◌++◌, ◌||◌, ◌∙◌, ◌≡◌, ◌∷◌, ℕ}
+use Rattle.std.proofs.Common.{Bool, List, None, Option, Some, [], ap, append-nil, arith, cond, false, length, map, refl, slice_get, subst, suc, sym, true, zero, ◌&&◌, ◌+◌, ◌++◌, ◌||◌, ◌∙◌, ◌≡◌, ◌≤◌, ◌∷◌, ℕ}
 use Rattle.std.proofs.lemmas.Bool.{false≢true}
 use Rattle.std.proofs.lemmas.List.Folds.{list_any-append}
+use Rattle.std.proofs.lemmas.List.{take_all}
 use Rattle.std.proofs.lemmas.Option.{none-some, same_Some}
 use Rattle.std.specs.List.{list_any}
 use Rattle.std.specs.Option.{IsSomeAnd, is_some, option_map}
@@ -17,7 +18,7 @@ use Rattle.node_core.proofs.Settled.{height_is, number_next}
 use Rattle.node_core.specs.Answers.{sealed_as}
 use Rattle.node_core.specs.Core.{Steps}
 use Rattle.node_core.specs.Kept.{AreRowsOf, IsNode, IsRowOf, IsStageOf, IsWorkingOn, Kept, number_of_work, outcomes_of, shown_work, told_in, world_in}
-use Rattle.node_core.specs.Over.{CanJoin, drop_settled, not_sealed}
+use Rattle.node_core.specs.Over.{CanJoin, drop_among, drop_settled, not_sealed}
 use Rattle.node_core.specs.Rows.{at_stage, is_open}
 use Rattle.node_core.specs.declared.answers.Sealed as answers
 use Rattle.node_core.specs.declared.answers.Sealed.TheVariants as sealed
@@ -30,17 +31,19 @@ use Rattle.node_model.specs.Fold as fold
 use Rattle.node_model.specs.Fold.{last_digest, no_digest, results_of}
 use Rattle.node_model.specs.History.{Sealed, ids_of, ids_told}
 use Rattle.node_model.specs.Journals.{world}
-use Rattle.node_model.specs.Steps.{Digest, Reply, ToSeal, reply, seals, seals_due}
+use Rattle.node_model.specs.Steps.{Digest, Reply, Shared, ToSeal, reply, seals, seals_due}
 use Rattle.node_model.specs.World.{BlockInWork, Job, Status, World, decided, due, is_done, is_waiting}
 use Rattle.node_model.specs.declared.journal.Entry.{Entry}
 use Rattle.node_model.specs.declared.journal.Event.TheVariants.{Seal}
 use Rattle.node_model.specs.declared.result.BlockResult.{BlockResult}
 use Rattle.proc_syntax.specs.Declaring.{tables_of}
+use Rattle.proc_syntax.specs.declared.call.Block.{Block}
 use Rattle.proc_syntax.specs.declared.call.Tx.{Tx}
 use Rattle.proc_syntax.specs.declared.tree.App.{App}
 use Rattle.rel_base.specs.Tables.{Stamped}
 use Rattle.rel_base.specs.declared.schema.TableDef.{TableDef}
 use Rattle.schedule_laws.proofs.Chains.{settled-known}
+use Rattle.schedule_laws.specs.Facts.{EachJob, JobFits}
 
 -- ---- rows
 
@@ -56,6 +59,17 @@ keeps_stage tables told stage.Dropped job known is settles stays_so = is
 or_true : (b : Bool) → (b || true) ≡ true
 or_true true = refl
 or_true false = refl
+
+-- nothing stands at a place behind a list's end
+past_end : (txs : List Tx) (n : ℕ) → slice_get txs n ≡ None → length txs ≤ n
+past_end [] n none = omega arith
+past_end (tx ∷ txs) zero none = absurd (none-some tx (sym none))
+past_end (tx ∷ txs) (suc n) none = let rest : length txs ≤ n = past_end txs n none in omega (arith, rest)
+
+-- what holds of each job holds of each behind the first
+each_behind : (P : Job → Type 0) (job : Job) (jobs : List Job) → EachJob P (job ∷ jobs) → EachJob P jobs
+each_behind P job jobs each zero other there = absurd (none-some other there)
+each_behind P job jobs each (suc place) other there = each (suc (suc place)) other there
 
 -- ---- where no block is sealed
 
@@ -212,7 +226,64 @@ module _ (kept : Kept) (node : IsNode kept) (working : Working) (here : kept.wor
             (rows_after kept.rows (world_in kept).jobs (subst (λ (w : Option Working). AreRowsOf (tables_of kept.app) (told_in w) kept.rows (world_in kept).jobs) here node.rows)));
       }) sound
 
+-- ---- which jobs are dropped
+
+module _ (kept : Kept) (node : IsNode kept) (working : Working) (here : kept.work ≡ Some working) where
+  abbrev told_ids : List (List ℕ)
+  told_ids = ids_told working.done.outcomes.items
+
+  -- an id that is not settled is known where it is one of the block in work
+  known_if : (id : List ℕ) → is_settled id (world_in kept).sealed ≡ false → list_any (bytes_eq id) told_ids ≡ is_some (place_of kept.ids id)
+  known_if id unsettled =
+      sym (is_known kept.ids (world_in kept).sealed working.done.number working.done.outcomes.items id (places kept node working here)
+      ∙ list_any-append (bytes_eq id) (ids_of (world_in kept).sealed) told_ids
+      ∙ ap (λ b. b || list_any (bytes_eq id) told_ids) (sym (settled-known id (world_in kept).sealed) ∙ unsettled))
+
+  row_dropped : (row : Row) (job : Job) → IsRowOf (tables_of kept.app) told_ids row job → JobFits kept.app (world_in kept).sealed job → drop_among told_ids row ≡ drop_settled kept.ids row
+  row_dropped row job is fits_so = by (is_open row.stage) refl
+    where
+      open_is : is_open row.stage ≡ (is_waiting job.status || is_done job.status)
+      open_is = ap (λ (s : Status). is_waiting s || is_done s) (status_is (tables_of kept.app) told_ids row.stage job is.stage)
+
+      by : (b : Bool) → is_open row.stage ≡ b
+          → cond (b && list_any (bytes_eq row.tx.value.id) told_ids) (at_stage stage.Dropped row) row ≡ cond (b && is_some (place_of kept.ids row.tx.value.id)) (at_stage stage.Dropped row) row
+      by false is_so = refl
+      by true is_so = ap (λ b. cond b (at_stage stage.Dropped row) row)
+          (known_if row.tx.value.id (ap (λ (t : Tx). is_settled t.id (world_in kept).sealed) is.tx ∙ fits_so.unsettled (sym open_is ∙ is_so)))
+
+  rows_dropped : (rows : List Row) (jobs : List Job) → AreRowsOf (tables_of kept.app) told_ids rows jobs → EachJob (JobFits kept.app (world_in kept).sealed) jobs
+      → map (drop_among told_ids) rows ≡ map (drop_settled kept.ids) rows
+  rows_dropped [] [] are each = refl
+  rows_dropped [] (job ∷ jobs) are each = absurd are
+  rows_dropped (row ∷ rows) [] are each = absurd are
+  rows_dropped (row ∷ rows) (job ∷ jobs) are each = (λ i. row_dropped row job are.0 (each 1 job refl) i ∷ rows_dropped rows jobs are.1 (each_behind (JobFits kept.app (world_in kept).sealed) job jobs each) i)
+
+  -- the ids of a block that is decided are told
+  ids_all : due (shown_work working) ≡ None → map (λ (tx : Tx). tx.id) working.block.value.txs ≡ told_ids
+  ids_all all = sym (((facts kept node).work_fits (shown_work working) (inside kept node working here)).told
+      ∙ ap (map (λ (tx : Tx). tx.id)) (take_all (decided (shown_work working)) working.block.value.txs (past_end working.block.value.txs (decided (shown_work working)) all)))
+
+  all_dropped : due (shown_work working) ≡ None → map (drop_among (map (λ (tx : Tx). tx.id) working.block.value.txs)) kept.rows ≡ map (drop_settled kept.ids) kept.rows
+  all_dropped all =
+      ap (λ ids. map (drop_among ids) kept.rows) (ids_all all)
+      ∙ rows_dropped kept.rows (world_in kept).jobs (subst (λ (w : Option Working). AreRowsOf (tables_of kept.app) (told_in w) kept.rows (world_in kept).jobs) here node.rows) (facts kept node).jobs_fit
+
 -- ---- by what is known of the parts
+
+module _ (kept : Kept) (node : IsNode kept) (height : ℕ) (none : not_sealed height kept.work ≡ None) (block : Shared Block) (same : IfSome kept.work (λ working. block ≡ working.block)) where
+  block_same : block ≡ (whole kept node height none).0.block
+  block_same = subst (λ (w : Option Working). IfSome w (λ working. block ≡ working.block)) (whole kept node height none).1 same
+
+  pub block_dropped : map (drop_among (map (λ (tx : Tx). tx.id) block.value.txs)) kept.rows ≡ map (drop_settled kept.ids) kept.rows
+  block_dropped =
+      let all = whole kept node height none in
+      ap (λ (b : Shared Block). map (drop_among (map (λ (tx : Tx). tx.id) b.value.txs)) kept.rows) block_same ∙ all_dropped kept node all.0 all.1 all.2
+
+  pub block_number : IfSome kept.work (λ working. block.value.number ≡ working.done.number)
+  block_number =
+      let all = whole kept node height none in
+      subst (λ (w : Option Working). IfSome w (λ working. block.value.number ≡ working.done.number)) (sym all.1)
+      (ap (λ (b : Shared Block). b.value.number) block_same ∙ sym (fits kept node all.0 all.1).number)
 
 pub can_join : (kept : Kept) (node : IsNode kept) (height : ℕ) → not_sealed height kept.work ≡ None → IsSomeAnd kept.work (CanJoin (tables_of kept.app) (length kept.results))
 can_join kept node height none =

@@ -92,22 +92,28 @@ walk_begins tx rows index number indexed is =
       first = or_none (position_from (row_is_for tx) 1 (take (newest tx.id (ids_of rows)) rows)) ∙ up_to_newest tx 1 rows;
     })
 
-front_within : (n : ℕ) (ids : List (List ℕ)) → length (take n ids) ≤ n
+pub front_within : (n : ℕ) (ids : List (List ℕ)) → length (take n ids) ≤ n
 front_within zero ids = omega arith
 front_within (suc n) [] = omega arith
 front_within (suc n) (id ∷ ids) = let rest : length (take n ids) ≤ n = front_within n ids in omega (arith, rest)
 
-of_front : (n : ℕ) (ids : List (List ℕ)) (place : ℕ) (id : List ℕ) → slice_get (take n ids) place ≡ Some id → slice_get ids place ≡ Some id
+pub of_front : (n : ℕ) (ids : List (List ℕ)) (place : ℕ) (id : List ℕ) → slice_get (take n ids) place ≡ Some id → slice_get ids place ≡ Some id
 of_front zero ids place id here = absurd (none-some id here)
 of_front (suc n) [] place id here = here
 of_front (suc n) (first ∷ ids) zero id here = here
 of_front (suc n) (first ∷ ids) (suc place) id here = of_front n ids place id here
 
+-- the link of a job of an id
+pub link_is : (id : List ℕ) (rows : List Row) (index : JobIndex) (place older : ℕ) → Indexes index (ids_of rows) → slice_get (ids_of rows) place ≡ Some id → slice_get index.older.items place ≡ Some older
+    → older ≡ newest id (take place (ids_of rows))
+link_is id rows index place older indexed own link =
+    same_Some older (newest id (take place (ids_of rows))) (sym link ∙ ap (λ numbers. slice_get numbers place) indexed.older ∙ olders_at [] (ids_of rows) place id own)
+
 -- the link of a job at which a walk stands
 pub link_of : (tx : Tx) (rows : List Row) (index : JobIndex) (place : ℕ) (found : Option ℕ) (older : ℕ) → Indexes index (ids_of rows) → Walks tx rows (suc place) found
     → slice_get index.older.items place ≡ Some older → older ≡ newest tx.id (take place (ids_of rows))
 link_of tx rows index place found older indexed walk link =
-    same_Some older (newest tx.id (take place (ids_of rows))) (sym link ∙ ap (λ numbers. slice_get numbers place) indexed.older ∙ olders_at [] (ids_of rows) place tx.id (walk.own place refl))
+    link_is tx.id rows index place older indexed (walk.own place refl) link
 
 pub link_below : (tx : Tx) (rows : List Row) (index : JobIndex) (place : ℕ) (found : Option ℕ) (older : ℕ) → Indexes index (ids_of rows) → Walks tx rows (suc place) found
     → slice_get index.older.items place ≡ Some older → older ≤ place

@@ -1,15 +1,14 @@
 -- What stands in memory of the jobs, beside their rows.
 use Rattle.node_core.specs.ById.{Indexes, ids_of}
-use Rattle.node_core.specs.Rows.{count_held, leading_over}
+use Rattle.node_core.specs.Rows.{count_held}
 use Rattle.node_core.specs.Waiting.{BoundsHold}
 use Rattle.node_core.specs.declared.bounds.WaitBounds.{WaitBounds}
 use Rattle.node_core.specs.declared.index.JobIndex.{JobIndex}
 use Rattle.node_core.specs.declared.jobs.Row.{Row}
 use Rattle.std.specs.Prelude.{List, ◌≡◌, ◌≤◌, ℕ}
 
--- so many rows are held, no fewer than so many of the first ones are over, bounds hold of those that wait, and an index is that of all
-pub record IsTable (rows : List Row) (held first : ℕ) (bounds : WaitBounds) (index : JobIndex) : Type 0 where
+-- so many rows are held, bounds hold of those that wait, and an index is that of all
+pub record IsTable (rows : List Row) (held : ℕ) (bounds : WaitBounds) (index : JobIndex) : Type 0 where
   pub count : held ≡ count_held rows
-  pub over : first ≤ leading_over rows
   pub waits : BoundsHold bounds rows
   pub by_id : Indexes index (ids_of rows)

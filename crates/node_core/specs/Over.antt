@@ -12,8 +12,10 @@ use Rattle.node_core.specs.declared.working.Working.{Working}
 use Rattle.node_model.specs.World.{decided, due}
 use Rattle.proc_syntax.specs.declared.call.Tx.{Tx}
 use Rattle.rel_base.specs.declared.schema.TableDef.{TableDef}
+use Rattle.std.specs.List.{list_any}
 use Rattle.std.specs.Option.{is_some, option_map}
 use Rattle.std.specs.Prelude.{List, None, Option, Some, cond, length, ◌&&◌, ◌+◌, ◌≡◌, ◌≤◌, ℕ}
+use Rattle.std.specs.Str.{bytes_eq}
 
 -- why no block is sealed, behind so many that are: none is in work, or a transaction of it is not decided, of which the first is named
 abbrev pub not_sealed : ℕ → Option Working → Option Sealed
@@ -26,6 +28,14 @@ pub record CanJoin (tables : List TableDef) (height : ℕ) (working : Working) :
   pub few : length working.done.outcomes.items ≤ 1024
   pub consistent : IsConsistent tables working.done
 
--- a job that waits or is done is dropped where its id is settled: it has a place
+-- a job that waits or is done is dropped
+abbrev pub drop_open : Row → Row
+drop_open row = cond (is_open row.stage) (at_stage stage.Dropped row) row
+
+-- and where its id is among some
+abbrev pub drop_among : List (List ℕ) → Row → Row
+drop_among ids row = cond (is_open row.stage && list_any (bytes_eq row.tx.value.id) ids) (at_stage stage.Dropped row) row
+
+-- and where its id is settled: it has a place
 abbrev pub drop_settled : IdIndex → Row → Row
 drop_settled ids row = cond (is_open row.stage && is_some (place_of ids row.tx.value.id)) (at_stage stage.Dropped row) row

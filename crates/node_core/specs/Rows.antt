@@ -80,8 +80,3 @@ abbrev pub eligible_rows : ℕ → ℕ → List Row → List ℕ
 eligible_rows number height [] = []
 eligible_rows number height (row ∷ rows) =
     cond (row_is_eligible height row) (number ∷ eligible_rows (number + 1) height rows) (eligible_rows (number + 1) height rows)
-
--- how many of the first rows are dropped, up to the first one that is not
-abbrev pub leading_over : List Row → ℕ
-leading_over [] = 0
-leading_over (row ∷ rows) = cond (is_live (status_of row.stage)) 0 (suc (leading_over rows))

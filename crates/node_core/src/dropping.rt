@@ -1,41 +1,43 @@
 //! Jobs that a seal drops.
 
-ghost use Rattle.std.specs.Prelude.{◌≡◌, ◌≤◌, map};
-ghost use Rattle.node_core.specs.Over.{drop_settled};
-ghost use Rattle.node_core.specs.Rows.{leading_over};
+ghost use Rattle.std.specs.Prelude.{◌≡◌, ◌∷◌, [], map};
+ghost use Rattle.node_core.specs.ById.{Indexes, ids_of};
+ghost use Rattle.node_core.specs.Over.{drop_among, drop_open};
 
+use crate::index::JobIndex;
 use crate::jobs::{Row, Stage};
-use crate::rows::{is_live, is_open};
-use block_work::IdIndex;
+use crate::rows::is_open;
+use proc_syntax::Tx;
+use rel_base::Id;
 
-// Drops a job that waits or is done where its id has a place.
-fn drop_row(row: &mut Row, ids: &IdIndex)
-    ensures { row.new ≡ drop_settled ids.now row.old }
+// Drops a job where it waits or is done.
+fn drop_open(row: &mut Row)
+    ensures { row.new ≡ drop_open row.old }
 {
-    if is_open(&row.stage) && ids.find(&row.tx.id).is_some() {
+    if is_open(&row.stage) {
         row.stage = Stage::Dropped;
     }
 }
 
-/// Drops the jobs that wait or are done and whose ids have a place, where so many of the first ones are over already.
-pub fn drop_settled(rows: &mut Vec<Row>, first: usize, ids: &IdIndex)
-    requires { first ≤ leading_over rows.old.items }
-    ensures { rows.new.items ≡ map (drop_settled ids.now) rows.old.items }
+// Drops the jobs of an id that wait or are done, by a walk from the newest back.
+fn drop_id(rows: &mut Vec<Row>, index: &JobIndex, id: &Id)
+    requires { Indexes index.now (ids_of rows.old.items) }
+    ensures { rows.new.items ≡ map (drop_among (id.now ∷ [])) rows.old.items }
 {
-    for i in first..rows.len() {
-        drop_row(&mut rows[i], ids);
+    let mut number = index.newest(id);
+    while number > 0 {
+        let place = (number - 1) as usize;
+        drop_open(&mut rows[place]);
+        number = index.older(place);
     }
 }
 
-/// How many of the first jobs are over, where so many are for certain.
-pub fn skip_over(rows: &[Row], first: usize) -> usize
-    requires { first ≤ leading_over rows.now }
-    ensures { result ≡ leading_over rows.now }
+/// Drops the jobs that wait or are done and whose ids are those of some transactions. It looks at no other job.
+pub fn drop_all(rows: &mut Vec<Row>, index: &JobIndex, txs: &[Tx])
+    requires { Indexes index.now (ids_of rows.old.items) }
+    ensures { rows.new.items ≡ map (drop_among (map (λ tx. tx.id) txs.now)) rows.old.items }
 {
-    for i in first..rows.len() {
-        if is_live(&rows[i].stage) {
-            return i;
-        }
+    for tx in txs {
+        drop_id(rows, index, &tx.id);
     }
-    rows.len()
 }

@@ -5,11 +5,10 @@ ghost use Rattle.std.specs.Option.{option_copied, option_map};
 ghost use Rattle.node_model.specs.World.{eligible, is_held, is_waiting, number_of};
 
 use crate::bounds::{WaitBounds, note_all};
-use crate::dropping::{drop_settled, skip_over};
+use crate::dropping::drop_all;
 use crate::index::{JobIndex, hold_all};
 use crate::lookup::find_number;
 use crate::rows::{change_stage, is_waiting, one_held, push_row, push_rows};
-use block_work::IdIndex;
 use proc_syntax::Tx;
 use proc_syntax::run::Ran;
 use rel_base::NoMemory;
@@ -52,8 +51,6 @@ pub struct Row {
 pub struct Jobs {
     rows: Vec<Row>,
     held: usize,
-    // So many of the first jobs are over, and are not walked again.
-    first: usize,
     // Where a claim looks for a job.
     bounds: WaitBounds,
     index: JobIndex,
@@ -69,11 +66,11 @@ impl Model for Jobs {
 
     ghost view = { λ jobs. jobs.rows.items };
 
-    ghost invariant = { λ jobs. IsTable jobs.rows.items jobs.held jobs.first jobs.bounds jobs.index };
+    ghost invariant = { λ jobs. IsTable jobs.rows.items jobs.held jobs.bounds jobs.index };
 }
 
 impl Jobs {
-    ghost use Rattle.node_core.specs.Over.{drop_settled};
+    ghost use Rattle.node_core.specs.Over.{drop_among};
     ghost use Rattle.node_core.specs.Rows.{count_held, new_row, put_row, row_waits, row_at, shown_all, status_of};
     ghost use Rattle.node_core.specs.declared.jobs.Stage.TheVariants.{Done, Dropped, Held, Taken, Waiting};
 
@@ -84,7 +81,6 @@ impl Jobs {
         Jobs {
             rows: Vec::new(alloc),
             held: 0,
-            first: 0,
             bounds: WaitBounds::new(),
             index: JobIndex::new(alloc),
         }
@@ -145,12 +141,11 @@ impl Jobs {
         }
     }
 
-    /// Drops the jobs that wait or are done and whose ids are settled: they have a place. Takes no memory.
-    pub fn drop_settled(&mut self, ids: &IdIndex)
-        ensures { self.new ≡ map (drop_settled ids.now) self.old }
+    /// Drops the jobs that wait or are done and whose ids are those of some transactions. Takes no memory.
+    pub fn drop_ids(&mut self, txs: &[Tx])
+        ensures { self.new ≡ map (drop_among (map (λ tx. tx.id) txs.now)) self.old }
     {
-        drop_settled(&mut self.rows, self.first, ids);
-        self.first = skip_over(self.rows.as_slice(), self.first);
+        drop_all(&mut self.rows, &self.index, txs);
     }
 
     /// Adds a job that waits. Where memory is wanting, the jobs are as before.
@@ -189,8 +184,6 @@ impl Jobs {
         let more = one_held(&stage);
         let was = change_stage(&mut self.rows, place, stage);
         self.held = self.held - one_held(&was) + more;
-        // The jobs before the place are over still.
-        self.first = self.first.min(place);
         self.bounds.change(self.rows.as_slice(), place);
         was
     }

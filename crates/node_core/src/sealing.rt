@@ -16,8 +16,10 @@ use crate::working::Working;
 use block_work::Chain;
 use block_work::result::last_digest;
 use node_model::{Entry, Event};
+use proc_syntax::Block;
 use rel_base::NoMemory;
 use row_sets::Versions;
+use std::sync::Arc;
 
 // Why no block is sealed, behind so many that are: none is in work, or a transaction of it is not decided, of which the first is named.
 fn not_sealed(sealed: u64, work: &Option<Working>) -> Option<Sealed>
@@ -34,13 +36,16 @@ fn not_sealed(sealed: u64, work: &Option<Working>) -> Option<Sealed>
     }
 }
 
-// Seals the block in work, and answers its number. Where memory is wanting, it is in work still.
-fn seal_work<V: Versions>(chain: &mut Chain<V>, work: &mut Option<Working>) -> Result<u64, NoMemory>
+// Seals the block in work, and gives it back. Where memory is wanting, it is in work still.
+fn seal_work<V: Versions>(
+    chain: &mut Chain<V>,
+    work: &mut Option<Working>,
+) -> Result<Arc<Block>, NoMemory>
     requires store { StoreFits chain.old.app.value.app (V.tables chain.old.versions) (V.history chain.old.versions) chain.old.blocks }
     requires can { IsSomeAnd work.old (CanJoin (tables_of chain.old.app.value.app) (length chain.old.blocks)) }
     ensures app { chain.new.app.value ≡ chain.old.app.value }
     ensures store { StoreFits chain.new.app.value.app (V.tables chain.new.versions) (V.history chain.new.versions) chain.new.blocks }
-    ensures number { IfOk result (λ number. IfSome work.old (λ working. number ≡ working.done.number)) }
+    ensures block { IfOk result (λ block. IfSome work.old (λ working. block ≡ working.block)) }
     ensures holds { OnOk result (IfSome work.old (λ working. (sealed : List SealedBlock) → HoldsChain (tables_of chain.old.app.value.app) sealed (V.history chain.old.versions) chain.old.blocks
         → HoldsChain (tables_of chain.old.app.value.app) (sealed ++ sealed_of working.done ∷ []) (V.history chain.new.versions) chain.new.blocks)) }
     ensures none { OnOk result (work.new ≡ None) }
@@ -51,9 +56,8 @@ fn seal_work<V: Versions>(chain: &mut Chain<V>, work: &mut Option<Working>) -> R
     match work.take() {
         None => unreachable!(),
         Some(Working { block, done }) => {
-            let number = done.number;
             match chain.seal(done) {
-                Ok(()) => Ok(number),
+                Ok(()) => Ok(block),
                 Err((done, refused)) => {
                     *work = Some(Working { block, done });
                     Err(refused)
@@ -83,8 +87,10 @@ impl<V: Versions> NodeCore<V> {
             return Ok(answer);
         }
         make_room(&mut self.journal, 1, self.jobs.held())?;
-        let number = seal_work(&mut self.chain, &mut self.work)?;
-        self.jobs.drop_settled(&self.ids);
+        let block = seal_work(&mut self.chain, &mut self.work)?;
+        let number = block.number;
+        // No waiting or done job had an id of an earlier block.
+        self.jobs.drop_ids(block.txs.as_slice());
         self.journal.push_reserved(Entry {
             actor,
             event: Event::Seal { number },

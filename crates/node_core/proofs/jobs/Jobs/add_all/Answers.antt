@@ -14,7 +14,7 @@ pub invariant_of-self-in_err-hold_all : goal.invariant_of-self-in_err-hold_all
 invariant_of-self-in_err-hold_all c =
     let older : c.hold_all.new.index.older.items ≡ c.reserve-2.new.self.older.items = search rules in
     let before : c.reserve.new.self.items ≡ c.self.inside.rows.items = search rules in
-    table_same c.self.inside.rows.items c.reserve.new.self.items c.self.inside.held c.self.inside.first c.self.inside.bounds c.self.inside.index c.hold_all.new.index c.self.invariant before
+    table_same c.self.inside.rows.items c.reserve.new.self.items c.self.inside.held c.self.inside.bounds c.self.inside.index c.hold_all.new.index c.self.invariant before
     (λ ids was. same_jobs c.reserve-2.new.self c.hold_all.new.index c.hold_all.ensures.newest older ids (c.reserve-2.ensures.same ids was))
 
 pub push_rows-requires-clause-index_room : goal.push_rows-requires-clause-index_room
@@ -32,5 +32,5 @@ invariant_of-self-2 c =
     let txs : c.as_slice-2.result.now ≡ c.args.txs.items = search rules in
     let keeps : BoundsHold c.self.inside.bounds c.self.inside.rows.items → BoundsHold c.note_all.new.bounds (c.self.inside.rows.items ++ map new_row c.args.txs.items) =
     λ was. subst (λ (all : List (Shared Tx)). BoundsHold c.note_all.new.bounds (c.self.inside.rows.items ++ map new_row all)) txs (c.note_all.ensures c.self.inside.rows.items was) in
-    table_more c.self.inside.rows.items c.reserve.new.self.items c.push_rows.new.rows.items c.self.inside.held c.self.inside.first c.self.inside.bounds c.note_all.new.bounds c.self.inside.index
+    table_more c.self.inside.rows.items c.reserve.new.self.items c.push_rows.new.rows.items c.self.inside.held c.self.inside.bounds c.note_all.new.bounds c.self.inside.index
     c.hold_all.new.index c.push_rows.new.index c.args.txs.items c.self.invariant before c.push_rows.ensures.rows keeps same c.push_rows.ensures.index

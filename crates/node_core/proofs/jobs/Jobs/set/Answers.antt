@@ -34,11 +34,9 @@ invariant_of-self c =
     let now : c.change_stage-was.new.rows.items ≡ put_row c.self.inside.rows.items c.args.number c.args.stage = search rules in
     let held : c.self.inside.held - c.one_held.result + c.one_held-more.result ≡ count_held (put_row c.self.inside.rows.items c.args.number c.args.stage) =
     omega (arith, change.count, change.room, c.one_held-more.ensures, c.one_held.ensures, c.self.invariant.count) in
-    let fewer : c.min-self-inside.result ≤ c.self.inside.first = search rules in
-    let before : c.min-self-inside.result ≤ c.args.number - 1 = search rules in
     let change_is : c.change_stage-was.new.rows.items ≡ put_at c.self.inside.rows.items (c.args.number - 1) c.args.stage = search rules in
     let rows : c.as_slice.result.now ≡ c.change_stage-was.new.rows.items = search rules in
     let keeps : BoundsHold c.self.inside.bounds c.self.inside.rows.items → BoundsHold c.change.new.self c.change_stage-was.new.rows.items =
     λ was. subst (BoundsHold c.change.new.self) rows (c.change.ensures c.self.inside.rows.items c.args.stage (rows ∙ change_is) was) in
-    table_put c.self.inside.rows.items c.change_stage-was.new.rows.items c.self.inside.held (c.self.inside.held - c.one_held.result + c.one_held-more.result) c.self.inside.first c.min-self-inside.result
-    c.self.inside.bounds c.change.new.self c.self.inside.index c.args.number c.args.stage c.self.invariant now held fewer before keeps
+    table_put c.self.inside.rows.items c.change_stage-was.new.rows.items c.self.inside.held (c.self.inside.held - c.one_held.result + c.one_held-more.result)
+    c.self.inside.bounds c.change.new.self c.self.inside.index c.args.number c.args.stage c.self.invariant now held keeps

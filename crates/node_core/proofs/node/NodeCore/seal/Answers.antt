@@ -1,16 +1,17 @@
 use Rattle.std.proofs.Common.{None, Some, [], ap, arith, length, map, rules, subst, ◌+◌, ◌++◌, ◌∙◌, ◌≡◌, ◌≤◌, ◌∷◌}
 use Rattle.std.specs.Prelude.{vec_capacity, vec_len}
 use Rattle.node_core.proofs.Dropped_rows.{count_dropped}
-use Rattle.node_core.proofs.Seals.{can_join, seal_stays, sealed_kept}
+use Rattle.node_core.proofs.Seals.{block_dropped, block_number, can_join, seal_stays, sealed_kept}
 use Rattle.node_core.proofs.Telling.{replays}
 use Rattle.node_core.specs.Answers.{sealed_as}
 use Rattle.node_core.specs.Core.{Core, Steps, results_in}
 use Rattle.node_core.specs.Looking.{sealed_blocks}
-use Rattle.node_core.specs.Over.{drop_settled, not_sealed}
+use Rattle.node_core.specs.Over.{drop_among, drop_settled, not_sealed}
 use Rattle.node_core.specs.Rows.{count_held}
 use Rattle.node_model.specs.Steps.{ToSeal}
 use Rattle.node_model.specs.declared.journal.Event.TheVariants.{Seal}
 use Rattle.proc_check.specs.declared.checked.Checked.{Checked}
+use Rattle.proc_syntax.specs.declared.call.Tx.{Tx}
 use Rattle.serial_laws.specs.InOrder.{EachInOrder}
 use Rattle.node_core.proofs.node.NodeCore.seal.Goals as goal
 
@@ -39,15 +40,18 @@ invariant_of-self-2 g c =
     let s = c.self.inside in
     let new = c.seal_work.new.chain in
     let none : not_sealed c.height.result s.work ≡ None = search rules in
-    let noted : c.push_reserved.new.self.items ≡ s.journal.items ++ record { actor = c.args.actor; event = Seal c.in_ok-number.number } ∷ [] = search rules in
+    let noted : c.push_reserved.new.self.items ≡ s.journal.items ++ record { actor = c.args.actor; event = Seal c.in_ok-block.block.value.number } ∷ [] = search rules in
     let same : new.app.value ≡ s.chain.app.value = search rules in
     let empty : c.seal_work.new.work ≡ None = search rules in
-    let rows : c.drop_settled.new.self ≡ map (drop_settled s.ids) s.jobs = search rules in
+    let ids = map (λ (tx : Tx). tx.id) c.in_ok-block.block.value.txs in
+    let among : c.drop_ids.new.self ≡ map (drop_among ids) s.jobs = search rules in
+    let rows : c.drop_ids.new.self ≡ map (drop_settled s.ids) s.jobs = among ∙ block_dropped _ c.self.invariant.0 c.height.result none c.in_ok-block.block c.in_ok-block.ensures.block in
     let fits : vec_len c.push_reserved.new.self + count_held s.jobs ≤ vec_capacity c.push_reserved.new.self = search rules in
-    let counted : count_held c.drop_settled.new.self ≡ count_held s.jobs = ap count_held rows ∙ count_dropped s.ids s.jobs in (
-      sealed_kept _ c.self.invariant.0 c.height.result none c.args.actor c.in_ok-number.number c.requires.processor c.in_ok-number.ensures.number c.push_reserved.new.self.items noted
+    let counted : count_held c.drop_ids.new.self ≡ count_held s.jobs = ap count_held among ∙ count_dropped ids s.jobs in (
+      sealed_kept _ c.self.invariant.0 c.height.result none c.args.actor c.in_ok-block.block.value.number c.requires.processor
+          (block_number _ c.self.invariant.0 c.height.result none c.in_ok-block.block c.in_ok-block.ensures.block) c.push_reserved.new.self.items noted
           new.app.value.app (g.V.Versions.tables new.versions) (g.V.Versions.history new.versions) new.blocks (ap (λ (checked : Checked). checked.app) same) c.seal_work.ensures.store
-          c.in_ok-number.ensures.holds c.seal_work.new.work c.drop_settled.new.self empty rows,
+          c.in_ok-block.ensures.holds c.seal_work.new.work c.drop_ids.new.self empty rows,
       omega (arith, fits, counted),
     )
 
