@@ -1,0 +1,7 @@
+//! Tests of the node core and of the node that threads share: what no clause says, as that turns come, and worked runs whole.
+#![tactic(auto)]
+
+pub mod looking;
+pub mod opening;
+#[cfg(test)]
+mod tests;

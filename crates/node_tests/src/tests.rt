@@ -1,0 +1,181 @@
+ghost use Rattle.std.specs.Prelude.{◌≡◌, IfOk};
+ghost use Rattle.serial_laws.specs.Chained.{AreNumbered};
+
+use crate::looking::look_ahead;
+use crate::opening::open_node;
+use cluster_run::forking::split_off;
+use cluster_run::processing::process_all;
+use cluster_run::working::{step_work, take_work};
+use cluster_run::{Crew, NoGate};
+use node_core::{Decided, Looked, Sealed};
+use node_model::{Entry, Event, Late, NodeResult, Outcome, Pick};
+use proc_check::{Checked, check};
+use proc_parse::parse;
+use proc_syntax::{Block, Tx};
+use rel_base::{Id, List, Name, Place, Read, Str, Value};
+use std::alloc::Global;
+use std::sync::Arc;
+use std::test::Fail;
+use version_index::IndexVersions;
+
+const ACCOUNTS: &str = r#"
+table acct (id int, owner text, bal int) key (id) index (owner);
+proc add(i int, o text, b int) { insert acct (i, o, b); }
+proc pay(f int, t int, n int) {
+  get a from acct key (f) {
+    get b from acct key (t) {
+      if a.bal < n { fail "funds"; }
+      update acct key (f) set bal = a.bal - n;
+      update acct key (t) set bal = b.bal + n;
+    } else { fail "no payee"; }
+  } else { fail "no payer"; }
+}
+"#;
+
+// The application of accounts.
+fn accounts(alloc: Global) -> Result<Arc<Checked>, Fail> {
+    let text = ACCOUNTS.as_bytes();
+    if text.len() > 10_000 {
+        return Err("a text that is too long".into());
+    }
+    Ok(Arc::new(alloc, check(alloc, parse(alloc, text)?)?)?)
+}
+
+// A call that adds an account.
+fn add(alloc: Global, id: &str, number: i64, owner: &str, balance: i64) -> Result<Tx, Fail> {
+    let mut args = List::new(alloc);
+    args.push(Value::Int(number))?;
+    args.push(Value::Text(Str::new(alloc, owner)?))?;
+    args.push(Value::Int(balance))?;
+    Ok(Tx {
+        id: Id::new(alloc, id)?,
+        height: 0,
+        procedure: Name::new(alloc, "add")?,
+        args,
+    })
+}
+
+// A call that pays from one account to another, on the tables after the first block.
+fn pay(alloc: Global, id: &str, numbers: [i64; 3]) -> Result<Tx, Fail> {
+    let mut args = List::new(alloc);
+    for number in numbers {
+        args.push(Value::Int(number))?;
+    }
+    Ok(Tx {
+        id: Id::new(alloc, id)?,
+        height: 1,
+        procedure: Name::new(alloc, "pay")?,
+        args,
+    })
+}
+
+// A block of a number.
+fn block(number: u64, txs: List<Tx>) -> Result<Block, Fail>
+    ensures { IfOk result (λ block. block.number ≡ number) }
+{
+    match Block::new(number, 0, txs) {
+        Ok(block) => Ok(block),
+        Err(_) => Err("a block that is too large".into()),
+    }
+}
+
+// What an entry says: who did what, with the number of its job, its block or its position.
+fn said(entry: &Entry) -> (u32, &'static str, u64) {
+    match &entry.event {
+        Event::Arrive { job, .. } => (entry.actor, "arrive", *job),
+        Event::Claim { job } => (entry.actor, "claim", *job),
+        Event::Read { job } => (entry.actor, "read", *job),
+        Event::Finish { job } => (entry.actor, "finish", *job),
+        Event::Release { job } => (entry.actor, "release", *job),
+        Event::Deliver { block } => (entry.actor, "deliver", block.number),
+        Event::Commit { pos } => (entry.actor, "commit", *pos as u64),
+        Event::Seal { number } => (entry.actor, "seal", *number),
+    }
+}
+
+#[test]
+fn an_insert_by_two_passes(rt: HostRuntime) -> Result<(), Fail> {
+    let alloc = rt.alloc();
+    let (node, mut pass) = open_node::<IndexVersions>(alloc, &accounts(alloc)?)?;
+    let mut other = split_off(&node, &mut pass);
+    let mut txs = List::new(alloc);
+    txs.push(add(alloc, "a1", 1, "ann", 50)?)?;
+    let (gate, block) = (NoGate, block(1, txs)?);
+    let crew = Crew::new(1, 1, &[], &[], &gate);
+    node.deliver(&rt, &mut pass, &block)?;
+    let Ok(Some(work)) = take_work(&rt, &node, &mut other, Pick::Due) else {
+        return Err("no job is due".into());
+    };
+    let Ok(Some(work)) = step_work(&rt, &node, &crew, &mut other, work) else {
+        return Err("no read was made".into());
+    };
+    assert!(rt; matches!(step_work(&rt, &node, &crew, &mut other, work), Ok(None)));
+    assert!(rt; matches!(node.commit(&rt, &mut pass)?, Decided::Outcome { pos: 1 }));
+    assert!(rt; matches!(node.seal(&rt, &mut pass)?, Sealed::Digest { number: 1, .. }));
+    let told = node.outcome(&rt, alloc, &mut pass, &Id::new(alloc, "a1")?)?;
+    assert!(rt; matches!(told, Some(Outcome::Committed)));
+    node.join(&mut pass, other);
+    let NodeResult { journal, .. } = node.close(pass).close()?;
+    let wanted = [
+        (0, "deliver", 1),
+        (1, "claim", 1),
+        (1, "read", 1),
+        (1, "finish", 1),
+        (0, "commit", 1),
+        (0, "seal", 1),
+    ];
+    assert!(rt; journal.as_slice().iter().map(said).eq(wanted));
+    Ok(())
+}
+
+// The blocks of a run with two payments between two accounts, of which the second is stale.
+fn stale_pay(alloc: Global) -> Result<[Block; 3], Fail>
+    ensures { IfOk result (λ blocks. AreNumbered 1 blocks) }
+{
+    let (mut first, mut second, mut third) = (List::new(alloc), List::new(alloc), List::new(alloc));
+    first.push(add(alloc, "a1", 1, "ann", 50)?)?;
+    first.push(add(alloc, "a2", 2, "bob", 20)?)?;
+    second.push(pay(alloc, "p1", [1, 2, 10])?)?;
+    third.push(pay(alloc, "p2", [1, 2, 5])?)?;
+    Ok([block(1, first)?, block(2, second)?, block(3, third)?])
+}
+
+// Whether an outcome is stale: the first read was that of the first account, which the first transaction of block 2 had written since.
+fn is_late(told: Option<&Outcome>) -> bool {
+    matches!(told, Some(Outcome::Late(Late { stale: true, read: 1, place: Place { block: 2, pos: 1 }, table: 0, key }))
+        if matches!(key.as_slice(), [Value::Int(1)]))
+}
+
+// Whether a read is that of the first account.
+fn is_of_first(read: Option<&Read>) -> bool {
+    matches!(read, Some(Read::Point { table: 0, key }) if matches!(key.as_slice(), [Value::Int(1)]))
+}
+
+// Whether a look found one row, that of the first account after the first block.
+fn is_ann(looked: Option<&Looked>) -> bool {
+    let Some(Looked::Rows(rows)) = looked else {
+        return false;
+    };
+    matches!(rows.as_slice(), [seen] if seen.place.block == 1 && seen.place.pos == 1
+        && matches!(seen.row.as_slice(), [Value::Int(1), Value::Text(owner), Value::Int(50)] if owner.as_str() == "ann"))
+}
+
+#[test]
+fn what_a_stale_payment_leaves(rt: HostRuntime) -> Result<(), Fail> {
+    let alloc = rt.alloc();
+    let (node, mut pass) = open_node::<IndexVersions>(alloc, &accounts(alloc)?)?;
+    let (mut bringer, mut other) = (split_off(&node, &mut pass), split_off(&node, &mut pass));
+    let (gate, blocks) = (NoGate, stale_pay(alloc)?);
+    let crew = Crew::new(1, 1, &blocks, &[], &gate);
+    process_all(&rt, &node, &crew, &mut pass, &blocks)?;
+    let told = node.outcome(&rt, alloc, &mut pass, &Id::new(alloc, "p2")?)?;
+    assert!(rt; is_late(told.as_ref()));
+    node.arrive(&rt, &mut bringer, &pay(alloc, "p3", [1, 2, 5])?)?;
+    let Ok(Some(mut work)) = take_work(&rt, &node, &mut other, Pick::Nth(0)) else {
+        return Err("no job waits".into());
+    };
+    let looked = look_ahead(&rt, &node, &mut other, 1, &mut work)?;
+    assert!(rt; is_of_first(work.wanted()));
+    assert!(rt; is_ann(looked.as_ref()));
+    Ok(())
+}
