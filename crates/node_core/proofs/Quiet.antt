@@ -1,5 +1,5 @@
 -- The first rows, which do not wait, and the heights of those that do.
-use Rattle.std.proofs.Common.{Bool, IsSome, List, None, Option, Some, [], ap, arith, cond, drop, false, length, map, refl, slice_get, subst, suc, sym, true, zero, ◌%◌, ◌&&◌, ◌+◌, ◌++◌, ◌-◌, ◌<◌, ◌∙◌, ◌≡◌, ◌≤◌, ◌∷◌, ℕ}
+use Rattle.std.proofs.Common.{Bool, IsSome, List, None, Some, [], ap, arith, cond, drop, false, length, map, refl, slice_get, subst, suc, sym, true, zero, ◌%◌, ◌&&◌, ◌+◌, ◌++◌, ◌-◌, ◌<◌, ◌∙◌, ◌≡◌, ◌≤◌, ◌∷◌, ℕ}
 use Rattle.std.proofs.lemmas.Bool.Decides.{nat_tests}
 use Rattle.std.proofs.lemmas.Bool.{false≢true}
 use Rattle.std.proofs.lemmas.Option.{none-some, same_Some}
@@ -7,7 +7,7 @@ use Rattle.std.specs.List.{list_any}
 use Rattle.std.specs.Prelude.{nat_le}
 use Rattle.std.specs.Str.{bytes_eq}
 use Rattle.node_core.specs.Over.{drop_among}
-use Rattle.node_core.specs.Rows.{at_stage, eligible_rows, is_open, new_row, put_at, row_at, row_is_eligible, status_of}
+use Rattle.node_core.specs.Rows.{at_stage, eligible_rows, is_open, new_row, put_at, row_at, status_of}
 use Rattle.node_core.specs.Waiting.{BoundsHold, WaitFrom, WaitsFrom, leading_quiet}
 use Rattle.node_core.specs.declared.bounds.WaitBounds.{WaitBounds}
 use Rattle.node_core.specs.declared.jobs.Row.{Row}

@@ -1,17 +1,16 @@
 -- What stands in memory of the jobs, after each change.
-use Rattle.std.proofs.Common.{Bool, List, [], ap, arith, cond, false, map, refl, subst, suc, sym, true, zero, ◌&&◌, ◌++◌, ◌-◌, ◌∙◌, ◌≡◌, ◌≤◌, ◌∷◌, ℕ}
+use Rattle.std.proofs.Common.{List, [], ap, map, refl, subst, suc, sym, zero, ◌++◌, ◌∙◌, ◌≡◌, ◌∷◌, ℕ}
 use Rattle.node_core.proofs.Dropped_rows.{count_dropped, ids_dropped}
 use Rattle.node_core.proofs.Quiet.{bounds_dropped}
 use Rattle.node_core.proofs.Table.{count_many}
 use Rattle.node_core.specs.ById.{Indexes, SameJobs, ids_of}
 use Rattle.node_core.specs.JobTable.{IsTable}
 use Rattle.node_core.specs.Over.{drop_among}
-use Rattle.node_core.specs.Rows.{at_stage, count_held, new_row, put_at, put_row}
+use Rattle.node_core.specs.Rows.{count_held, new_row, put_at, put_row}
 use Rattle.node_core.specs.Waiting.{BoundsHold}
 use Rattle.node_core.specs.declared.bounds.WaitBounds.{WaitBounds}
 use Rattle.node_core.specs.declared.index.JobIndex.{JobIndex}
 use Rattle.node_core.specs.declared.jobs.Row.{Row}
-use Rattle.node_core.specs.declared.jobs.Stage.TheVariants as stage
 use Rattle.node_core.specs.declared.jobs.Stage.{Stage}
 use Rattle.node_model.specs.Steps.{Shared}
 use Rattle.proc_syntax.specs.declared.call.Tx.{Tx}

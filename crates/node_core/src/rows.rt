@@ -101,7 +101,8 @@ pub fn change_stage(rows: &mut Vec<Row>, place: usize, stage: Stage) -> Stage
 /// The number of the job at `n` modulo their count among these.
 pub fn find_among(rows: &[Row], first: usize, height: u64, n: u64) -> Option<u64>
     requires { first ≤ length rows.now }
-    ensures { result ≡ slice_get (eligible_rows (first + 1) height (drop first rows.now)) (n % length (eligible_rows (first + 1) height (drop first rows.now))) }
+    ensures { result ≡ slice_get (eligible_rows (first + 1) height (drop first rows.now))
+        (n % length (eligible_rows (first + 1) height (drop first rows.now))) }
 {
     let count = count_eligible(rows, first, height);
     if count == 0 {

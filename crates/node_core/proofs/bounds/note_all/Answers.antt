@@ -1,8 +1,7 @@
-use Rattle.std.proofs.Common.{List, ap, append_assoc, length, map, rules, subst, sym, take, [], ◌+◌, ◌++◌, ◌<◌, ◌∙◌, ◌≡◌, ◌≤◌, ◌∷◌}
+use Rattle.std.proofs.Common.{ap, append_assoc, length, map, rules, subst, sym, take, [], ◌+◌, ◌++◌, ◌<◌, ◌∙◌, ◌≡◌, ◌≤◌, ◌∷◌}
 use Rattle.std.proofs.lemmas.List.{map-append, take_all, take_more}
 use Rattle.node_core.specs.Rows.{new_row}
 use Rattle.node_core.specs.Waiting.{BoundsHold}
-use Rattle.node_core.specs.declared.jobs.Row.{Row}
 use Rattle.node_core.proofs.bounds.note_all.Goals as goal
 
 pub loop-tx-preserved : goal.loop-tx-preserved

@@ -1,9 +1,8 @@
-use Rattle.std.proofs.Common.{List, [], ap, length, map, rules, subst, sym, take, ◌+◌, ◌++◌, ◌<◌, ◌∙◌, ◌≡◌, ◌≤◌, ◌∷◌}
+use Rattle.std.proofs.Common.{List, [], ap, length, map, rules, subst, sym, take, ◌++◌, ◌<◌, ◌∙◌, ◌≤◌, ◌∷◌}
 use Rattle.std.proofs.lemmas.List.{map-append, take_all, take_more}
 use Rattle.node_core.proofs.Dropped_rows.{all_both, all_none, ids_dropped}
 use Rattle.node_core.specs.ById.{Indexes, ids_of}
 use Rattle.node_core.specs.Over.{drop_among}
-use Rattle.node_core.specs.declared.jobs.Row.{Row}
 use Rattle.proc_syntax.specs.declared.call.Tx.{Tx}
 use Rattle.node_core.proofs.dropping.drop_all.Goals as goal
 

@@ -1,7 +1,7 @@
-use Rattle.std.proofs.Common.{ap, arith, length, rules, subst, suc, ◌+◌, ◌-◌, ◌∙◌, ◌≡◌, ◌≤◌}
-use Rattle.node_core.proofs.Dropped_rows.{Drops, changed_length, drops_begin, drops_below, drops_on}
+use Rattle.std.proofs.Common.{ap, arith, length, subst, suc, ◌-◌, ◌∙◌, ◌≡◌, ◌≤◌}
+use Rattle.node_core.proofs.Dropped_rows.{Drops, drops_begin, drops_below, drops_on}
 use Rattle.node_core.proofs.Walks.{links_all}
-use Rattle.node_core.specs.Over.{drop_among, drop_open}
+use Rattle.node_core.specs.Over.{drop_open}
 use Rattle.node_core.proofs.dropping.drop_id.Goals as goal
 
 pub loop-number-init : goal.loop-number-init

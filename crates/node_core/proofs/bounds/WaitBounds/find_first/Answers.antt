@@ -1,7 +1,6 @@
-use Rattle.std.proofs.Common.{List, None, Option, ap, arith, drop, length, refl, rules, sym, ◌+◌, ◌∙◌, ◌≡◌, ◌≤◌, ℕ}
+use Rattle.std.proofs.Common.{ap, arith, sym, ◌∙◌, ◌≤◌}
 use Rattle.std.specs.Prelude.{slice_get}
 use Rattle.node_core.proofs.Quiet.{left_is, none_below, quiet_within}
-use Rattle.node_core.specs.Rows.{eligible_rows}
 use Rattle.node_core.specs.Waiting.{leading_quiet}
 use Rattle.node_core.proofs.bounds.WaitBounds.find_first.Goals as goal
 

@@ -1,4 +1,4 @@
-use Rattle.std.proofs.Common.{IsSome, ap, arith, rules, sym, length, subst, ◌∙◌, ◌+◌, ◌<◌, ◌^◌, ◌≡◌, ◌≤◌, ◌-◌}
+use Rattle.std.proofs.Common.{IsSome, ap, arith, rules, sym, length, subst, ◌∙◌, ◌+◌, ◌<◌, ◌^◌, ◌≡◌, ◌-◌}
 use Rattle.node_core.proofs.Quiet.{length_put, number_within}
 use Rattle.node_core.proofs.Standing.{table_put}
 use Rattle.node_core.proofs.Table.{Change, change_of}
