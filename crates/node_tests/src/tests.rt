@@ -1,9 +1,14 @@
 ghost use Rattle.std.specs.Prelude.{◌≡◌, IfOk};
 ghost use Rattle.serial_laws.specs.Chained.{AreNumbered};
 
+use crate::bringing::{bring_all, bring_at_once};
+use crate::crews::{join_crew, split_crew};
+use crate::folding::{fold_plainly, process_beside};
 use crate::looking::look_ahead;
 use crate::opening::open_node;
-use cluster_run::forking::split_off;
+use crate::wandering::Walk;
+use block_work::result::last_digest;
+use cluster_run::forking::{split_off, take_back};
 use cluster_run::processing::process_all;
 use cluster_run::working::{step_work, take_work};
 use cluster_run::{Crew, NoGate};
@@ -177,5 +182,114 @@ fn what_a_stale_payment_leaves(rt: HostRuntime) -> Result<(), Fail> {
     let looked = look_ahead(&rt, &node, &mut other, 1, &mut work)?;
     assert!(rt; is_of_first(work.wanted()));
     assert!(rt; is_ann(looked.as_ref()));
+    Ok(())
+}
+
+// So many calls that add accounts, each with an id of its own behind a letter.
+fn calls(alloc: Global, letter: &str, count: i64) -> Result<List<Tx>, Fail> {
+    let mut txs = List::new(alloc);
+    for number in 0..count {
+        let id = format!(in alloc; "{letter}{number}")?;
+        txs.push(add(alloc, id.as_str(), number, "ann", 1)?)?;
+    }
+    Ok(txs)
+}
+
+// Whether the arrivals of an actor are its calls, in order.
+fn in_order(journal: &[Entry], actor: u32, calls: &[Tx]) -> bool {
+    let mut rest = calls;
+    for entry in journal {
+        if let Event::Arrive { tx, .. } = &entry.event
+            && entry.actor == actor
+        {
+            match rest.split_first() {
+                Some((call, more)) if call.id == tx.id && call.args == tx.args => rest = more,
+                _ => return false,
+            }
+        }
+    }
+    rest.is_empty()
+}
+
+#[test]
+fn two_threads_bring_their_calls_in_order(rt: HostRuntime) -> Result<(), Fail> {
+    let alloc = rt.alloc();
+    let (node, mut pass) = open_node::<IndexVersions>(alloc, &accounts(alloc)?)?;
+    let crew = split_crew(alloc, &node, &mut pass, 2)?;
+    let own = [calls(alloc, "a", 100)?, calls(alloc, "b", 100)?];
+    let crew = bring_at_once(&rt, &node, crew, &own);
+    join_crew(&rt, &node, &mut pass, crew);
+    let NodeResult { journal, .. } = node.close(pass).close()?;
+    assert_eq!(rt; journal.len(), 200);
+    assert!(rt; in_order(journal.as_slice(), 1, own[0].as_slice()));
+    assert!(rt; in_order(journal.as_slice(), 2, own[1].as_slice()));
+    Ok(())
+}
+
+// Blocks of payments between two accounts, behind one that adds them.
+fn payments(alloc: Global, count: u64) -> Result<List<Block>, Fail> {
+    let mut blocks = List::new(alloc);
+    let mut accounts = List::new(alloc);
+    accounts.push(add(alloc, "a1", 1, "ann", 50)?)?;
+    accounts.push(add(alloc, "a2", 2, "bob", 20)?)?;
+    blocks.push(block(1, accounts)?)?;
+    for number in 0..count {
+        let mut txs = List::new(alloc);
+        let id = format!(in alloc; "p{number}")?;
+        txs.push(pay(alloc, id.as_str(), [1, 2, (number % 3) as i64])?)?;
+        txs.push(pay(alloc, "q", [2, 1, (number % 5) as i64])?)?;
+        blocks.push(block(number.saturating_add(2), txs)?)?;
+    }
+    Ok(blocks)
+}
+
+// Whether an actor has made an entry of a kind.
+fn has_made(journal: &[Entry], actor: u32, kind: &str) -> bool {
+    journal
+        .iter()
+        .map(said)
+        .any(|(by, made, _)| by == actor && made == kind)
+}
+
+// Whether each of the actors 2 to 9 has claimed, read, finished and released.
+fn all_wander(journal: &[Entry]) -> bool {
+    (2..10).all(|actor| {
+        has_made(journal, actor, "claim")
+            && has_made(journal, actor, "read")
+            && has_made(journal, actor, "finish")
+            && has_made(journal, actor, "release")
+    })
+}
+
+#[test]
+fn eight_threads_beside_a_processor(rt: HostRuntime) -> Result<(), Fail> {
+    let alloc = rt.alloc();
+    let app = accounts(alloc)?;
+    let (node, mut pass) = open_node::<IndexVersions>(alloc, &app)?;
+    let mut bringer = split_off(&node, &mut pass);
+    bring_all(&rt, &node, &mut bringer, calls(alloc, "x", 600)?.as_slice());
+    let crew = split_crew(alloc, &node, &mut pass, 8)?;
+    let blocks = payments(alloc, 20)?;
+    let walk = Walk {
+        seed: 2026,
+        steps: 1250,
+    };
+    let ((processed, mut pass), crew) = process_beside(
+        &rt,
+        &node,
+        pass,
+        blocks.as_slice(),
+        crew,
+        walk,
+    );
+    assert!(rt; processed);
+    take_back(&rt, &node, &mut pass, bringer);
+    join_crew(&rt, &node, &mut pass, crew);
+    let made = node.close(pass).close()?;
+    assert!(rt; made.journal.len() >= 10_000);
+    assert!(rt; all_wander(made.journal.as_slice()));
+    let plain = fold_plainly::<IndexVersions>(alloc, &app, blocks.as_slice())?;
+    assert_eq!(rt; made.blocks.len(), blocks.len());
+    assert!(rt; last_digest(&made.blocks) == last_digest(plain.blocks()));
     Ok(())
 }

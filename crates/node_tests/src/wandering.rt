@@ -1,0 +1,124 @@
+//! Threads that claim, read, finish and release as they are drawn, each with a pass of its own.
+
+ghost use Rattle.std.specs.Prelude.{◌≡◌, All, length, vec_len};
+ghost use Rattle.cluster_run.specs.Standing.{Has, HasNone, left_of};
+ghost use Rattle.node_tests.specs.Free.{IsFree, IsIdle};
+ghost use Rattle.turn_lock.specs.Passes.{HoldsNoTurn, IsPassOf, IsSamePass};
+
+use cluster_run::working::{give_up, step_work, take_work};
+use cluster_run::{Crew, NoGate};
+use node_core::Work;
+use node_model::Pick;
+use node_shared::{NodePass, SharedNode};
+use rand::rngs::SmallRng;
+use rand_core::{Rng, SeedableRng};
+use rel_base::NoMemory;
+use row_sets::Versions;
+use std::sync::Wait;
+use std::thread;
+use std::thread::Threads;
+
+/// How a pass wanders: the seed of what it draws, and how many steps it makes.
+#[derive(Clone, Copy)]
+pub struct Walk {
+    pub seed: u64,
+    pub steps: u32,
+}
+
+// A pass that holds nothing claims what is drawn; one that holds a work goes on with it, or gives it up three times in four.
+fn draw_step<V: Versions, R: Wait>(
+    rt: &R,
+    node: &SharedNode<V>,
+    pass: &mut NodePass<V>,
+    drawn: u64,
+    hand: Option<Work>,
+) -> Result<Option<Work>, NoMemory>
+    requires lock { IsPassOf node.now.lock pass.old }
+    requires no_turn { HoldsNoTurn pass.old }
+    requires hand { Has pass.old hand }
+    ensures same { IsSamePass pass.old pass.new }
+    ensures no_turn { HoldsNoTurn pass.new }
+    ensures hand { Has pass.new (left_of result) }
+{
+    match hand {
+        None => take_work(rt, node, pass, Pick::Nth(drawn)),
+        Some(work) => {
+            if drawn % 4 != 0 {
+                give_up(rt, node, pass, work);
+                return Ok(None);
+            }
+            let gate = NoGate;
+            let alone = Crew::new(1, 0, &[], &[], &gate);
+            step_work(rt, node, &alone, pass, work)
+        }
+    }
+}
+
+// What is left in hand is given up.
+fn let_go<V: Versions, R: Wait>(
+    rt: &R,
+    node: &SharedNode<V>,
+    pass: &mut NodePass<V>,
+    hand: Option<Work>,
+)
+    requires lock { IsPassOf node.now.lock pass.old }
+    requires no_turn { HoldsNoTurn pass.old }
+    requires hand { Has pass.old hand }
+    ensures same { IsSamePass pass.old pass.new }
+    ensures no_turn { HoldsNoTurn pass.new }
+    ensures hand { HasNone pass.new }
+{
+    if let Some(work) = hand {
+        give_up(rt, node, pass, work);
+    }
+}
+
+/// Makes the steps of a walk, which end early where memory runs out. The pass holds nothing afterwards.
+pub fn wander<V: Versions, R: Wait>(
+    rt: &R,
+    node: &SharedNode<V>,
+    pass: &mut NodePass<V>,
+    walk: Walk,
+)
+    requires { IsFree node.now.lock pass.old }
+    ensures { IsFree node.now.lock pass.new }
+{
+    let mut rng = SmallRng::seed_from_u64(walk.seed ^ u64::from(pass.number()));
+    let mut hand = None;
+    for _ in 0..walk.steps {
+        match draw_step(rt, node, pass, rng.next_u64(), hand) {
+            Ok(left) => hand = left,
+            Err(NoMemory) => return,
+        }
+    }
+    let_go(rt, node, pass, hand);
+}
+
+// Each pass wanders in a thread of its own, where one can be made.
+fn wander_each<V: Versions + Send, R: Threads + Wait + Sync>(
+    rt: &R,
+    node: &SharedNode<V>,
+    crew: &mut [NodePass<V>],
+    walk: Walk,
+)
+    requires { All (IsFree node.now.lock) crew.old }
+    ensures len { length crew.new ≡ length crew.old }
+    ensures crew { All (IsFree node.now.lock) crew.new }
+{
+    thread::for_each_mut(rt, crew, 8, &|_, pass| wander(rt, node, pass, walk));
+}
+
+/// A crew of up to eight passes wanders, each in a thread of its own.
+pub fn wander_at_once<V: Versions + Send, R: Threads + Wait + Sync>(
+    rt: &R,
+    node: &SharedNode<V>,
+    mut crew: Vec<NodePass<V>>,
+    walk: Walk,
+) -> Vec<NodePass<V>>
+    requires { All (IsFree node.now.lock) crew.items }
+    ensures len { vec_len result ≡ vec_len crew }
+    ensures crew { All (IsFree node.now.lock) result.items }
+{
+    wander_each(rt, node, crew.as_mut_slice(), walk);
+    crew
+}
