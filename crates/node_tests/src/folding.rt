@@ -34,12 +34,12 @@ fn are_numbered(blocks: &[Block]) -> bool
     true
 }
 
-/// Processes the blocks of a chain with a pass. Answers whether all were processed.
+/// Processes the blocks of a crew with a pass. Answers whether all were processed.
 pub fn process_with<V: Versions, R: Wait>(
     rt: &R,
     node: &SharedNode<V>,
+    crew: &Crew<'_, NoGate>,
     mut pass: NodePass<V>,
-    blocks: &[Block],
 ) -> (bool, NodePass<V>)
     requires pass { IsFree node.now.lock pass }
     requires processor { pass_number pass ≡ 0 }
@@ -47,44 +47,42 @@ pub fn process_with<V: Versions, R: Wait>(
     ensures same { IsSamePass pass result.1 }
     ensures pass { IsFree node.now.lock result.1 }
 {
-    if !are_numbered(blocks) {
+    if !are_numbered(crew.blocks) {
         return (false, pass);
     }
-    let gate = NoGate;
-    let crew = Crew::new(1, 0, blocks, &[], &gate);
-    let processed = process_all(rt, node, &crew, &mut pass, blocks).is_ok();
+    let processed = process_all(rt, node, crew, &mut pass, crew.blocks).is_ok();
     (processed, pass)
 }
 
-/// Processes the blocks of a chain on this thread, while a crew of up to eight passes wanders, each in a thread of its own. Answers whether
-/// all were processed.
+/// Processes the blocks of a crew on this thread, while up to eight passes wander, each in a thread of its own. Answers whether all were
+/// processed.
 pub fn process_beside<V: Versions + Send, R: Threads + Wait + Sync>(
     rt: &R,
     node: &SharedNode<V>,
+    crew: &Crew<'_, NoGate>,
     pass: NodePass<V>,
-    blocks: &[Block],
-    crew: Vec<NodePass<V>>,
+    passes: Vec<NodePass<V>>,
     walk: Walk,
 ) -> ((bool, NodePass<V>), Vec<NodePass<V>>)
     requires pass { IsFree node.now.lock pass }
     requires processor { pass_number pass ≡ 0 }
     requires rests { (in_work pass ≡ []) × (delivered_by pass ≡ []) }
-    requires crew { All (IsFree node.now.lock) crew.items }
+    requires passes { All (IsFree node.now.lock) passes.items }
     ensures same { IsSamePass pass result.0.1 }
     ensures pass { IsFree node.now.lock result.0.1 }
-    ensures len { vec_len result.1 ≡ vec_len crew }
-    ensures crew { All (IsFree node.now.lock) result.1.items }
+    ensures len { vec_len result.1 ≡ vec_len passes }
+    ensures passes { All (IsFree node.now.lock) result.1.items }
 {
     thread::join(
         rt,
         move || -> (bool, NodePass<V>)
             requires { IsFree node.now.lock pass × (pass_number pass ≡ 0) × (in_work pass ≡ []) × (delivered_by pass ≡ []) }
             ensures { IsSamePass pass result.1 × IsFree node.entry.now.lock result.1 }
-        { process_with(rt, node, pass, blocks) },
+        { process_with(rt, node, crew, pass) },
         move || -> Vec<NodePass<V>>
-            requires { All (IsFree node.now.lock) crew.items }
-            ensures { (vec_len result ≡ vec_len crew) × All (IsFree node.entry.now.lock) result.items }
-        { wander_at_once(rt, node, crew, walk) },
+            requires { All (IsFree node.now.lock) passes.items }
+            ensures { (vec_len result ≡ vec_len passes) × All (IsFree node.entry.now.lock) result.items }
+        { wander_at_once(rt, node, crew, passes, walk) },
     )
 }
 

@@ -268,23 +268,17 @@ fn eight_threads_beside_a_processor(rt: HostRuntime) -> Result<(), Fail> {
     let (node, mut pass) = open_node::<IndexVersions>(alloc, &app)?;
     let mut bringer = split_off(&node, &mut pass);
     bring_all(&rt, &node, &mut bringer, calls(alloc, "x", 600)?.as_slice());
-    let crew = split_crew(alloc, &node, &mut pass, 8)?;
-    let blocks = payments(alloc, 20)?;
+    let passes = split_crew(alloc, &node, &mut pass, 8)?;
+    let (gate, blocks) = (NoGate, payments(alloc, 20)?);
+    let crew = Crew::new(1, 8, blocks.as_slice(), &[], &gate);
     let walk = Walk {
         seed: 2026,
         steps: 1250,
     };
-    let ((processed, mut pass), crew) = process_beside(
-        &rt,
-        &node,
-        pass,
-        blocks.as_slice(),
-        crew,
-        walk,
-    );
+    let ((processed, mut pass), passes) = process_beside(&rt, &node, &crew, pass, passes, walk);
     assert!(rt; processed);
     take_back(&rt, &node, &mut pass, bringer);
-    join_crew(&rt, &node, &mut pass, crew);
+    join_crew(&rt, &node, &mut pass, passes);
     let made = node.close(pass).close()?;
     assert!(rt; made.journal.len() >= 10_000);
     assert!(rt; all_wander(made.journal.as_slice()));

@@ -29,6 +29,7 @@ pub struct Walk {
 fn draw_step<V: Versions, R: Wait>(
     rt: &R,
     node: &SharedNode<V>,
+    crew: &Crew<'_, NoGate>,
     pass: &mut NodePass<V>,
     drawn: u64,
     hand: Option<Work>,
@@ -47,9 +48,7 @@ fn draw_step<V: Versions, R: Wait>(
                 give_up(rt, node, pass, work);
                 return Ok(None);
             }
-            let gate = NoGate;
-            let alone = Crew::new(1, 0, &[], &[], &gate);
-            step_work(rt, node, &alone, pass, work)
+            step_work(rt, node, crew, pass, work)
         }
     }
 }
@@ -73,10 +72,12 @@ fn let_go<V: Versions, R: Wait>(
     }
 }
 
-/// Makes the steps of a walk, which end early where memory runs out. The pass holds nothing afterwards.
+/// Makes the steps of a walk, which end early where memory runs out. The pass holds nothing afterwards. The processor hears of each step,
+/// since it may wait for one that ends the job which is due.
 pub fn wander<V: Versions, R: Wait>(
     rt: &R,
     node: &SharedNode<V>,
+    crew: &Crew<'_, NoGate>,
     pass: &mut NodePass<V>,
     walk: Walk,
 )
@@ -86,39 +87,44 @@ pub fn wander<V: Versions, R: Wait>(
     let mut rng = SmallRng::seed_from_u64(walk.seed ^ u64::from(pass.number()));
     let mut hand = None;
     for _ in 0..walk.steps {
-        match draw_step(rt, node, pass, rng.next_u64(), hand) {
+        let step = draw_step(rt, node, crew, pass, rng.next_u64(), hand);
+        crew.ended.ring();
+        match step {
             Ok(left) => hand = left,
             Err(NoMemory) => return,
         }
     }
     let_go(rt, node, pass, hand);
+    crew.ended.ring();
 }
 
 // Each pass wanders in a thread of its own, where one can be made.
 fn wander_each<V: Versions + Send, R: Threads + Wait + Sync>(
     rt: &R,
     node: &SharedNode<V>,
-    crew: &mut [NodePass<V>],
+    crew: &Crew<'_, NoGate>,
+    passes: &mut [NodePass<V>],
     walk: Walk,
 )
-    requires { All (IsFree node.now.lock) crew.old }
-    ensures len { length crew.new ≡ length crew.old }
-    ensures crew { All (IsFree node.now.lock) crew.new }
+    requires { All (IsFree node.now.lock) passes.old }
+    ensures len { length passes.new ≡ length passes.old }
+    ensures passes { All (IsFree node.now.lock) passes.new }
 {
-    thread::for_each_mut(rt, crew, 8, &|_, pass| wander(rt, node, pass, walk));
+    thread::for_each_mut(rt, passes, 8, &|_, pass| wander(rt, node, crew, pass, walk));
 }
 
-/// A crew of up to eight passes wanders, each in a thread of its own.
+/// Up to eight passes wander, each in a thread of its own.
 pub fn wander_at_once<V: Versions + Send, R: Threads + Wait + Sync>(
     rt: &R,
     node: &SharedNode<V>,
-    mut crew: Vec<NodePass<V>>,
+    crew: &Crew<'_, NoGate>,
+    mut passes: Vec<NodePass<V>>,
     walk: Walk,
 ) -> Vec<NodePass<V>>
-    requires { All (IsFree node.now.lock) crew.items }
-    ensures len { vec_len result ≡ vec_len crew }
-    ensures crew { All (IsFree node.now.lock) result.items }
+    requires { All (IsFree node.now.lock) passes.items }
+    ensures len { vec_len result ≡ vec_len passes }
+    ensures passes { All (IsFree node.now.lock) result.items }
 {
-    wander_each(rt, node, crew.as_mut_slice(), walk);
-    crew
+    wander_each(rt, node, crew, passes.as_mut_slice(), walk);
+    passes
 }

@@ -4,6 +4,7 @@ use Rattle.std.proofs.Common.{rules}
 use Rattle.std.proofs.Crossing.{crosses}
 use Rattle.cluster_run.proofs.Sharing.{node_sync, pass_send}
 use Rattle.proc_syntax.proofs.call.Block.TheSendSync as block
+use Rattle.proc_syntax.proofs.call.Tx.TheSendSync as tx
 use Rattle.node_tests.proofs.folding.process_beside.Goals as goal
 
 pub join-requires-send-F : goal.join-requires-send-F
@@ -12,7 +13,7 @@ join-requires-send-F g c κs within =
     let node = node_sync (param 0 g.row.V) g.V.Versions v in
     let pass = pass_send (param 0 g.row.V) g.V.Versions v in
     let runtime : IsSync (param 1 g.row.R) = search (rules, param_sync) parts 8 in
-    search (block.the_sync, crosses, sendable) depth 60 fits 20000
+    search (block.the_sync, tx.the_sync, crosses, sendable) depth 60 fits 20000
 
 pub join-requires-send-A : goal.join-requires-send-A
 join-requires-send-A g c κs within =
