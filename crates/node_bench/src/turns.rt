@@ -1,0 +1,59 @@
+// Turns of one kind, one after another, in some threads.
+ghost use Rattle.std.specs.Prelude.{◌≡◌, ◌<◌, All, length};
+ghost use Rattle.node_bench.specs.Idle.{IsIdle};
+
+use node_shared::{NodePass, SharedNode};
+use proc_syntax::Tx;
+use row_sets::Versions;
+use std::sync::Wait;
+use std::thread;
+use std::thread::Threads;
+
+/// What is done in a turn.
+#[derive(Clone, Copy, PartialEq, Eq)]
+pub enum Kind {
+    Look,
+    Arrival,
+}
+
+/// What each thread does, and how often.
+#[derive(Clone, Copy)]
+pub struct Plan<'a> {
+    pub kind: Kind,
+    pub tx: &'a Tx,
+    pub turns: u32,
+}
+
+// Makes the turns of a plan. A call that is wanting in memory is a turn too.
+fn run_one<V: Versions, R: Wait>(
+    rt: &R,
+    node: &SharedNode<V>,
+    pass: &mut NodePass<V>,
+    plan: Plan<'_>,
+)
+    requires { IsIdle node.now.lock pass.old }
+    ensures { IsIdle node.now.lock pass.new }
+{
+    for _ in 0..plan.turns {
+        match plan.kind {
+            Kind::Look => {
+                node.height(rt, pass);
+            }
+            Kind::Arrival => {
+                let _ = node.arrive(rt, pass, plan.tx);
+            }
+        }
+    }
+}
+
+/// Each pass makes the turns of a plan, in a thread of its own where one can be made.
+pub fn run_each<V: Versions + Send, R: Threads + Wait + Sync>(
+    rt: &R,
+    node: &SharedNode<V>,
+    crew: &mut [NodePass<V>],
+    plan: Plan<'_>,
+)
+    requires { All (IsIdle node.now.lock) crew.old }
+{
+    thread::for_each_mut(rt, crew, 8, &|_, pass| run_one(rt, node, pass, plan));
+}
