@@ -1,5 +1,5 @@
 // Turns of one kind, one after another, in some threads.
-ghost use Rattle.std.specs.Prelude.{◌≡◌, ◌<◌, All, length};
+ghost use Rattle.std.specs.Prelude.{All};
 ghost use Rattle.node_bench.specs.Idle.{IsIdle};
 
 use node_shared::{NodePass, SharedNode};
@@ -10,7 +10,7 @@ use std::thread;
 use std::thread::Threads;
 
 /// What is done in a turn.
-#[derive(Clone, Copy, PartialEq, Eq)]
+#[derive(Clone, Copy)]
 pub enum Kind {
     Look,
     Arrival,
