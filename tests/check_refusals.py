@@ -1,0 +1,143 @@
+#!/usr/bin/env python3
+"""Refuses each growth of memory, each read and each write of the built program once, and checks how the run ends.
+
+A library that is loaded before the C library refuses the call of one number, for each number until a run meets none. Where a growth was refused, the run
+ends with its own status or with 8, or, where a file was to be opened or the output to be written with it, as where that failed; where a read was refused,
+with its own status or 3; where a write was, with its own or 7. At 3 it writes so, at 7 and 8 a front of what the run writes, and at its own status all of
+it. Nothing crashes, hangs or is written twice. Reads and writes that move one byte change nothing.
+Of runs with many growths some are chosen, evenly, unless all are asked for. Usage: check_refusals.py PROGRAM [--all]
+"""
+import os
+import struct
+import subprocess
+import sys
+import tempfile
+
+HERE = os.path.dirname(os.path.abspath(__file__))
+SECONDS = 30
+MOST_CHOSEN = 120
+# how a run may end in which a call of a kind was refused
+ENDS = {"growth": (8, 3, 7), "read": (3,), "write": (7,)}
+ACCOUNTS = """table acct (id int, owner text, bal int) key (id) index (owner);
+proc add(i int, o text, b int) { insert acct (i, o, b); }
+proc pay(f int, t int, n int) {
+  get a from acct key (f) {
+    get b from acct key (t) {
+      update acct key (f) set bal = a.bal - n;
+      update acct key (t) set bal = b.bal + n;
+    } else { fail "no payee"; }
+  } else { fail "no payer"; }
+}
+"""
+PAYMENTS = ["tx p1 1 pay 1 2 5", "tx p2 1 pay 3 4 5"]
+
+
+class Run:
+    """A run of the program: its words, in a folder, and how it ends when nothing is refused."""
+
+    def __init__(self, name, folder, words):
+        self.name, self.folder, self.words = name, folder, words
+        self.status, self.stdout = None, None
+
+
+def case(name):
+    folder = os.path.join(HERE, "cases", name)
+    with open(os.path.join(folder, "words")) as words:
+        return folder, words.read().split("\n")[:-1]
+
+
+def side_by_side(folder):
+    """Two payments between different accounts, which arrive before their block at a node with two executors."""
+    adds = [f'tx a{n} 0 add {n} "ann" 50' for n in range(1, 5)]
+    blocks = "".join(f"block {number}\n" + "".join(line + "\n" for line in lines) + "end\n" for number, lines in enumerate((adds, PAYMENTS), 1))
+    for name, text in (("a.app", ACCOUNTS), ("b.draft", "draft 1\n" + blocks), ("arrivals1", "arrivals 1\n" + "".join(line + "\n" for line in PAYMENTS))):
+        with open(os.path.join(folder, name), "w") as out:
+            out.write(text)
+    return folder, ["run", "--app", "a.app", "--blocks", "b.draft", "--arrivals", "arrivals", "--executors", "2"]
+
+
+def runs(folder):
+    names = ["one-insert", "first-hit-wins", "provenance-of-pay", "first-hit-wins-claimed-early", "guide-bank-seal", "json-of-one-insert"]
+    return [Run(name, *case(name)) for name in names] + [Run("side-by-side", *side_by_side(folder)), Run("load", folder, ["load", "--number", "1"])]
+
+
+class Refuser:
+    """The library, the program, and the file in which the calls are counted."""
+
+    def __init__(self, folder, program):
+        self.program, self.library, self.told = program, os.path.join(folder, "refuse.so"), os.path.join(folder, "told")
+        subprocess.run(["cc", "-shared", "-fPIC", "-O1", "-o", self.library, os.path.join(HERE, "refuse.c"), "-ldl"], check=True)
+
+    def run(self, run, kind, number, most=None):
+        """The status and the bytes of a run in which the call of a number is refused, and how many of that kind it made."""
+        with open(self.told, "wb") as out:
+            out.write(bytes(8))
+        given = {"LD_PRELOAD": self.library, "REFUSE_KIND": kind, "REFUSE_AT": str(number), "REFUSE_TOLD": self.told}
+        if most is not None:
+            given["REFUSE_MOST"] = str(most)
+        done = subprocess.run([self.program, *run.words], cwd=run.folder, env=given, stdin=subprocess.DEVNULL, stdout=subprocess.PIPE,
+                              stderr=subprocess.DEVNULL, timeout=SECONDS)
+        with open(self.told, "rb") as told:
+            return done.returncode, done.stdout, struct.unpack("q", told.read(8))[0]
+
+
+def fault_of(run, kind, status, stdout):
+    """What is wrong with how a run has ended, if anything is."""
+    if status == run.status:
+        return None if stdout == run.stdout else "other bytes at its own status"
+    if status not in ENDS[kind]:
+        return f"status {status}"
+    if status == 3:
+        return None if stdout == b"refused read\n" else "other bytes at status 3"
+    return None if run.stdout.startswith(stdout) else "no front of what it writes"
+
+
+class Tally:
+    def __init__(self):
+        self.passed, self.failed, self.refused = 0, 0, {kind: 0 for kind in ENDS}
+
+    def note(self, run, what, fault):
+        self.passed, self.failed = self.passed + (fault is None), self.failed + (fault is not None)
+        if fault is not None:
+            print(f"{run.name}, {what}: {fault}")
+
+
+def try_one(refuser, run, kind, number, tally):
+    try:
+        status, stdout, count = refuser.run(run, kind, number)
+    except subprocess.TimeoutExpired:
+        tally.note(run, f"{kind} {number} refused", "hangs")
+        return
+    if count >= number:
+        tally.refused[kind] += 1
+    tally.note(run, f"{kind} {number} refused", fault_of(run, kind, status, stdout))
+
+
+def numbers_of(count, takes_all):
+    """The numbers of so many calls, or some of them, and those of the first and the last ones."""
+    step = 1 if takes_all else max(1, count // MOST_CHOSEN)
+    return sorted({*range(1, count + 3, step), *range(1, min(count, 10) + 1), *range(max(1, count - 10), count + 3)})
+
+
+def check_run(refuser, run, takes_all, tally):
+    for kind in ENDS:
+        run.status, run.stdout, count = refuser.run(run, kind, 0)
+        for number in numbers_of(count, takes_all):
+            try_one(refuser, run, kind, number, tally)
+    status, stdout, _ = refuser.run(run, "none", 0, most=1)
+    tally.note(run, "one byte at a time", None if (status, stdout) == (run.status, run.stdout) else f"status {status}")
+
+
+def main():
+    takes_all, tally = "--all" in sys.argv, Tally()
+    with tempfile.TemporaryDirectory() as folder:
+        refuser = Refuser(folder, os.path.abspath(sys.argv[1]))
+        for run in runs(folder):
+            check_run(refuser, run, takes_all, tally)
+    print(", ".join(f"{count} {kind}s refused" for kind, count in tally.refused.items()))
+    print(f"{tally.passed} passed, {tally.failed} failed")
+    sys.exit(1 if tally.failed or not all(tally.refused.values()) else 0)
+
+
+if __name__ == "__main__":
+    main()
