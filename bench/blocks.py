@@ -34,9 +34,9 @@ proc pay(f int, t int, n int) {
 """
 # The compiler puts the smaller functions into the larger ones, so these are what can be told apart: `decide` itself has the look-up of ids,
 # conflicts, edges and dangers, and `run_blocks` itself the serial order, the applied writes and the rest of a block.
-WHOLE = "run_blocks"
-ALONE = {"decide itself": "decide::decide::", "run_blocks itself": "run_blocks"}
-WITH_CALLS = {"runs": "go_to_read", "digests": "digest_of"}
+# the functions that the parts are named by, each with what it calls
+WHOLE = "run_cluster"
+PARTS = {"runs": "run_work", "commits": "NodeCore::commit", "seals": "NodeCore::seal", "digests": "digest_of"}
 
 
 def write_payments(path, count, per_block):
@@ -73,10 +73,10 @@ def timed(folder, words, output=subprocess.DEVNULL):
     return time.monotonic() - begin
 
 
-def counted(folder, inclusive):
-    """The instructions of each function, by callgrind, with what it calls or alone."""
+def counted(folder):
+    """The instructions of each function and of what it calls, by callgrind."""
     told = subprocess.run(
-        ["callgrind_annotate", f"--inclusive={inclusive}", "--threshold=100", "counts"],
+        ["callgrind_annotate", "--inclusive=yes", "--threshold=100", "counts"],
         cwd=folder,
         stdout=subprocess.PIPE,
         stderr=subprocess.DEVNULL,
@@ -97,11 +97,9 @@ def shares(folder, program, words):
         return {}
     tool = ["valgrind", "--tool=callgrind", "--callgrind-out-file=counts"]
     subprocess.run([*tool, program, *words], cwd=folder, stdout=subprocess.DEVNULL, stderr=subprocess.DEVNULL, check=True)
-    whole_counts, own_counts = counted(folder, "yes"), counted(folder, "no")
-    whole = most(whole_counts, WHOLE)
-    parts = {part: most(own_counts, name) / whole for part, name in ALONE.items()}
-    parts.update((part, most(whole_counts, name) / whole) for part, name in WITH_CALLS.items())
-    return parts
+    counts = counted(folder)
+    whole = most(counts, WHOLE)
+    return {part: most(counts, name) / whole for part, name in PARTS.items()} if whole else {}
 
 
 def payments(program, count):
@@ -110,7 +108,7 @@ def payments(program, count):
         with tempfile.TemporaryDirectory() as folder:
             with open(os.path.join(folder, "a.app"), "w") as file:
                 file.write(APP)
-            words = ["run", "--app", "a.app", "--blocks", "b.draft"]
+            words = ["run", "--app", "a.app", "--blocks", "b.draft", "--executors", "0"]
             write_payments(os.path.join(folder, "b.draft"), 10 * per_block, per_block)
             parts = shares(folder, program, words)
             write_payments(os.path.join(folder, "b.draft"), count, per_block)
@@ -139,7 +137,7 @@ def files(program, megabytes):
         with open(os.path.join(folder, "a.app"), "w") as file:
             file.write(APP)
         write_inserts(os.path.join(folder, "b.draft"), 10_000_000)
-        words = [program, "run", "--app", "a.app", "--blocks", "b.draft"]
+        words = [program, "run", "--app", "a.app", "--blocks", "b.draft", "--executors", "0"]
         without = min(timed(folder, words) for _ in range(2))
         shown = min(timed(folder, [*words, "--digests", "--orders"]) for _ in range(2))
         print(f"a draft of 10 MB is run at {10 / without:.2f} MB a second, and with --digests --orders at {10 / shown:.2f}")

@@ -36,7 +36,7 @@ def write_draft(path, count, per_block, height):
 
 def run(program, folder):
     begin = time.monotonic()
-    child = subprocess.Popen([program, "run", "--app", "a.app", "--blocks", "b.draft"], cwd=folder, stdout=subprocess.DEVNULL)
+    child = subprocess.Popen([program, "run", "--app", "a.app", "--blocks", "b.draft", "--executors", "0"], cwd=folder, stdout=subprocess.DEVNULL)
     _, status, usage = os.wait4(child.pid, 0)
     if status != 0:
         sys.exit(f"the program ended with {status}")

@@ -45,7 +45,7 @@ def seconds(program, app, draft):
         for name, text in ("a.app", app), ("b.draft", draft):
             with open(os.path.join(folder, name), "w") as out:
                 out.write(text)
-        words = [program, "run", "--app", "a.app", "--blocks", "b.draft"]
+        words = [program, "run", "--app", "a.app", "--blocks", "b.draft", "--executors", "0"]
         begin = time.monotonic()
         subprocess.run(words, cwd=folder, stdout=subprocess.DEVNULL, check=True)
         return time.monotonic() - begin

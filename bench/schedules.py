@@ -54,7 +54,7 @@ def main():
             write_payments("draft", count, PER_BLOCK)
             write_schedule("schedule", count)
             files = ["--app", "app", "--blocks", "draft"]
-            plain, report = timed([program, "run", *files])
+            plain, report = timed([program, "run", *files, "--executors", "0"])
             driven, same = timed([program, "simulate", *files, "--schedule", "schedule"])
             if report != same:
                 raise SystemExit("the reports differ")

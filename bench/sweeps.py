@@ -75,7 +75,7 @@ def program_seconds(program, options, calls):
         with open(os.path.join(folder, "a.app"), "w") as out:
             out.write(APP)
         write_draft(os.path.join(folder, "b.draft"), options, calls)
-        words = [program, "run", "--app", "a.app", "--blocks", "b.draft"]
+        words = [program, "run", "--app", "a.app", "--blocks", "b.draft", "--executors", "0"]
         before = resource.getrusage(resource.RUSAGE_CHILDREN)
         subprocess.run(words, cwd=folder, stdout=subprocess.DEVNULL, check=True)
         after = resource.getrusage(resource.RUSAGE_CHILDREN)
