@@ -4,7 +4,8 @@
 A library that is loaded before the C library refuses the call of one number, for each number until a run meets none. Where a growth was refused, the run
 ends with its own status or with 8, or, where a file was to be opened or the output to be written with it, as where that failed; where a read was refused,
 with its own status or 3; where a write was, with its own or 7. At 3 it writes so, at 7 and 8 a front of what the run writes, and at its own status all of
-it. Nothing crashes, hangs or is written twice. Reads and writes that move one byte change nothing.
+it. Nothing crashes, hangs or is written twice. Reads and writes that move one byte change nothing, and where one of these writes is refused, exactly the
+bytes before it were written.
 Of runs with many growths some are chosen, evenly, unless all are asked for. Usage: check_refusals.py PROGRAM [--all]
 """
 import os
@@ -113,6 +114,22 @@ def try_one(refuser, run, kind, number, tally):
     tally.note(run, f"{kind} {number} refused", fault_of(run, kind, status, stdout))
 
 
+def try_front(refuser, run, number, tally):
+    """Refuses one write where each moves one byte: a run that writes its answer at once has no other front than none or all of it."""
+    what = f"write {number} of one byte refused"
+    try:
+        status, stdout, count = refuser.run(run, "write", number, most=1)
+    except subprocess.TimeoutExpired:
+        tally.note(run, what, "hangs")
+        return
+    if count >= number:
+        tally.refused["write"] += 1
+    fault = fault_of(run, "write", status, stdout)
+    if fault is None and status == 7 and stdout != run.stdout[:number - 1]:
+        fault = f"{len(stdout)} bytes at status 7"
+    tally.note(run, what, fault)
+
+
 def numbers_of(count, takes_all):
     """The numbers of so many calls, or some of them, and those of the first and the last ones."""
     step = 1 if takes_all else max(1, count // MOST_CHOSEN)
@@ -124,6 +141,8 @@ def check_run(refuser, run, takes_all, tally):
         run.status, run.stdout, count = refuser.run(run, kind, 0)
         for number in numbers_of(count, takes_all):
             try_one(refuser, run, kind, number, tally)
+    for number in numbers_of(len(run.stdout), takes_all):
+        try_front(refuser, run, number, tally)
     status, stdout, _ = refuser.run(run, "none", 0, most=1)
     tally.note(run, "one byte at a time", None if (status, stdout) == (run.status, run.stdout) else f"status {status}")
 
