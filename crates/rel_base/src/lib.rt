@@ -9,6 +9,7 @@ pub mod list;
 pub mod memory;
 pub mod name;
 pub mod schema;
+mod short_text;
 pub mod storied;
 pub mod tables;
 #[cfg(test)]

@@ -1,17 +1,12 @@
 //! Names of tables, columns and procedures, and ids of transactions.
 
-ghost use Rattle.std.specs.Prelude.{◌≡◌, ◌<◌, ◌↔◌, false, length, IfOk, IsTrue, IsErrOf, nat_eq};
-ghost use Rattle.std.proofs.Common.{rules};
-ghost use Rattle.std.specs.Cmp.{partial_equiv_from_equiv, partial_order_from_own_ties};
-ghost use Rattle.std.specs.Cmp.Lexicographic.{pointwise, slice_cmp, nat_list_cmp_total, nat_list_eq_equiv};
-ghost use Rattle.std.specs.Cmp.Rules.{comparing};
+ghost use Rattle.std.specs.Prelude.{◌≡◌, ◌↔◌, false, IfOk, IsTrue, IsErrOf};
 ghost use Rattle.std.specs.List.{list_all};
-ghost use Rattle.std.specs.Ordering.{nat_cmp, as_partial_cmp};
 ghost use Rattle.rel_base.specs.Text.{is_lower_case, is_name_byte, has_name_form, is_id_byte, has_id_form};
 
 use crate::memory::{NoMemory, Twin};
+use crate::short_text::ShortText;
 use std::alloc::Global;
-use std::cmp::Ordering;
 use std::marker::Model;
 
 /// Why there is no name, or no id.
@@ -56,35 +51,36 @@ pub fn is_name(bytes: &[u8]) -> bool
 
 /// The name of a table, a column, a procedure or a parameter: a letter `a` to `z`, and then such letters, digits and `_`,
 /// 1 to 32 bytes in all. A word that a grammar reserves is a name here.
-#[derive(Drop)]
+#[derive(Drop, PartialEq, Eq, PartialOrd, Ord)]
 pub struct Name {
-    text: String,
+    text: ShortText,
 }
 
 impl Model for Name {
-    ghost use Rattle.std.specs.Prelude.{ℕ, List, IsTrue, string_bytes};
+    ghost use Rattle.std.specs.Prelude.{ℕ, List, IsTrue};
     ghost use Rattle.rel_base.specs.Text.{has_name_form};
 
     ghost Value = { List ℕ };
 
-    ghost view = { λ a. string_bytes a.text };
+    ghost view = { λ a. a.text };
 
-    ghost invariant = { λ a. IsTrue (has_name_form (string_bytes a.text)) };
+    ghost invariant = { λ a. IsTrue (has_name_form a.text) };
+
+    ghost inverse = { λ bytes. record { text = bytes } };
 }
 
 impl Name {
-    /// The name, in memory of its own. It is refused exactly where the text has not the form of a name.
-    pub fn new(alloc: Global, text: &str) -> Result<Name, NameFault>
+    /// The name, which takes no memory. It is refused exactly where the text has not the form of a name.
+    pub fn new(_alloc: Global, text: &str) -> Result<Name, NameFault>
         ensures ok { IfOk result (λ made. made ≡ text.now) }
         ensures bad { IsErrOf result NameFault.Bad ↔ (has_name_form text.now ≡ false) }
     {
         if !is_name(text.as_bytes()) {
             return Err(NameFault::Bad);
         }
-        match String::from_str(alloc, text) {
-            Ok(text) => Ok(Name { text }),
-            Err(_) => Err(NameFault::NoMemory),
-        }
+        Ok(Name {
+            text: ShortText::new(text),
+        })
     }
 
     /// The characters, all of ASCII.
@@ -97,47 +93,10 @@ impl Name {
 }
 
 impl Twin for Name {
-    fn copy(&self, alloc: Global) -> Result<Self, NoMemory> {
-        let text = String::from_str(alloc, self.text.as_str())?;
-        Ok(Name { text })
-    }
-}
-
-impl PartialEq for Name {
-    ghost eq = { pointwise nat_eq };
-
-    ghost laws = { partial_equiv_from_equiv nat_list_eq_equiv };
-
-    fn eq(&self, other: &Self) -> bool {
-        self.text.as_str() == other.text.as_str()
-    }
-}
-
-impl Eq for Name {
-    ghost laws = { nat_list_eq_equiv };
-}
-
-impl PartialOrd for Name {
-    ghost partial_cmp = { as_partial_cmp (slice_cmp nat_cmp) };
-
-    ghost laws = { partial_order_from_own_ties (Prim.search (comparing, rules)) (Prim.search (comparing, rules)) };
-
-    fn partial_cmp(&self, other: &Self) -> Option<Ordering> {
-        Some(self.cmp(other))
-    }
-}
-
-impl Ord for Name {
-    ghost cmp = { slice_cmp nat_cmp };
-
-    ghost total = { nat_list_cmp_total };
-
-    ghost matches_partial_cmp = { Prim.search (comparing, rules) };
-
-    ghost matches_eq = { Prim.search (comparing, rules) };
-
-    fn cmp(&self, other: &Self) -> Ordering {
-        self.text.as_str().cmp(&other.text.as_str())
+    fn copy(&self, _alloc: Global) -> Result<Self, NoMemory> {
+        Ok(Name {
+            text: self.text.twin(),
+        })
     }
 }
 
@@ -163,35 +122,36 @@ pub fn is_id(bytes: &[u8]) -> bool
 }
 
 /// The id of a transaction: 1 to 32 bytes of `a` to `z`, `0` to `9`, `_` and `-`.
-#[derive(Drop)]
+#[derive(Drop, PartialEq, Eq, PartialOrd, Ord)]
 pub struct Id {
-    text: String,
+    text: ShortText,
 }
 
 impl Model for Id {
-    ghost use Rattle.std.specs.Prelude.{ℕ, List, IsTrue, string_bytes};
+    ghost use Rattle.std.specs.Prelude.{ℕ, List, IsTrue};
     ghost use Rattle.rel_base.specs.Text.{has_id_form};
 
     ghost Value = { List ℕ };
 
-    ghost view = { λ a. string_bytes a.text };
+    ghost view = { λ a. a.text };
 
-    ghost invariant = { λ a. IsTrue (has_id_form (string_bytes a.text)) };
+    ghost invariant = { λ a. IsTrue (has_id_form a.text) };
+
+    ghost inverse = { λ bytes. record { text = bytes } };
 }
 
 impl Id {
-    /// The id, in memory of its own. It is refused exactly where the text has not the form of an id.
-    pub fn new(alloc: Global, text: &str) -> Result<Id, NameFault>
+    /// The id, which takes no memory. It is refused exactly where the text has not the form of an id.
+    pub fn new(_alloc: Global, text: &str) -> Result<Id, NameFault>
         ensures ok { IfOk result (λ made. made ≡ text.now) }
         ensures bad { IsErrOf result NameFault.Bad ↔ (has_id_form text.now ≡ false) }
     {
         if !is_id(text.as_bytes()) {
             return Err(NameFault::Bad);
         }
-        match String::from_str(alloc, text) {
-            Ok(text) => Ok(Id { text }),
-            Err(_) => Err(NameFault::NoMemory),
-        }
+        Ok(Id {
+            text: ShortText::new(text),
+        })
     }
 
     /// The characters, all of ASCII.
@@ -204,46 +164,9 @@ impl Id {
 }
 
 impl Twin for Id {
-    fn copy(&self, alloc: Global) -> Result<Self, NoMemory> {
-        let text = String::from_str(alloc, self.text.as_str())?;
-        Ok(Id { text })
-    }
-}
-
-impl PartialEq for Id {
-    ghost eq = { pointwise nat_eq };
-
-    ghost laws = { partial_equiv_from_equiv nat_list_eq_equiv };
-
-    fn eq(&self, other: &Self) -> bool {
-        self.text.as_str() == other.text.as_str()
-    }
-}
-
-impl Eq for Id {
-    ghost laws = { nat_list_eq_equiv };
-}
-
-impl PartialOrd for Id {
-    ghost partial_cmp = { as_partial_cmp (slice_cmp nat_cmp) };
-
-    ghost laws = { partial_order_from_own_ties (Prim.search (comparing, rules)) (Prim.search (comparing, rules)) };
-
-    fn partial_cmp(&self, other: &Self) -> Option<Ordering> {
-        Some(self.cmp(other))
-    }
-}
-
-impl Ord for Id {
-    ghost cmp = { slice_cmp nat_cmp };
-
-    ghost total = { nat_list_cmp_total };
-
-    ghost matches_partial_cmp = { Prim.search (comparing, rules) };
-
-    ghost matches_eq = { Prim.search (comparing, rules) };
-
-    fn cmp(&self, other: &Self) -> Ordering {
-        self.text.as_str().cmp(&other.text.as_str())
+    fn copy(&self, _alloc: Global) -> Result<Self, NoMemory> {
+        Ok(Id {
+            text: self.text.twin(),
+        })
     }
 }
