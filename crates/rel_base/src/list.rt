@@ -174,7 +174,7 @@ impl<T: Ord + Drop> List<T> {
 
 impl<T: Twin> Twin for List<T> {
     fn copy(&self, alloc: Global) -> Result<Self, NoMemory> {
-        let mut items = Vec::new(alloc);
+        let mut items = Vec::with_capacity(alloc, self.items.len())?;
         for item in self.items.as_slice() {
             let twin = item.copy(alloc)?;
             items.push(twin)?;
