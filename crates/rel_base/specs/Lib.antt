@@ -1,4 +1,5 @@
 pub mod Text
+pub mod Held
 pub mod Value
 pub mod Row
 pub mod Schema

@@ -4,6 +4,7 @@
 pub mod access;
 pub mod blob;
 pub mod boxed;
+mod held_text;
 pub mod laws;
 pub mod list;
 pub mod memory;

@@ -4,6 +4,7 @@ ghost use Rattle.rel_base.specs.declared.value.Kind.TheVariants as kind;
 
 use super::blob::{Blob, BlobFault};
 use super::list::List;
+use super::memory::Twin;
 use super::name::{Id, Name, NameFault};
 use super::schema::{Column, TableDef};
 use super::text::{Str, StrFault};
@@ -37,6 +38,19 @@ fn texts(rt: HostRuntime) -> Result<(), Fail> {
     assert_eq!(rt; joined.as_str(), "é!");
     assert_eq!(rt; Blob::new(alloc, &[0, 255])?.as_slice().len(), 2);
     assert!(rt; matches!(Blob::new(alloc, &[7; 256]), Err(BlobFault::TooLong)));
+    Ok(())
+}
+
+#[test]
+fn texts_within_and_beyond_the_value(rt: HostRuntime) -> Result<(), Fail> {
+    let alloc = rt.alloc();
+    let within = Str::new(alloc, "thirty bytes are in the value.")?;
+    let beyond = within.join(alloc, &Str::new(alloc, "!")?)?;
+    assert_eq!(rt; within.as_str().len(), 30);
+    assert_eq!(rt; beyond.as_str(), "thirty bytes are in the value.!");
+    assert!(rt; within < beyond);
+    assert!(rt; within.copy(alloc)? == within);
+    assert!(rt; beyond.copy(alloc)? == beyond);
     Ok(())
 }
 

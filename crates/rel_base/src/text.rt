@@ -9,6 +9,7 @@ ghost use Rattle.std.specs.List.{list_all};
 ghost use Rattle.std.specs.Ordering.{nat_cmp, as_partial_cmp};
 ghost use Rattle.rel_base.specs.Text.{has_no_control};
 
+use crate::held_text::HeldText;
 use crate::memory::{NoMemory, Twin};
 use std::alloc::{AllocError, Global};
 use std::cmp::Ordering;
@@ -35,22 +36,22 @@ pub enum StrFault {
 /// A text of at most 255 bytes without a control character.
 #[derive(Drop)]
 pub struct Str {
-    text: String,
+    text: HeldText,
 }
 
 impl Model for Str {
-    ghost use Rattle.std.specs.Prelude.{ℕ, List, ◌≤◌, length, IsTrue, string_bytes};
+    ghost use Rattle.std.specs.Prelude.{ℕ, List, ◌≤◌, length, IsTrue};
     ghost use Rattle.rel_base.specs.Text.{has_no_control};
 
     ghost Value = { List ℕ };
 
-    ghost view = { λ a. string_bytes a.text };
+    ghost view = { λ a. a.text };
 
-    ghost invariant = { λ a. (length (string_bytes a.text) ≤ 255) × IsTrue (has_no_control (string_bytes a.text)) };
+    ghost invariant = { λ a. (length a.text ≤ 255) × IsTrue (has_no_control a.text) };
 }
 
 impl Str {
-    /// The text, in memory of its own. It is refused as too long above 255 bytes, and else where it has a control character.
+    /// The text, in memory of its own above 30 bytes. It is refused as too long above 255 bytes, and else where it has a control character.
     pub fn new(alloc: Global, text: &str) -> Result<Str, StrFault>
         ensures ok { IfOk result (λ made. made ≡ text.now) }
         ensures too_long { IsErrOf result StrFault.TooLong ↔ (255 < length text.now) }
@@ -62,7 +63,7 @@ impl Str {
         if !is_plain(text.as_bytes()) {
             return Err(StrFault::Control);
         }
-        match String::from_str(alloc, text) {
+        match HeldText::new(alloc, text) {
             Ok(text) => Ok(Str { text }),
             Err(_) => Err(StrFault::NoMemory),
         }
@@ -100,15 +101,14 @@ impl Str {
         if first.len() + second.len() > 255 {
             return Err(StrFault::TooLong);
         }
-        let mut text = String::from_str(alloc, first)?;
-        text.push_str(second)?;
+        let text = HeldText::joined(alloc, first, second)?;
         Ok(Str { text })
     }
 }
 
 impl Twin for Str {
     fn copy(&self, alloc: Global) -> Result<Self, NoMemory> {
-        let text = String::from_str(alloc, self.text.as_str())?;
+        let text = self.text.copy(alloc)?;
         Ok(Str { text })
     }
 }
