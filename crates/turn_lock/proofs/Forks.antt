@@ -23,6 +23,8 @@ module _ {Value Base Entry : Type 0} (base_of : Value → Base) (story_of : Valu
     base = base_of value;
     stage = Idle;
     holder = 0;
+    turn_word = 0;
+    busy = refl;
     words = refl;
     home = (value, refl, none_yet, refl);
     each = one;
@@ -91,6 +93,8 @@ module _ {Value Base Entry : Type 0} (base_of : Value → Base) (story_of : Valu
         base = r.base;
         stage = r.stage;
         holder = r.holder;
+        turn_word = r.turn_word;
+        busy = r.busy;
         words = r.words;
         home = r.home;
         each = λ j u e. ⊎_elim (λ (t : get_elem? views j ≡ some u). olds j u t) (λ (t : (length views ≡ j) × (new ≡ u)). subst (λ (x : ℕ × View Base Entry). Fits actor r.base r.story r.stage r.holder x.0 x.1) (λ i. (t.0 i, t.1 i)) new_fits) (at_end views new u j e);
@@ -156,6 +160,8 @@ module _ {Value Base Entry : Type 0} (base_of : Value → Base) (story_of : Valu
         base = r.base;
         stage = r.stage;
         holder = r.holder;
+        turn_word = r.turn_word;
+        busy = r.busy;
         words = r.words;
         home = r.home;
         each = each_set actor (Fits actor r.base r.story r.stage r.holder) views other gone

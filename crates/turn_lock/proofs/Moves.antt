@@ -1,20 +1,19 @@
--- The steps of kinds 1 to 6 keep the rule of the lock and tell what they are said to tell.
-use Rattle.std.proofs.Common.{◌≡◌, ◌≢◌, ℕ, ◌+◌, eqb, true, List, [], ◌∷◌, ◌++◌, length, set, get_or, All, Option, Some, None, refl, sym, ap, ◌∙◌, subst, inl, inr, arith, length-set}
+-- The steps of kinds 2 to 6 keep the rule of the lock and tell what they are said to tell.
+use Rattle.std.proofs.Common.{◌≡◌, ◌≢◌, ℕ, ◌+◌, true, List, [], ◌∷◌, ◌++◌, length, set, get_or, All, Option, Some, None, refl, sym, ap, ◌∙◌, subst, inr, arith, length-set}
 use mathlib.Core.Option.{none, some, some-injective}
 use mathlib.Core.List.{IsPrefix}
-use prog.Atomic.{either}
 use lib.ListN.{get_elem?}
-use Rattle.atomic_table.specs.Table.{State, Me, Act, Valid, carried_after, keeps, takes, gives, put_back, stepped, Allows}
-use Rattle.atomic_table.proofs.Lists.{set_again, set_here}
+use Rattle.atomic_table.specs.Table.{State, Me, keeps, takes, gives, put_back, Allows}
+use Rattle.atomic_table.proofs.Lists.{set_here}
 use Rattle.rel_base.specs.Stories.{entries_of}
 use Rattle.rel_base.proofs.Stories.{entries_grown, entries_kept, prefix_self, prefix_trans}
 use Rattle.turn_lock.specs.declared.rule.Stage.{Stage}
 use Rattle.turn_lock.specs.declared.rule.Stage.TheVariants.{Idle, Entered, Ready, Out}
 use Rattle.turn_lock.specs.declared.rule.View.{View}
 use Rattle.turn_lock.specs.Views.{one_if, after_look, at_stage, published_view, looked_view}
-use Rattle.turn_lock.specs.Rule.{busy_word, KnowsTurn, Lives, Fits, Home, TurnRule}
-use Rattle.turn_lock.specs.Steps.{Entering, TakingOut, PuttingBack, Publishing, Leaving, Looking}
-use Rattle.turn_lock.proofs.Seats.{at_bound, fits_other, each_set, first_set, first_looked, whole_set, whole_here, some_live, holder_set, knows_idle}
+use Rattle.turn_lock.specs.Rule.{TurnWord, KnowsTurn, Fits, Home, TurnRule}
+use Rattle.turn_lock.specs.Steps.{TakingOut, PuttingBack, Publishing, Leaving, Looking}
+use Rattle.turn_lock.proofs.Seats.{at_bound, fits_other, each_set, first_set, first_looked, whole_set, whole_here, some_live, holder_set, knows_idle, lives_on}
 
 append_cancel : {A : Type 0} (xs ys zs : List A) → xs ++ ys ≡ xs ++ zs → ys ≡ zs
 append_cancel [] ys zs e = e
@@ -30,64 +29,7 @@ slot_value default [] = default
 slot_value default (slot ∷ slots) = value_or default slot.1
 
 module _ {Value Base Entry : Type 0} (base_of : Value → Base) (story_of : Value → List Entry) (actor : Entry → ℕ) where
-  -- a step that changes nothing
-  unmoved : (s : State (Option Value) (View Base Entry)) → TurnRule base_of story_of actor s → (ws : List ℕ) (id : ℕ) (view : View Base Entry) → get_elem? s.views id ≡ some view → ws ≡ s.words
-      → TurnRule base_of story_of actor record { words = ws; homes = s.homes; views = set s.views id view }
-  unmoved s r ws id view at e = subst (λ (x : List ℕ × List (View Base Entry)). TurnRule base_of story_of actor record { words = x.0; homes = s.homes; views = x.1 }) (λ i. (sym e i, sym (set_again s.views id view at) i)) r
-
   module _ (slots id : ℕ) (me : Me (Option Value) (View Base Entry)) where
-    -- what a pass shows stays, where it comes to another stage of its turn
-    lives_on : (base : Base) (story : List Entry) (stage : Stage) → Lives actor base story id me.0 → Lives actor base story id (at_stage stage me.0)
-    lives_on base story stage own = record { number_is = own.number_is; base_is = own.base_is; all_mine = own.all_mine; all_seen = own.all_seen }
-
-    enter_free : (s : State (Option Value) (View Base Entry)) (r : TurnRule base_of story_of actor s) → me.0.live ≡ true → get_elem? s.views id ≡ some me.0 → r.stage ≡ Idle
-        → TurnRule base_of story_of actor (stepped s 0 (either (eqb (get_or s.words 0 0) 0) 1 (get_or s.words 0 0)) id me.1 (at_stage Entered me.0) keeps)
-    enter_free s r live at is =
-        let view : View Base Entry = me.0 in
-        let new : View Base Entry = at_stage Entered view in
-        let fits = r.each id view at in
-        let n = length-set s.views id new in record {
-          story = r.story;
-          base = r.base;
-          stage = Entered;
-          holder = id;
-          words = ap (λ ws. set ws 0 (either (eqb (get_or ws 0 0) 0) 1 (get_or ws 0 0))) r.words ∙ ap (λ z. either (eqb (busy_word z) 0) 1 (busy_word z) ∷ length r.story ∷ []) is;
-          home = subst (Home base_of story_of r.base r.story s.homes) is r.home;
-          each = each_set actor (Fits actor r.base r.story Entered id) s.views id new
-              (record { turn = (refl, refl, live); front = fits.front; heard = fits.heard; lives = λ _. lives_on r.base r.story Entered (fits.lives live) })
-              (λ j u apart e. fits_other actor r.base r.story r.story r.stage Entered r.holder id j u (inl is) apart (prefix_self r.story) refl (r.each j u e));
-          held = (new, set_here s.views id new (at_bound s.views id view at), refl);
-          whole = whole_set actor r.story s.views id view new at refl refl refl r.whole;
-          first = first_set actor s.views id view new at refl refl refl refl r.first;
-          others = λ k l. r.others k (omega arith);
-        }
-
-    enter_busy : (s : State (Option Value) (View Base Entry)) (r : TurnRule base_of story_of actor s) → get_elem? s.views id ≡ some me.0 → busy_word r.stage ≡ 1
-        → TurnRule base_of story_of actor (stepped s 0 (either (eqb (get_or s.words 0 0) 0) 1 (get_or s.words 0 0)) id me.1 me.0 keeps)
-    enter_busy s r at busy = unmoved s r _ id me.0 at
-        (ap (λ ws. set ws 0 (either (eqb (get_or ws 0 0) 0) 1 (get_or ws 0 0))) r.words ∙ (ap (λ (b : ℕ). either (eqb b 0) 1 b ∷ length r.story ∷ []) busy ∙ (ap (λ (b : ℕ). b ∷ length r.story ∷ []) (sym busy) ∙ sym r.words)))
-
-    -- what the first step may do in a table
-    abbrev EntersIn : State (Option Value) (View Base Entry) → Type 0
-    EntersIn s = (w : View Base Entry) × (a : Act (Option Value)) × Valid s.homes me.1 a
-        × TurnRule base_of story_of actor (stepped s 0 (either (eqb (get_or s.words 0 0) 0) 1 (get_or s.words 0 0)) id me.1 w a) × Entering me (get_or s.words 0 0) (w, carried_after me.1 a)
-
-    -- kind 1
-    pub enters : me.0.live ≡ true → Allows (TurnRule base_of story_of actor) slots id me 0 (λ n. either (eqb n 0) 1 n) (Entering me)
-    enters live s r _ at _ = by_stage r.stage refl
-      where
-        word : get_or s.words 0 0 ≡ busy_word r.stage
-        word = ap (λ ws. get_or ws 0 0) r.words
-
-        busy_at : busy_word r.stage ≡ 1 → EntersIn s
-        busy_at busy = (me.0, keeps, tt, enter_busy s r at busy, record { got = λ z. let one = word ∙ busy in absurd (omega arith); missed = λ _. refl; slots = refl })
-
-        by_stage : (stage : Stage) → r.stage ≡ stage → EntersIn s
-        by_stage Idle is = (at_stage Entered me.0, keeps, tt, enter_free s r live at is, record { got = λ _. refl; missed = λ ne. absurd (ne (word ∙ ap busy_word is)); slots = refl })
-        by_stage Entered is = busy_at (ap busy_word is)
-        by_stage Ready is = busy_at (ap busy_word is)
-        by_stage Out is = busy_at (ap busy_word is)
-
     -- kind 2
     pub takes_out : me.0.live ≡ true → me.0.stage ≡ Ready → Allows (TurnRule base_of story_of actor) slots id me 0 (λ n. n) (λ _. TakingOut base_of story_of me)
     takes_out live ready s r _ at _ =
@@ -106,10 +48,12 @@ module _ {Value Base Entry : Type 0} (base_of : Value → Base) (story_of : Valu
             base = r.base;
             stage = Out;
             holder = id;
-            words = ap (λ ws. set ws 0 (get_or ws 0 0)) r.words ∙ ap (λ z. busy_word z ∷ length r.story ∷ []) k.1;
+            turn_word = r.turn_word;
+            busy = subst (λ (z : Stage). TurnWord z r.turn_word) k.1 r.busy;
+            words = ap (λ ws. set ws 0 (get_or ws 0 0)) r.words;
             home = ap (λ l. set l 0 none) home.1;
             each = each_set actor (Fits actor r.base r.story Out id) s.views id new
-                (record { turn = (refl, refl, live, k.3); front = fits.front; heard = fits.heard; lives = λ _. lives_on r.base r.story Out own })
+                (record { turn = (refl, refl, live, k.3); front = fits.front; heard = fits.heard; lives = λ _. lives_on actor id view r.base r.story Out own })
                 (λ j u apart e. fits_other actor r.base r.story r.story r.stage Out r.holder id j u (inr (sym k.0)) apart (prefix_self r.story) refl (r.each j u e));
             held = (new, set_here s.views id new (at_bound s.views id view at), refl);
             whole = whole_set actor r.story s.views id view new at refl refl refl r.whole;
@@ -138,10 +82,12 @@ module _ {Value Base Entry : Type 0} (base_of : Value → Base) (story_of : Valu
             base = r.base;
             stage = Ready;
             holder = id;
-            words = ap (λ ws. set ws 0 (get_or ws 0 0)) r.words ∙ ap (λ z. busy_word z ∷ length r.story ∷ []) k.1;
+            turn_word = r.turn_word;
+            busy = subst (λ (z : Stage). TurnWord z r.turn_word) k.1 r.busy;
+            words = ap (λ ws. set ws 0 (get_or ws 0 0)) r.words;
             home = (value, (λ i. put_back (home i) (hand i)), same ∙ k.3, cc (base, own.base_is));
             each = each_set actor (Fits actor r.base r.story Ready id) s.views id new
-                (record { turn = (refl, refl, live, k.3); front = fits.front; heard = fits.heard; lives = λ _. lives_on r.base r.story Ready own })
+                (record { turn = (refl, refl, live, k.3); front = fits.front; heard = fits.heard; lives = λ _. lives_on actor id view r.base r.story Ready own })
                 (λ j u apart e. fits_other actor r.base r.story r.story r.stage Ready r.holder id j u (inr (sym k.0)) apart (prefix_self r.story) refl (r.each j u e));
             held = (new, set_here s.views id new (at_bound s.views id view at), refl);
             whole = whole_set actor r.story s.views id view new at refl refl refl r.whole;
@@ -177,7 +123,9 @@ module _ {Value Base Entry : Type 0} (base_of : Value → Base) (story_of : Valu
             base = r.base;
             stage = Out;
             holder = id;
-            words = ap (λ ws. set ws 1 long) r.words ∙ (λ i. busy_word (k.1 i) ∷ is_long i ∷ []);
+            turn_word = r.turn_word;
+            busy = subst (λ (z : Stage). TurnWord z r.turn_word) k.1 r.busy;
+            words = ap (λ ws. set ws 1 long) r.words ∙ (λ i. r.turn_word ∷ is_long i ∷ []);
             home = home;
             each = each_set actor (Fits actor r.base story' Out id) s.views id new
                 (record {
@@ -214,10 +162,12 @@ module _ {Value Base Entry : Type 0} (base_of : Value → Base) (story_of : Valu
             base = r.base;
             stage = Idle;
             holder = id;
+            turn_word = 0;
+            busy = refl;
             words = ap (λ ws. set ws 0 0) r.words;
             home = subst (Home base_of story_of r.base r.story s.homes) k.1 r.home;
             each = each_set actor (Fits actor r.base r.story Idle id) s.views id new
-                (record { turn = tt; front = fits.front; heard = fits.heard; lives = λ _. lives_on r.base r.story Idle (fits.lives live) })
+                (record { turn = tt; front = fits.front; heard = fits.heard; lives = λ _. lives_on actor id view r.base r.story Idle (fits.lives live) })
                 (λ j u apart e. fits_other actor r.base r.story r.story r.stage Idle r.holder id j u (inr (sym k.0)) apart (prefix_self r.story) refl (r.each j u e));
             held = tt;
             whole = whole_set actor r.story s.views id view new at refl refl refl r.whole;
@@ -266,6 +216,8 @@ module _ {Value Base Entry : Type 0} (base_of : Value → Base) (story_of : Valu
             base = r.base;
             stage = r.stage;
             holder = r.holder;
+            turn_word = r.turn_word;
+            busy = r.busy;
             words = ap (λ ws. set ws 1 (get_or ws 1 0)) r.words;
             home = r.home;
             each = each_set actor (Fits actor r.base r.story r.stage r.holder) s.views id new
@@ -302,7 +254,9 @@ module _ {Value Base Entry : Type 0} (base_of : Value → Base) (story_of : Valu
             base = r.base;
             stage = Ready;
             holder = id;
-            words = ap (λ ws. set ws 1 (get_or ws 1 0)) r.words ∙ ap (λ z. busy_word z ∷ length r.story ∷ []) k.1;
+            turn_word = r.turn_word;
+            busy = subst (λ (z : Stage). TurnWord z r.turn_word) k.1 r.busy;
+            words = ap (λ ws. set ws 1 (get_or ws 1 0)) r.words;
             home = subst (Home base_of story_of r.base r.story s.homes) k.1 r.home;
             each = each_set actor (Fits actor r.base r.story Ready id) s.views id new
                 (record {

@@ -11,8 +11,8 @@ use Rattle.rel_base.proofs.Stories.{prefix_trans, prefix_of_nil}
 use Rattle.turn_lock.specs.declared.rule.Stage.{Stage}
 use Rattle.turn_lock.specs.declared.rule.Stage.TheVariants.{Idle, Entered, Ready, Out}
 use Rattle.turn_lock.specs.declared.rule.View.{View}
-use Rattle.turn_lock.specs.Views.{one_if}
-use Rattle.turn_lock.specs.Rule.{KnowsTurn, Fits, HasHolder, Whole, First, count_live}
+use Rattle.turn_lock.specs.Views.{one_if, at_stage}
+use Rattle.turn_lock.specs.Rule.{KnowsTurn, Lives, Fits, HasHolder, Whole, First, count_live}
 
 -- a place that has an element is below the length
 pub at_bound : {A : Type 0} (l : List A) (i : ℕ) (a : A) → get_elem? l i ≡ some a → i < length l
@@ -192,3 +192,7 @@ module _ {Base Entry : Type 0} (actor : Entry → ℕ) where
   -- an idle pass knows nothing of the turn
   pub knows_idle : (story : List Entry) (stage : Stage) (holder id : ℕ) (view : View Base Entry) → view.stage ≡ Idle → KnowsTurn story stage holder id view view.stage
   knows_idle story stage holder id view idle = subst (KnowsTurn story stage holder id view) (sym idle) tt
+
+  -- what a pass shows stays, where it comes to another stage of its turn
+  pub lives_on : (id : ℕ) (view : View Base Entry) (base : Base) (story : List Entry) (stage : Stage) → Lives actor base story id view → Lives actor base story id (at_stage stage view)
+  lives_on id view base story stage own = record { number_is = own.number_is; base_is = own.base_is; all_mine = own.all_mine; all_seen = own.all_seen }

@@ -1,6 +1,6 @@
 -- The rule of a lock: what holds of its table between any two atomic steps, whoever makes them.
--- Word 0 is 1 while a pass has the turn. Word 1 is the length of the story. The one slot has the value while nobody has it out. A pass's number is the place of its view.
-use Rattle.std.specs.Prelude.{◌≡◌, ℕ, ◌+◌, ◌≤◌, ◌⊎◌, true, List, [], ◌∷◌, length, Option, Some}
+-- Word 0 is not 0 exactly while a pass has the turn: 1, or 2 where somebody may sleep until it ends. Word 1 is the length of the story. The one slot has the value while nobody has it out. A pass's number is the place of its view.
+use Rattle.std.specs.Prelude.{◌≡◌, ℕ, ◌+◌, ◌<◌, ◌≤◌, ◌⊎◌, true, List, [], ◌∷◌, length, Option, Some}
 use mathlib.Core.Option.{none, some}
 use mathlib.Core.Option as maybe
 use mathlib.Core.List.{IsPrefix}
@@ -12,12 +12,12 @@ use Rattle.turn_lock.specs.declared.rule.Stage.{Stage}
 use Rattle.turn_lock.specs.declared.rule.Stage.TheVariants.{Idle, Entered, Ready, Out}
 use Rattle.turn_lock.specs.declared.rule.View.{View}
 
--- word 0 while the turn is at a stage: 0 exactly where nobody has the turn
-abbrev pub busy_word : Stage → ℕ
-busy_word Idle = 0
-busy_word Entered = 1
-busy_word Ready = 1
-busy_word Out = 1
+-- what word 0 may be while the turn is at a stage: 0 exactly where nobody has the turn
+abbrev pub TurnWord : Stage → ℕ → Type 0
+TurnWord Idle word = word ≡ 0
+TurnWord Entered word = 0 < word
+TurnWord Ready word = 0 < word
+TurnWord Out word = 0 < word
 
 -- What a pass knows of the turn by its own stage: nothing where it is idle. Else the turn is its own and at that stage, and from its look at the length on it has seen the whole story
 module _ {Base Entry : Type 0} (story : List Entry) (stage : Stage) (holder number : ℕ) (view : View Base Entry) where
@@ -41,7 +41,7 @@ pub record Fits {Base Entry : Type 0} (actor : Entry → ℕ) (base : Base) (sto
   pub heard : IsPrefix view.told story
   pub lives : view.live ≡ true → Lives actor base story number view
 
--- the holder's view stands at the stage of the turn, so word 0 is 1 only where some pass has the turn
+-- the holder's view stands at the stage of the turn, so word 0 is not 0 only where some pass has the turn
 module _ {Base Entry : Type 0} (holder : ℕ) (views : List (View Base Entry)) where
   abbrev pub HasHolder : Stage → Type 0
   HasHolder Idle = Unit {0}
@@ -87,7 +87,9 @@ pub record TurnRule {Value Base Entry : Type 0} (base_of : Value → Base) (stor
   pub base : Base
   pub stage : Stage
   pub holder : ℕ
-  pub words : state.words ≡ busy_word stage ∷ length story ∷ []
+  pub turn_word : ℕ
+  pub busy : TurnWord stage turn_word
+  pub words : state.words ≡ turn_word ∷ length story ∷ []
   pub home : Home base_of story_of base story state.homes stage
   pub each : (number : ℕ) (view : View Base Entry) → get_elem? state.views number ≡ some view → Fits actor base story stage holder number view
   pub held : HasHolder holder state.views stage

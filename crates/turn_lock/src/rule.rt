@@ -1,4 +1,4 @@
-// What a pass knows, the rule of the table, and the eight kinds of atomic step.
+// What a pass knows, the rule of the table, and the nine kinds of atomic step.
 use atomic_table::{Join, Play, Split, TableRule};
 use rel_base::Storied;
 use std::collections::LinkedList;
@@ -40,8 +40,8 @@ pub struct View<B, E> {
     pub left: u32,
 }
 
-/// The table of a lock: word 0 is 1 while a pass has the turn, word 1 is the length of the story, and the one slot has
-/// the value.
+/// The table of a lock: word 0 is not 0 while a pass has the turn, word 1 is the length of the story, and the one slot
+/// has the value.
 pub struct TurnTable;
 
 impl<S: Storied> TableRule<Option<S>, View<S::Base, S::Entry>, Snapshot<S>> for TurnTable {
@@ -53,7 +53,7 @@ impl<S: Storied> TableRule<Option<S>, View<S::Base, S::Entry>, Snapshot<S>> for 
     ghost first = { λ k. first_view (S.base k.value) };
 }
 
-/// Kind 1: word 0 goes from 0 to 1, which gets the turn, or stays as it is.
+/// Kind 1: word 0 goes from 0 to another number, which gets the turn, or stays as it is.
 pub struct Enter;
 
 impl<S: Storied> Play<Option<S>, View<S::Base, S::Entry>> for Enter {
@@ -105,6 +105,15 @@ impl<S: Storied> Play<Option<S>, View<S::Base, S::Entry>> for Look {
     ghost use Rattle.turn_lock.specs.Steps.{Looking};
 
     ghost then = { λ _ before found after. Looking S.actor before found after };
+}
+
+/// Kind 9: word 0 goes from 1 to 2, which says that a thread may sleep until the turn ends, or stays as it is.
+pub struct Mark;
+
+impl<S: Storied> Play<Option<S>, View<S::Base, S::Entry>> for Mark {
+    ghost use Rattle.turn_lock.specs.Steps.{Marking};
+
+    ghost then = { λ _ before _ after. Marking before after };
 }
 
 /// Kinds 7 and 8: a pass is split off, and joined.

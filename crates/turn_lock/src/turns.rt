@@ -1,4 +1,13 @@
 // The calls of the lock, each a few atomic steps of its table.
+//
+// Why no thread sleeps for ever while the turn is free. A thread lies down only where word 0 is AWAITED at that moment: the
+// system compares the word and puts the thread to sleep in one step. The word leaves AWAITED only by a `give`, which then
+// wakes a thread that sleeps, if there is one. Who was woken can't know whether others sleep too. So a pass that has once
+// decided to sleep either gets the turn as AWAITED, and then its own `give` wakes the next one, or it finds the turn taken,
+// and leaves the word as AWAITED before it lies down again, and then the `give` of that turn wakes one. So while a thread
+// sleeps, the word is AWAITED, or a `give` that found AWAITED is about to wake one, or a pass that has decided to sleep is
+// awake and on its way to the one or the other; each of the three lasts until the next holds. A pass that has not decided
+// to sleep gets the turn as TAKEN, and only where the word was FREE, so that it never hides an AWAITED.
 ghost use Rattle.std.specs.Prelude.{◌≡◌, ◌+◌, ◌-◌, ◌<◌, ◌^◌, [], ◌++◌, length, Some, IfOk};
 ghost use mathlib.Core.List.{IsPrefix};
 ghost use Rattle.rel_base.specs.Stories.{entries_of, AddsOwn};
@@ -6,22 +15,33 @@ ghost use Rattle.turn_lock.specs.Passes.{IsPassOf, pass_number, pass_base, seen,
 
 use crate::lock::TurnLock;
 use crate::pass::Pass;
-use crate::rule::{Enter, Fork, Leave, Look, Publish, PutBack, TakeOut};
+use crate::rule::{Enter, Fork, Leave, Look, Mark, Publish, PutBack, TakeOut};
 use atomic_table::Table;
 use rel_base::{NoMemory, Storied};
 use std::alloc::Global;
+use std::hint::spin_loop;
 use std::snapshot::Snapshot;
 use std::sync::Wait;
 use std::thread;
 
-// Word 0 of the table is 1 while a pass has the turn.
+// Word 0 of the table is FREE while no pass has the turn, and else TAKEN, or AWAITED where a thread may sleep until the
+// turn ends.
 const TURN: usize = 0;
+
+const FREE: u64 = 0;
+
+const TAKEN: u64 = 1;
+
+const AWAITED: u32 = 2;
 
 // Word 1 of the table is the length of the story.
 const LENGTH: usize = 1;
 
-// How often a pass looks whether the turn is over before its thread sleeps.
-const LOOKS_BEFORE_SLEEP: u32 = 8;
+// How often a pass looks whether the turn is over before its thread sleeps. A turn takes a few of these looks.
+const LOOKS_BEFORE_SLEEP: u32 = 104;
+
+// Before so many of the last looks the thread lets others run, since the one that has the turn may wait for a processor.
+const YIELDS_BEFORE_SLEEP: u32 = 4;
 
 impl<S: Storied> Pass<S> {
     /// The number of the pass. The entries of that number in what the pass has seen are its own.
@@ -54,6 +74,22 @@ impl<S: Storied> TurnLock<S> {
         Ok((TurnLock { table }, pass))
     }
 
+    // Looks until the turn is free, at most as often as it is told: how many looks are left. Another pass may have the turn
+    // by then, so it promises nothing.
+    fn look_out(&self, looks: u32) -> u32 {
+        for left in (0..looks).rev() {
+            if self.table.shared.peek(TURN) == FREE {
+                return left;
+            }
+            if left < YIELDS_BEFORE_SLEEP {
+                thread::yield_now();
+            } else {
+                spin_loop();
+            }
+        }
+        0
+    }
+
     /// Begins a turn: the value, whose story begins with all that the pass had seen. It waits while another pass has the
     /// turn, asleep after a few looks.
     pub fn take<R: Wait>(&self, rt: &R, pass: &mut Pass<S>) -> S
@@ -68,9 +104,10 @@ impl<S: Storied> TurnLock<S> {
         ensures own { entries_of S.actor (pass_number pass.old) (S.story result) ≡ mine pass.old }
     {
         let shared = &self.table.shared;
-        let mut tries = 0;
+        let mut looks = LOOKS_BEFORE_SLEEP;
+        let mut taken = TAKEN;
         for _ in rt.forever() {
-            if shared.compare_exchange::<Enter>(&mut pass.seat, TURN, 0, 1) == 0 {
+            if shared.compare_exchange::<Enter>(&mut pass.seat, TURN, FREE, taken) == FREE {
                 shared.load::<Look>(&mut pass.seat, LENGTH);
                 shared.load::<TakeOut>(&mut pass.seat, TURN);
                 match shared.exchange(&mut pass.seat, 0, None) {
@@ -78,12 +115,13 @@ impl<S: Storied> TurnLock<S> {
                     None => unreachable!(),
                 }
             }
-            // a turn is short, so that a look or two more mostly finds it over; after that the thread sleeps until a turn ends
-            if tries < LOOKS_BEFORE_SLEEP {
-                tries += 1;
-                thread::yield_now();
-            } else {
-                shared.park(rt, TURN, 1);
+            // a turn is short, so that a few looks mostly find it over
+            looks = self.look_out(looks);
+            if looks == 0 {
+                taken = AWAITED as u64;
+                if shared.compare_exchange::<Mark>(&mut pass.seat, TURN, TAKEN, taken) != FREE {
+                    shared.park(rt, TURN, AWAITED);
+                }
             }
         }
         unreachable!()
@@ -107,8 +145,15 @@ impl<S: Storied> TurnLock<S> {
         shared.exchange(&mut pass.seat, 0, Some(state));
         shared.store::<Publish>(&mut pass.seat, LENGTH, length);
         shared.load::<PutBack>(&mut pass.seat, TURN);
-        shared.store::<Leave>(&mut pass.seat, TURN, 0);
-        shared.wake_one(TURN);
+        let ended = shared.swap::<Leave>(&mut pass.seat, TURN, FREE);
+        self.wake_next(ended);
+    }
+
+    // Wakes a thread that sleeps, where the turn that ended was awaited. Mostly none is, and then the system isn't called.
+    fn wake_next(&self, ended: u64) {
+        if ended == AWAITED as u64 {
+            self.table.shared.wake_one(TURN);
+        }
     }
 
     /// A new pass for another caller, which has seen what this one has. Only the pass with number 0 splits.

@@ -44,8 +44,8 @@ load-requires g c =
           (ap (λ v. v.base) told.1 ∙ (ap (λ v. v.base) view ∙ (some_base _ p.based ∙ ap Some (sym c.requires.base)))),
     )
 
-pub store-requires-2 : goal.store-requires-2
-store-requires-2 g c =
+pub swap-ended-requires : goal.swap-ended-requires
+swap-ended-requires g c =
     let p = c.args.pass.now.stands in
     let view : c.exchange.new.seat.me.0 ≡ c.args.pass.now.seat.me.0 = ap (λ m. m.0) c.exchange.ensures.3 in
     let hand : c.exchange.new.seat.me.1 ≡ (0, Some c.args.state) ∷ [] = ap (λ m. m.1) c.exchange.ensures.3 ∙ ap (λ l. (0, Some c.args.state) ∷ rest l) (p.slots ∙ ap slots_of c.requires.turn) in
@@ -61,7 +61,7 @@ pub invariant_of-pass : goal.invariant_of-pass
 invariant_of-pass g c =
     let p = c.args.pass.now.stands in
     let news = c.requires.story.0 in
-    let all = gives_all g.S.Storied.story c.args.pass.now.seat.me c.exchange.new.seat.me c.store.new.seat.me c.load.new.seat.me c.store-2.new.seat.me c.args.state news p.slots c.requires.turn c.exchange.ensures.3 c.requires.story.1 c.store.ensures.2 c.load.ensures.2 c.store-2.ensures.2 in
+    let all = gives_all g.S.Storied.story c.args.pass.now.seat.me c.exchange.new.seat.me c.store.new.seat.me c.load.new.seat.me c.swap-ended.new.seat.me c.args.state news p.slots c.requires.turn c.exchange.ensures.3 c.requires.story.1 c.store.ensures.2 c.load.ensures.2 c.swap-ended.ensures.2 in
     let grown = entries_grown g.S.Storied.actor c.args.pass.now.number c.args.pass.now.seat.me.0.seen news c.args.pass.now.seat.me.0.mine (g.S.Storied.story c.args.state) c.requires.story.1 c.requires.story.2 p.own in record {
       stands = record {
         slots = all.0 ∙ ap slots_of (sym (ap (λ v. v.stage) all.1));
@@ -80,8 +80,8 @@ pub returns-clause-same : goal.returns-clause-same
 returns-clause-same g c =
     let p = c.args.pass.now.stands in
     let news = c.requires.story.0 in
-    let all = gives_all g.S.Storied.story c.args.pass.now.seat.me c.exchange.new.seat.me c.store.new.seat.me c.load.new.seat.me c.store-2.new.seat.me c.args.state news p.slots c.requires.turn c.exchange.ensures.3 c.requires.story.1 c.store.ensures.2 c.load.ensures.2 c.store-2.ensures.2 in record {
-      same_lock = c.store-2.ensures.0 ∙ (c.load.ensures.0 ∙ (c.store.ensures.0 ∙ c.exchange.ensures.0));
+    let all = gives_all g.S.Storied.story c.args.pass.now.seat.me c.exchange.new.seat.me c.store.new.seat.me c.load.new.seat.me c.swap-ended.new.seat.me c.args.state news p.slots c.requires.turn c.exchange.ensures.3 c.requires.story.1 c.store.ensures.2 c.load.ensures.2 c.swap-ended.ensures.2 in record {
+      same_lock = c.swap-ended.ensures.0 ∙ (c.load.ensures.0 ∙ (c.store.ensures.0 ∙ c.exchange.ensures.0));
       same_number = search rules;
       same_base = same_base _ _ _ _ (ap (λ v. v.base) all.1);
       same_made = ap (λ v. v.made) all.1;
@@ -91,17 +91,17 @@ returns-clause-same g c =
 pub returns-clause-seen : goal.returns-clause-seen
 returns-clause-seen g c =
     let p = c.args.pass.now.stands in
-    let all = gives_all g.S.Storied.story c.args.pass.now.seat.me c.exchange.new.seat.me c.store.new.seat.me c.load.new.seat.me c.store-2.new.seat.me c.args.state c.requires.story.0 p.slots c.requires.turn c.exchange.ensures.3 c.requires.story.1 c.store.ensures.2 c.load.ensures.2 c.store-2.ensures.2 in
+    let all = gives_all g.S.Storied.story c.args.pass.now.seat.me c.exchange.new.seat.me c.store.new.seat.me c.load.new.seat.me c.swap-ended.new.seat.me c.args.state c.requires.story.0 p.slots c.requires.turn c.exchange.ensures.3 c.requires.story.1 c.store.ensures.2 c.load.ensures.2 c.swap-ended.ensures.2 in
     ap (λ v. v.seen) all.1
 
 pub returns-clause-mine : goal.returns-clause-mine
 returns-clause-mine g c = λ news grown.
     let p = c.args.pass.now.stands in
-    let all = gives_all g.S.Storied.story c.args.pass.now.seat.me c.exchange.new.seat.me c.store.new.seat.me c.load.new.seat.me c.store-2.new.seat.me c.args.state news p.slots c.requires.turn c.exchange.ensures.3 grown c.store.ensures.2 c.load.ensures.2 c.store-2.ensures.2 in
+    let all = gives_all g.S.Storied.story c.args.pass.now.seat.me c.exchange.new.seat.me c.store.new.seat.me c.load.new.seat.me c.swap-ended.new.seat.me c.args.state news p.slots c.requires.turn c.exchange.ensures.3 grown c.store.ensures.2 c.load.ensures.2 c.swap-ended.ensures.2 in
     ap (λ v. v.mine) all.1
 
 pub returns-clause-no_news : goal.returns-clause-no_news
 returns-clause-no_news g c = λ same.
     let p = c.args.pass.now.stands in
-    let all = gives_all g.S.Storied.story c.args.pass.now.seat.me c.exchange.new.seat.me c.store.new.seat.me c.load.new.seat.me c.store-2.new.seat.me c.args.state [] p.slots c.requires.turn c.exchange.ensures.3 (same ∙ sym (append-nil _)) c.store.ensures.2 c.load.ensures.2 c.store-2.ensures.2 in
+    let all = gives_all g.S.Storied.story c.args.pass.now.seat.me c.exchange.new.seat.me c.store.new.seat.me c.load.new.seat.me c.swap-ended.new.seat.me c.args.state [] p.slots c.requires.turn c.exchange.ensures.3 (same ∙ sym (append-nil _)) c.store.ensures.2 c.load.ensures.2 c.swap-ended.ensures.2 in
     ap (λ v. v.mine) all.1 ∙ append-nil _
