@@ -2,3 +2,5 @@ pub mod Kept
 pub mod Overlay
 pub mod Versions
 pub mod Lifespans
+pub mod Log
+pub mod Watched

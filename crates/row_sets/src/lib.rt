@@ -1,7 +1,9 @@
-//! Sets of rows that grow by writes: what stores of committed versions promise, and a transaction's own writes.
+//! Sets of rows that grow by writes: what stores of committed versions promise, the log that they keep, and a transaction's own writes.
 #![tactic(auto)]
 
 pub mod cover;
+pub mod entry;
+pub mod hits;
 pub mod merge;
 pub mod net;
 pub mod overlay;
@@ -10,6 +12,8 @@ pub mod table_writes;
 mod tests;
 pub mod versions;
 
+pub use entry::Entry;
+pub use hits::Watch;
 pub use overlay::Overlay;
 pub use table_writes::OwnWrite;
 pub use versions::{HitRef, Lifespan, Versions};

@@ -1,28 +1,29 @@
 -- The least write that a read hits, from the last write back.
-use Rattle.std.proofs.Common.{◌≡◌, ◌∙◌, ℕ, suc, zero, ◌<◌, arith, List, [], ◌∷◌, Bool, true, false, ◌&&◌, ◌==◌, cond, Option, Some, None, refl, ap, sym, subst, All, slice_get, drop, length, nat_le, nat_lt}
+use Rattle.std.proofs.Common.{◌≡◌, ◌∙◌, ℕ, suc, zero, ◌<◌, arith, List, [], ◌∷◌, Bool, true, false, ◌&&◌, ◌==◌, cond, Option, Some, None, refl, ap, sym, subst, All, slice_get, drop, length, nat_le, nat_lt, ◌⊎◌, inl, inr}
 use Rattle.std.specs.List.{filter}
 use Rattle.std.specs.Option.{IfSome, IsSomeAnd, option_map}
 use Rattle.std.specs.Ordering.{is_gt}
 use Rattle.std.proofs.lemmas.List.Elements.{All-head, All-tail}
+use Rattle.std.proofs.lemmas.Bool.Decides.{Decides-eqb}
 use Rattle.rel_base.specs.declared.access.Read.{Read}
 use Rattle.rel_base.specs.declared.schema.TableDef.{TableDef}
 use Rattle.rel_base.specs.Access.{read_table, hits_write}
 use Rattle.rel_base.specs.Late.{least, least_hit, lesser, stamp_cmp, where_declared}
 use Rattle.rel_base.specs.Tables.{Stamped, writes_between}
-use Rattle.std.proofs.Common.{◌⊎◌, inl, inr}
-use Rattle.std.proofs.lemmas.Bool.Decides.{Decides-eqb}
-use Rattle.rel_base.specs.declared.access.Write.{Write}
 use Rattle.rel_base.proofs.Bits.{first_true}
 use Rattle.row_sets.proofs.Histories.{drop_next, unwrapped}
-use Rattle.version_store.specs.declared.committed.Committed.{Committed}
+use Rattle.row_sets.specs.declared.entry.Entry.{Entry}
+use Rattle.row_sets.specs.Log.{history_of, stamped_of}
+use Rattle.row_sets.specs.Watched.{is_watched}
+use Rattle.row_sets.specs.declared.hits.Watch.{Watch}
 use Rattle.version_store.specs.Hits.{least_of, lesser_hit}
-use Rattle.version_store.specs.Log.{IsOfTable, history_of, stamped_of, write_of}
+use Rattle.version_store.specs.Log.{IsOfTable, write_of}
 
 -- the committed write of a number
-pub get_history : (log : List Committed) (number : ℕ) (committed : Committed) → slice_get log number ≡ Some committed → slice_get (history_of log) number ≡ Some (stamped_of committed)
-get_history [] number committed there = cc
-get_history (c ∷ cs) zero committed there = ap (λ found. option_map stamped_of found) there
-get_history (c ∷ cs) (suc number) committed there = get_history cs number committed there
+pub get_history : (log : List Entry) (number : ℕ) (entry : Entry) → slice_get log number ≡ Some entry → slice_get (history_of log) number ≡ Some (stamped_of entry)
+get_history [] number entry there = cc
+get_history (c ∷ cs) zero entry there = ap (λ found. option_map stamped_of found) there
+get_history (c ∷ cs) (suc number) entry there = get_history cs number entry there
 
 -- what holds of all holds of one that was got
 pub all_got : {X : Type 0} (P : X → Type 0) (xs : List X) (number : ℕ) (x : X) → slice_get xs number ≡ Some x → All P xs → P x
@@ -37,29 +38,32 @@ got (x ∷ xs) zero below = (x, refl)
 got (x ∷ xs) (suc number) below = got xs number (omega (arith, below))
 
 -- the write of a number of a table
-pub of_table_below : (log : List Committed) (table number : ℕ) → IsOfTable log table number → number < length log
+pub of_table_below : (log : List Entry) (table number : ℕ) → IsOfTable log table number → number < length log
 of_table_below [] table number there = absurd there
 of_table_below (c ∷ cs) table zero there = omega arith
 of_table_below (c ∷ cs) table (suc number) there = let below = of_table_below cs table number there in omega (arith, below)
 
-pub all_below : (log : List Committed) (table : ℕ) (least : Option ℕ) → IfSome least (IsOfTable log table) → IfSome least (λ n. n < length log)
+pub all_below : (log : List Entry) (table : ℕ) (least : Option ℕ) → IfSome least (IsOfTable log table) → IfSome least (λ n. n < length log)
 all_below log table None there = tt
 all_below log table (Some number) there = of_table_below log table number there
 
 -- a write that is hit is of the table of the read
-pub hit_table : (def : TableDef) (read : Read) (write : Write) (between : Bool) → (hits_write def read write && between) ≡ true → write.table ≡ read_table read
-hit_table def read write between hit = sym ((Decides-eqb (read_table read) write.table).0 (first_true (read_table read == write.table) _ (first_true (hits_write def read write) between hit)))
+pub hit_table : (watch : Watch) (entry : Entry) → is_watched watch (stamped_of entry) ≡ true → entry.placed.write.table ≡ read_table watch.read.now
+hit_table watch entry hit =
+    let write = entry.placed.write in
+    let between = nat_lt watch.after entry.block && nat_le entry.block watch.upto in
+    sym ((Decides-eqb (read_table watch.read.now) write.table).0 (first_true (read_table watch.read.now == write.table) _ (first_true (hits_write watch.def.now watch.read.now write) between hit)))
 
 -- one of two is of the table, where both are
-pub either_of_table : (log : List Committed) (table number result : ℕ) (other : Option ℕ) (committed : Committed) → slice_get log number ≡ Some committed → committed.placed.write.table ≡ table
+pub either_of_table : (log : List Entry) (table number result : ℕ) (other : Option ℕ) (entry : Entry) → slice_get log number ≡ Some entry → entry.placed.write.table ≡ table
     → IfSome other (IsOfTable log table) → (result ≡ number) ⊎ (Some result ≡ other) → IsOfTable log table result
-either_of_table log table number result other committed there same others (inl is) =
-    subst (IsOfTable log table) (sym is) (subst (λ found. IsSomeAnd found (λ (c : Committed). c.placed.write.table ≡ table)) (sym there) same)
-either_of_table log table number result other committed there same others (inr is) = subst (λ found. IfSome found (IsOfTable log table)) (sym is) others
+either_of_table log table number result other entry there same others (inl is) =
+    subst (IsOfTable log table) (sym is) (subst (λ found. IsSomeAnd found (λ (c : Entry). c.placed.write.table ≡ table)) (sym there) same)
+either_of_table log table number result other entry there same others (inr is) = subst (λ found. IfSome found (IsOfTable log table)) (sym is) others
 
 -- the write of a number of a table is of it
-pub table_of_got : (log : List Committed) (table number : ℕ) (committed : Committed) → slice_get log number ≡ Some committed → IsOfTable log table number → committed.placed.write.table ≡ table
-table_of_got log table number committed there of_table = subst (λ found. IsSomeAnd found (λ (c : Committed). c.placed.write.table ≡ table)) there of_table
+pub table_of_got : (log : List Entry) (table number : ℕ) (entry : Entry) → slice_get log number ≡ Some entry → IsOfTable log table number → entry.placed.write.table ≡ table
+table_of_got log table number entry there of_table = subst (λ found. IsSomeAnd found (λ (c : Entry). c.placed.write.table ≡ table)) there of_table
 
 -- ---- the lesser of two
 
@@ -77,18 +81,22 @@ module _ (history : List Stamped) (x : Stamped) (other : Option ℕ) where
   lesser_same y number second here is there lower =
       here ∙ ap (λ b. Some (cond b y x)) (sym lower) ∙ ap (λ found. Some (lesser stamp_cmp x found)) (sym there) ∙ ap (λ found. Some (lesser stamp_cmp x (write_of history found))) (sym is)
 
-module _ (def : TableDef) (read : Read) (after upto : ℕ) where
-  -- the least of the writes between two heights, with one write more
-  least_more : (x : Stamped) (xs : List Stamped) → least_of def read (writes_between after upto (x ∷ xs)) ≡ lesser_hit def read after upto x (least_of def read (writes_between after upto xs))
+module _ (watch : Watch) where
+  -- the least of the writes between two heights that a read hits
+  abbrev pub least_between : List Stamped → Option Stamped
+  least_between xs = least_of watch.def.now watch.read.now (writes_between watch.after watch.upto xs)
+
+  -- one write more
+  least_more : (x : Stamped) (xs : List Stamped) → least_between (x ∷ xs) ≡ lesser_hit watch x (least_between xs)
   least_more x xs =
-      elim (nat_lt after x.0 && nat_le x.0 upto) as (λ b. least_of def read (cond b (x ∷ writes_between after upto xs) (writes_between after upto xs))
-      ≡ cond (hits_write def read x.1.write && b) (Some (lesser stamp_cmp x (least_of def read (writes_between after upto xs)))) (least_of def read (writes_between after upto xs))) [
-        | true ↦ passes (hits_write def read x.1.write)
-        | false ↦ fails (hits_write def read x.1.write)
+      elim (nat_lt watch.after x.0 && nat_le x.0 watch.upto) as (λ b. least_of watch.def.now watch.read.now (cond b (x ∷ writes_between watch.after watch.upto xs) (writes_between watch.after watch.upto xs))
+      ≡ cond (hits_write watch.def.now watch.read.now x.1.write && b) (Some (lesser stamp_cmp x (least_between xs))) (least_between xs)) [
+        | true ↦ passes (hits_write watch.def.now watch.read.now x.1.write)
+        | false ↦ fails (hits_write watch.def.now watch.read.now x.1.write)
       ]
     where
       rest : List Stamped
-      rest = filter (λ s. hits_write def read s.1.write) (writes_between after upto xs)
+      rest = filter (λ s. hits_write watch.def.now watch.read.now s.1.write) (writes_between watch.after watch.upto xs)
 
       passes : (b : Bool) → least stamp_cmp (cond b (x ∷ rest) rest) ≡ cond (b && true) (Some (lesser stamp_cmp x (least stamp_cmp rest))) (least stamp_cmp rest)
       passes true = refl
@@ -99,10 +107,8 @@ module _ (def : TableDef) (read : Read) (after upto : ℕ) where
       fails false = refl
 
   -- the same from a number of the history on
-  pub least_from : (history : List Stamped) (number : ℕ) (x : Stamped) → slice_get history number ≡ Some x
-      → lesser_hit def read after upto x (least_of def read (writes_between after upto (drop (suc number) history))) ≡ least_of def read (writes_between after upto (drop number history))
-  least_from history number x there =
-      sym (ap (λ xs. least_of def read (writes_between after upto xs)) (drop_next history number x there) ∙ least_more x (drop (suc number) history))
+  pub least_from : (history : List Stamped) (number : ℕ) (x : Stamped) → slice_get history number ≡ Some x → lesser_hit watch x (least_between (drop (suc number) history)) ≡ least_between (drop number history)
+  least_from history number x there = sym (ap least_between (drop_next history number x there) ∙ least_more x (drop (suc number) history))
 
 -- the least that a read of a declared table hits
 pub least_declared : (defs : List TableDef) (def : TableDef) (read : Read) (writes : List Stamped) → slice_get defs (read_table read) ≡ Some def → least_hit defs read writes ≡ least_of def read writes

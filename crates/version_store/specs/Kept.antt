@@ -2,9 +2,9 @@
 use Rattle.std.specs.Prelude.{List}
 use Rattle.rel_base.specs.declared.schema.TableDef.{TableDef}
 use Rattle.rel_base.specs.Tables.{HistoryFits}
-use Rattle.version_store.specs.declared.committed.Committed.{Committed}
-use Rattle.version_store.specs.Log.{history_of}
+use Rattle.row_sets.specs.declared.entry.Entry.{Entry}
+use Rattle.row_sets.specs.Log.{history_of}
 
 -- its writes fit their tables
-abbrev pub IsKept : List TableDef → List Committed → Type 0
+abbrev pub IsKept : List TableDef → List Entry → Type 0
 IsKept defs log = HistoryFits defs (history_of log)

@@ -2,11 +2,9 @@
 //! faster.
 #![tactic(auto)]
 
-pub mod committed;
 pub mod hits;
 pub mod lifespans;
 pub mod rows;
 pub mod store;
 
-pub use committed::Committed;
 pub use store::PlainVersions;

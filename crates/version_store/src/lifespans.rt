@@ -4,32 +4,21 @@ ghost use Rattle.std.specs.Prelude.{◌≡◌, ◌++◌, ◌+◌, ◌<◌, [], I
 ghost use Rattle.std.specs.Option.{option_map};
 ghost use Rattle.rel_base.specs.Tables.{Stamped};
 ghost use Rattle.row_sets.specs.Lifespans.{ended_by, is_of_key, is_of_table, lifespan, lifespans, place_of};
-ghost use Rattle.version_store.specs.Log.{history_of, stamped_of};
+ghost use Rattle.row_sets.specs.Log.{history_of};
 
-use crate::committed::{Committed, place_at, write_at};
 use rel_base::{Key, List, NoMemory, Place, Row, Twin};
 use row_sets::Lifespan;
+use row_sets::entry::{Entry, entry_at, is_on_key, place_at};
 use std::alloc::Global;
 
-/// Whether a write is on a key of a table.
-fn is_on_key(committed: &Committed, table: u32, key: &Key) -> bool
-    ensures { result ≡ is_of_key table key.now (stamped_of committed.now) }
-{
-    let by_key = key.cmp(&committed.placed.write.key);
-    table
-        .cmp(&committed.placed.write.table)
-        .then(by_key)
-        .is_eq()
-}
-
 /// The place of the first write on a key from a number on.
-fn next_on(log: &[Committed], start: usize, table: u32, key: &Key) -> Option<Place>
+fn next_on(log: &[Entry], start: usize, table: u32, key: &Key) -> Option<Place>
     ensures { result ≡ option_map place_of (find (is_of_key table key.now) (drop start (history_of log.now))) }
 {
     for number in start..log.len() {
-        let committed = write_at(log, number);
-        if is_on_key(committed, table, key) {
-            return Some(place_at(committed));
+        let entry = entry_at(log, number);
+        if is_on_key(entry, table, key) {
+            return Some(place_at(entry));
         }
     }
     None
@@ -58,7 +47,7 @@ fn add_row(
 fn add_version(
     alloc: Global,
     versions: &mut List<Lifespan>,
-    log: &[Committed],
+    log: &[Entry],
     number: usize,
     passes: bool,
 ) -> Result<(), NoMemory>
@@ -66,10 +55,10 @@ fn add_version(
     ensures { OnOk result ((stamped : Stamped) → slice_get (history_of log.now) number ≡ Some stamped → versions.new ≡ versions.old ++ cond passes (lifespan stamped.1.write.after (place_of stamped) (ended_by stamped (drop (number + 1) (history_of log.now)))) []) }
 {
     if passes {
-        let committed = write_at(log, number);
-        let write = &committed.placed.write;
+        let entry = entry_at(log, number);
+        let write = &entry.placed.write;
         let ended = next_on(log, number + 1, write.table, &write.key);
-        add_row(alloc, versions, &write.after, place_at(committed), ended)
+        add_row(alloc, versions, &write.after, place_at(entry), ended)
     } else {
         Ok(())
     }
@@ -78,7 +67,7 @@ fn add_version(
 /// All versions of the row of a key, in the order in which they were made.
 pub fn of_key(
     alloc: Global,
-    log: &[Committed],
+    log: &[Entry],
     table: u32,
     key: &Key,
 ) -> Result<List<Lifespan>, NoMemory>
@@ -86,19 +75,19 @@ pub fn of_key(
 {
     let mut versions = List::new(alloc);
     for number in 0..log.len() {
-        let passes = is_on_key(write_at(log, number), table, key);
+        let passes = is_on_key(entry_at(log, number), table, key);
         add_version(alloc, &mut versions, log, number, passes)?;
     }
     Ok(versions)
 }
 
 /// All versions of the rows of a table, in the order in which they were made.
-pub fn of_table(alloc: Global, log: &[Committed], table: u32) -> Result<List<Lifespan>, NoMemory>
+pub fn of_table(alloc: Global, log: &[Entry], table: u32) -> Result<List<Lifespan>, NoMemory>
     ensures { IfOk result (λ versions. versions ≡ lifespans (is_of_table table) (history_of log.now)) }
 {
     let mut versions = List::new(alloc);
     for number in 0..log.len() {
-        let passes = write_at(log, number).placed.write.table == table;
+        let passes = entry_at(log, number).placed.write.table == table;
         add_version(alloc, &mut versions, log, number, passes)?;
     }
     Ok(versions)

@@ -10,11 +10,12 @@ ghost use Rattle.rel_base.specs.Schema.{RowFits};
 ghost use Rattle.rel_base.specs.Tables.{HistoryFits, Tables, seen_at, set_stamped, tables_at, writes_up_to};
 ghost use Rattle.rel_base.specs.Value.{key_cmp};
 ghost use Rattle.rel_base.specs.declared.value.Value.{Value as Cell};
-ghost use Rattle.version_store.specs.Log.{FitsTable, history_of, stamped_of};
+ghost use Rattle.row_sets.specs.Log.{FitsTable, history_of, stamped_of};
 ghost use Rattle.version_store.specs.Rows.{AreRows, covered_seen, row_at};
 
-use crate::committed::{Committed, def_of, place_at, write_at};
 use rel_base::{Key, List, NoMemory, Place, Read, Row, Seen, TableDef, Twin};
+use row_sets::entry::{Entry, entry_at, place_at};
+use row_sets::hits::def_of;
 use std::alloc::Global;
 use std::collections::BTreeMap;
 
@@ -47,19 +48,19 @@ fn set_row(
     def: &TableDef,
     read: &Read,
     rows: &mut BTreeMap<Key, Seen>,
-    committed: &Committed,
+    entry: &Entry,
 ) -> Result<(), NoMemory>
     requires read_fits { ReadFits def.now read.now }
-    requires row_fits { IfSome committed.now.placed.write.after (λ row. RowFits def.now row) }
-    ensures { OnOk result ((q : List Cell) → row_at rows.new.entries q ≡ cond (eq_by_cmp key_cmp committed.now.placed.write.key q) (covered_seen def.now read.now (seen_at committed.now.block committed.now.placed.pos committed.now.placed.write.after)) (row_at rows.old.entries q)) }
+    requires row_fits { IfSome entry.now.placed.write.after (λ row. RowFits def.now row) }
+    ensures { OnOk result ((q : List Cell) → row_at rows.new.entries q ≡ cond (eq_by_cmp key_cmp entry.now.placed.write.key q) (covered_seen def.now read.now (seen_at entry.now.block entry.now.placed.pos entry.now.placed.write.after)) (row_at rows.old.entries q)) }
 {
-    let write = &committed.placed.write;
+    let write = &entry.placed.write;
     take_out(rows, &write.key);
     match &write.after {
         None => Ok(()),
         Some(row) => {
             if read.covers(def, row) {
-                put_in(alloc, rows, &write.key, row, place_at(committed))
+                put_in(alloc, rows, &write.key, row, place_at(entry))
             } else {
                 Ok(())
             }
@@ -75,19 +76,19 @@ fn go_on(
     read: &Read,
     height: u64,
     rows: &mut BTreeMap<Key, Seen>,
-    committed: &Committed,
+    entry: &Entry,
 ) -> Result<(), NoMemory>
     requires read_fits { ReadFits def.now read.now }
-    requires write_fits { committed.now.placed.write.table ≡ read_table read.now → WriteFits def.now committed.now.placed.write }
-    ensures { OnOk result ((tables : Tables) → AreRows def.now read.now tables rows.old.entries → AreRows def.now read.now (set_stamped tables (writes_up_to height (stamped_of committed.now ∷ []))) rows.new.entries) }
+    requires write_fits { entry.now.placed.write.table ≡ read_table read.now → WriteFits def.now entry.now.placed.write }
+    ensures { OnOk result ((tables : Tables) → AreRows def.now read.now tables rows.old.entries → AreRows def.now read.now (set_stamped tables (writes_up_to height (stamped_of entry.now ∷ []))) rows.new.entries) }
 {
-    if committed.block > height {
+    if entry.block > height {
         return Ok(());
     }
-    if committed.placed.write.table != read.table() {
+    if entry.placed.write.table != read.table() {
         return Ok(());
     }
-    set_row(alloc, def, read, rows, committed)
+    set_row(alloc, def, read, rows, entry)
 }
 
 /// The rows of a read by their keys, after the block of a height.
@@ -96,7 +97,7 @@ fn rows_by_key(
     def: &TableDef,
     read: &Read,
     height: u64,
-    log: &[Committed],
+    log: &[Entry],
 ) -> Result<BTreeMap<Key, Seen>, NoMemory>
     requires read_fits { ReadFits def.now read.now }
     requires fits { FitsTable def.now (read_table read.now) (history_of log.now) }
@@ -104,7 +105,7 @@ fn rows_by_key(
 {
     let mut rows = BTreeMap::new(alloc);
     for number in 0..log.len() {
-        go_on(alloc, def, read, height, &mut rows, write_at(log, number))?;
+        go_on(alloc, def, read, height, &mut rows, entry_at(log, number))?;
     }
     Ok(rows)
 }
@@ -125,7 +126,7 @@ fn in_order(alloc: Global, rows: BTreeMap<Key, Seen>) -> Result<List<Seen>, NoMe
 pub fn rows_at(
     alloc: Global,
     defs: &[TableDef],
-    log: &[Committed],
+    log: &[Entry],
     read: &Read,
     height: u64,
 ) -> Result<List<Seen>, NoMemory>

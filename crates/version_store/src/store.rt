@@ -1,14 +1,12 @@
 //! The plain store.
 
-ghost use Rattle.std.specs.Prelude.{◌≡◌, ◌+◌, ◌++◌, ◌≤◌, ◌∷◌, [], length};
-ghost use Rattle.row_sets.specs.Versions.{stamped_at};
-ghost use Rattle.version_store.specs.Log.{history_of, room_of};
+ghost use Rattle.row_sets.specs.Log.{history_of, room_of};
 
-use crate::committed::Committed;
 use crate::hits::late_at;
 use crate::lifespans::{of_key, of_table};
 use crate::rows::rows_at;
-use rel_base::{Key, List, NoMemory, Place, Placed, Read, Seen, TableDef, Twin, Write};
+use rel_base::{Key, List, NoMemory, Place, Read, Seen, TableDef, Twin, Write};
+use row_sets::entry::{Entry, push_all};
 use row_sets::{HitRef, Lifespan, Versions};
 use std::alloc::Global;
 use std::marker::Model;
@@ -19,7 +17,7 @@ use std::marker::Model;
 pub struct PlainVersions {
     alloc: Global,
     tables: List<TableDef>,
-    log: Vec<Committed>,
+    log: Vec<Entry>,
 }
 
 impl Model for PlainVersions {
@@ -30,7 +28,7 @@ impl Model for PlainVersions {
     ghost use Rattle.rel_base.specs.contracts.access.Placed as placed;
     ghost use Rattle.rel_base.specs.Tables.{Stamped};
     ghost use Rattle.version_store.specs.Kept.{IsKept};
-    ghost use Rattle.version_store.specs.Log.{history_of, room_of};
+    ghost use Rattle.row_sets.specs.Log.{history_of, room_of};
 
     ghost Value = { List Def × (List Stamped × ℕ) };
 
@@ -39,24 +37,6 @@ impl Model for PlainVersions {
     ghost view = { λ store. (store.tables, (history_of store.log.items, room_of store.log)) };
 
     ghost invariant = { λ store. IsKept store.tables store.log.items };
-}
-
-/// Appends the writes of a transaction at its place to a list that has room for them.
-fn push_all(log: &mut Vec<Committed>, place: Place, writes: List<Write>)
-    requires room { length writes ≤ room_of log.old }
-    ensures history { history_of log.new.items ≡ history_of log.old.items ++ stamped_at place writes }
-    ensures room { room_of log.new + length writes ≡ room_of log.old }
-{
-    for write in writes.into_vec() {
-        let placed = Placed {
-            pos: place.pos,
-            write,
-        };
-        log.push_reserved(Committed {
-            block: place.block,
-            placed,
-        });
-    }
 }
 
 impl Versions for PlainVersions {

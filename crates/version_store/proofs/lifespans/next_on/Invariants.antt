@@ -1,7 +1,7 @@
 use Rattle.std.proofs.Common.{◌≡◌, drop}
 use Rattle.std.specs.List.{find}
 use Rattle.row_sets.specs.Lifespans.{is_of_key}
-use Rattle.version_store.specs.Log.{history_of}
+use Rattle.row_sets.specs.Log.{history_of}
 use Rattle.version_store.proofs.lifespans.next_on.Given as goal
 
 -- the first one is that of those that are left

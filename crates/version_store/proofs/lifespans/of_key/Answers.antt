@@ -1,6 +1,6 @@
 use Rattle.std.proofs.Common.{◌≡◌, ◌∙◌, ◌++◌, ◌+◌, suc, subst, ap, arith, drop, cond, []}
 use Rattle.row_sets.specs.Lifespans.{is_of_key, ended_by, lifespan, lifespans, place_of}
-use Rattle.version_store.specs.Log.{history_of, stamped_of}
+use Rattle.row_sets.specs.Log.{history_of, stamped_of}
 use Rattle.version_store.proofs.Leasts.{get_history}
 use Rattle.version_store.proofs.Spans.{spans_more}
 use Rattle.version_store.proofs.lifespans.of_key.Goals as goal
@@ -11,8 +11,8 @@ loop-number-preserved c =
     let test = is_of_key c.args.table c.args.key.now in
     let history = history_of c.args.log.now in
     let number = c.loop-number.number in
-    let x = stamped_of c.write_at.result.now in
-    let there = get_history c.args.log.now number c.write_at.result.now c.write_at.ensures in
+    let x = stamped_of c.entry_at.result.now in
+    let there = get_history c.args.log.now number c.entry_at.result.now c.entry_at.ensures in
     let next : suc number ≡ number + 1 = omega arith in
     let back : number + 1 ≡ suc number = omega arith in
     subst (λ n. c.add_version.new.versions ++ lifespans test (drop n history) ≡ lifespans test history) next

@@ -1,6 +1,6 @@
 use Rattle.std.proofs.Common.{◌≡◌, ◌++◌, drop}
 use Rattle.row_sets.specs.Lifespans.{is_of_key, lifespans}
-use Rattle.version_store.specs.Log.{history_of}
+use Rattle.row_sets.specs.Log.{history_of}
 use Rattle.version_store.proofs.lifespans.of_key.Given as goal
 
 -- the versions so far, and those of the writes that are left

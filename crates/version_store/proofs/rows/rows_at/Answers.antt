@@ -1,7 +1,7 @@
 use Rattle.rel_base.specs.Access.{read_table}
 use Rattle.rel_base.specs.Tables.{tables_at}
 use Rattle.row_sets.proofs.Histories.{table_fits}
-use Rattle.version_store.specs.Log.{history_of}
+use Rattle.row_sets.specs.Log.{history_of}
 use Rattle.version_store.proofs.Found.{in_order_are}
 use Rattle.version_store.proofs.rows.rows_at.Goals as goal
 

@@ -3,7 +3,7 @@ use Rattle.std.proofs.lemmas.List.{drop_all, length-map}
 use Rattle.rel_base.specs.Access.{WriteFits, read_table}
 use Rattle.rel_base.specs.Tables.{Stamped, no_tables, set_stamped, writes_up_to}
 use Rattle.row_sets.proofs.Histories.{drop_next}
-use Rattle.version_store.specs.Log.{history_of, stamped_of}
+use Rattle.row_sets.specs.Log.{history_of, stamped_of}
 use Rattle.version_store.specs.Rows.{AreRows}
 use Rattle.version_store.proofs.Found.{rows_of_none, set_more}
 use Rattle.version_store.proofs.Leasts.{all_got, get_history}
@@ -15,16 +15,16 @@ loop-number-init c = (no_tables, subst (AreRows c.args.def.now c.args.read.now n
 
 pub go_on-requires-clause-write_fits : goal.go_on-requires-clause-write_fits
 go_on-requires-clause-write_fits c =
-    all_got (λ (s : Stamped). s.1.write.table ≡ read_table c.args.read.now → WriteFits c.args.def.now s.1.write) (history_of c.args.log.now) c.loop-number.number (stamped_of c.write_at.result.now)
-    (get_history c.args.log.now c.loop-number.number c.write_at.result.now c.write_at.ensures) c.requires.fits
+    all_got (λ (s : Stamped). s.1.write.table ≡ read_table c.args.read.now → WriteFits c.args.def.now s.1.write) (history_of c.args.log.now) c.loop-number.number (stamped_of c.entry_at.result.now)
+    (get_history c.args.log.now c.loop-number.number c.entry_at.result.now c.entry_at.ensures) c.requires.fits
 
 -- one write more
 pub loop-number-preserved : goal.loop-number-preserved
 loop-number-preserved c =
     let history = history_of c.args.log.now in
     let number = c.loop-number.number in
-    let x = stamped_of c.write_at.result.now in
-    let there = get_history c.args.log.now number c.write_at.result.now c.write_at.ensures in
+    let x = stamped_of c.entry_at.result.now in
+    let there = get_history c.args.log.now number c.entry_at.result.now c.entry_at.ensures in
     let tables = c.loop-number.invariant.0 in
     let next : number + 1 ≡ suc number = omega arith in (
       set_stamped tables (writes_up_to c.args.height (x ∷ [])),

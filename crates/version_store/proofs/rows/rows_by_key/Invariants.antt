@@ -1,6 +1,6 @@
 use Rattle.std.proofs.Common.{◌≡◌, drop}
 use Rattle.rel_base.specs.Tables.{Tables, set_stamped, tables_at, writes_up_to}
-use Rattle.version_store.specs.Log.{history_of}
+use Rattle.row_sets.specs.Log.{history_of}
 use Rattle.version_store.specs.Rows.{AreRows}
 use Rattle.version_store.proofs.rows.rows_by_key.Given as goal
 

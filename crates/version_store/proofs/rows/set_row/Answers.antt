@@ -9,11 +9,11 @@ use Rattle.version_store.proofs.rows.set_row.Goals as goal
 -- the row of the write takes the place of the old one
 pub returns-then-covers : goal.returns-then-covers
 returns-then-covers c =
-    let committed = c.args.committed.now in
-    let key = committed.placed.write.key in
+    let entry = c.args.entry.now in
+    let key = entry.placed.write.key in
     on_ok_then c.put_in.result
     (λ sets q.
-    row_put c.args.def.now c.args.read.now (eq_by_cmp key_cmp key q) (row_at c.args.rows.now.entries q) (row_at c.take_out.new.rows.entries q) (row_at c.put_in.new.rows.entries q) committed.block committed.placed.pos
-    committed.placed.write.after c.in-Some.row c.in-Some.is (sym c.covers.ensures ∙ c.if-covers.true) (c.take_out.ensures q)
+    row_put c.args.def.now c.args.read.now (eq_by_cmp key_cmp key q) (row_at c.args.rows.now.entries q) (row_at c.take_out.new.rows.entries q) (row_at c.put_in.new.rows.entries q) entry.block entry.placed.pos
+    entry.placed.write.after c.in-Some.row c.in-Some.is (sym c.covers.ensures ∙ c.if-covers.true) (c.take_out.ensures q)
     (sets q ∙ ap (λ place. cond (eq_by_cmp key_cmp key q) (Some (record { row = c.in-Some.row; place = place })) (row_at c.take_out.new.rows.entries q)) c.place_at.ensures))
     c.put_in.ensures

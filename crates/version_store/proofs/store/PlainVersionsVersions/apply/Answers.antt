@@ -2,7 +2,7 @@ use Rattle.std.proofs.Common.{subst, sym, All}
 use Rattle.rel_base.specs.Among.{WriteFitsIn}
 use Rattle.rel_base.specs.Tables.{HistoryFits}
 use Rattle.row_sets.proofs.Histories.{fits_next}
-use Rattle.version_store.specs.Log.{history_of}
+use Rattle.row_sets.specs.Log.{history_of}
 use Rattle.version_store.proofs.store.PlainVersionsVersions.apply.Goals as goal
 
 -- the writes fit

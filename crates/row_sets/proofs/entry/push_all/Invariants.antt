@@ -1,7 +1,7 @@
 use Rattle.std.proofs.Common.{◌≡◌, ◌≤◌, ◌+◌, ◌++◌, length}
 use Rattle.row_sets.specs.Versions.{stamped_at}
-use Rattle.version_store.specs.Log.{history_of, room_of}
-use Rattle.version_store.proofs.store.push_all.Given as goal
+use Rattle.row_sets.specs.Log.{history_of, room_of}
+use Rattle.row_sets.proofs.entry.push_all.Given as goal
 
 -- the writes so far are in the history, and there is room for those that are left
 abbrev pub invariant-loop-write : goal.invariant-loop-write
