@@ -21,14 +21,15 @@ use Rattle.rel_base.specs.Value.{key_cmp, key_cmp-exact}
 use Rattle.rel_base.proofs.Bits.{first_true, second_true, is_Equal}
 use Rattle.rel_base.proofs.KeyOrder.{Stands, all_stand}
 use Rattle.row_sets.specs.Versions.{Hit, hit_by}
+use Rattle.row_sets.specs.Watched.{is_hit_between}
+use Rattle.row_sets.specs.declared.hits.Watch.{Watch}
 use Rattle.version_index.specs.Candidates.{has_key}
 use Rattle.version_index.specs.Chain.{IsFirst}
 use Rattle.version_index.specs.Hits.{TellsFirst}
-use Rattle.version_index.specs.Log.{InOrder, is_hit_between}
+use Rattle.version_index.specs.Log.{InOrder}
 use Rattle.version_index.specs.Rows.{covered_row, rows_of_keys, write_of}
 use Rattle.version_index.specs.Span.{IsWantedBy, distinct, is_again, keys_in}
 use Rattle.version_index.specs.View.{IsAsked, history_in, told_of}
-use Rattle.version_index.specs.declared.hits.Watch.{Watch}
 use Rattle.version_index.specs.declared.view.TableView.{TableView}
 use Rattle.version_index.proofs.Distinct.{found_among}
 use Rattle.version_index.proofs.KeyRows.{AllAmong, All-found, among_keys, rows_of_all}

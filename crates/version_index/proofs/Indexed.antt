@@ -5,14 +5,14 @@ use Rattle.std.specs.Option.{IsSomeAnd}
 use Rattle.std.proofs.lemmas.List.Elements.{All-weaker}
 use Rattle.rel_base.specs.declared.value.Value.{Value}
 use Rattle.rel_base.specs.Tables.{Stamped}
+use Rattle.row_sets.specs.Log.{history_of, stamped_of}
+use Rattle.row_sets.specs.declared.entry.Entry.{Entry}
 use Rattle.version_index.specs.Chains.{AreChains, IsNoted, IsSame, lists_of, numbers_at, slot_of, slot_or}
 use Rattle.version_index.specs.Columns.{IsColumn, IsNotedIn, IsSameColumn, cell, has, has_slot}
 use Rattle.version_index.specs.Index.{IsIndex, IsIndexOf, row_by}
 use Rattle.version_index.specs.Left.{left_at}
-use Rattle.version_index.specs.Log.{history_of, stamped_of}
 use Rattle.version_index.specs.declared.chains.Chains.{Chains}
 use Rattle.version_index.specs.declared.column.Column.{Column}
-use Rattle.version_index.specs.declared.entry.Entry.{Entry}
 use Rattle.version_index.specs.declared.index.TableIndex.{TableIndex}
 use Rattle.version_index.proofs.Logged.{get_history}
 use Rattle.version_index.proofs.Noting.{chains_next, chains_stay}

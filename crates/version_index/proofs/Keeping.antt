@@ -13,14 +13,15 @@ use Rattle.rel_base.specs.declared.value.Value.{Value}
 use Rattle.rel_base.proofs.Bits.{no_both}
 use Rattle.row_sets.specs.Versions.{IsBefore, are_rising, stamped_at}
 use Rattle.row_sets.proofs.Histories.{fits_next, unwrapped}
+use Rattle.row_sets.specs.Log.{history_of, stamped_of}
+use Rattle.row_sets.specs.declared.entry.Entry.{Entry}
 use Rattle.version_index.specs.Chains.{AreChains, lists_in, lists_of, numbers_at, slot_by, slot_in, slot_of}
 use Rattle.version_index.specs.Columns.{IsColumn, has_slot, touched_at}
 use Rattle.version_index.specs.Index.{AreNoted, HasColumns, IsEmptyColumn, IsEmptyIndex, IsIndex, columns_in, index_columns}
 use Rattle.version_index.specs.Kept.{WellKept}
-use Rattle.version_index.specs.Log.{InOrder, history_of, stamped_of}
+use Rattle.version_index.specs.Log.{InOrder}
 use Rattle.version_index.specs.View.{IsAsked, IsView}
 use Rattle.version_index.specs.declared.column.Column.{Column}
-use Rattle.version_index.specs.declared.entry.Entry.{Entry}
 use Rattle.version_index.specs.declared.index.TableIndex.{TableIndex}
 use Rattle.version_index.specs.declared.view.TableView.{TableView}
 use Rattle.version_index.proofs.Behind.{noted_behind}

@@ -9,9 +9,10 @@ use Rattle.rel_base.specs.Access.{WriteFits}
 use Rattle.rel_base.specs.Tables.{Stamped, ref_cmp, ref_cmp-exact, write_ref}
 use Rattle.rel_base.proofs.Bits.{is_Equal}
 use Rattle.row_sets.proofs.Histories.{unwrapped}
-use Rattle.version_index.specs.declared.entry.Entry.{Entry}
+use Rattle.row_sets.specs.declared.entry.Entry.{Entry}
+use Rattle.row_sets.specs.Log.{FitsTable, history_of, stamped_of}
 use Rattle.version_index.specs.Chain.{is_late, is_on, is_seen}
-use Rattle.version_index.specs.Log.{FitsTable, InOrder, Precedes, history_of, stamped_of}
+use Rattle.version_index.specs.Log.{InOrder, Precedes}
 
 -- ---- items by their numbers
 

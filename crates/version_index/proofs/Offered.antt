@@ -5,17 +5,18 @@ use Rattle.std.proofs.lemmas.List.{length-map}
 use Rattle.rel_base.specs.Tables.{Stamped}
 use Rattle.rel_base.specs.declared.value.Value.{Value}
 use Rattle.rel_base.proofs.Bits.{no_both}
+use Rattle.row_sets.specs.Log.{stamped_of}
+use Rattle.row_sets.specs.declared.entry.Entry.{Entry}
 use Rattle.version_index.specs.Candidates.{HasSlot, HasSlotAt, IsKeyOf, IsOwnKeyOf, IsTouchedAbove, IsWrittenFrom}
 use Rattle.version_index.specs.Chain.{is_on}
 use Rattle.version_index.specs.Chains.{lists_of, list_or_none, numbers_at, slot_of}
 use Rattle.version_index.specs.Columns.{touches_at}
 use Rattle.version_index.specs.Index.{row_by}
 use Rattle.version_index.specs.Left.{left_at}
-use Rattle.version_index.specs.Log.{InOrder, stamped_of}
+use Rattle.version_index.specs.Log.{InOrder}
 use Rattle.version_index.specs.Numbers.{passes_at, passing}
 use Rattle.version_index.specs.View.{IsView, history_in}
 use Rattle.version_index.specs.declared.chains.Chains.{Chains}
-use Rattle.version_index.specs.declared.entry.Entry.{Entry}
 use Rattle.version_index.specs.declared.view.TableView.{TableView}
 use Rattle.version_index.proofs.Logged.{blocks_rise, get_history, same_ref}
 use Rattle.version_index.proofs.Passing.{IsTop, left_by_numbers, none_of, not_empty, top_of}

@@ -7,10 +7,10 @@ use Rattle.rel_base.specs.declared.access.Seen.{Seen}
 use Rattle.rel_base.specs.declared.value.Value.{Value}
 use Rattle.rel_base.proofs.Bits.{no_both}
 use Rattle.row_sets.proofs.Histories.{unwrapped}
+use Rattle.row_sets.specs.Log.{stamped_of}
 use Rattle.version_index.specs.Candidates.{IsWrittenFrom}
 use Rattle.version_index.specs.Chain.{is_on}
 use Rattle.version_index.specs.Left.{left_at}
-use Rattle.version_index.specs.Log.{stamped_of}
 use Rattle.version_index.specs.Rows.{seen_of}
 use Rattle.version_index.specs.View.{IsView, history_in}
 use Rattle.version_index.specs.declared.view.TableView.{TableView}

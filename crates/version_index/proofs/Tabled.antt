@@ -1,16 +1,15 @@
 -- The indexes of all tables while a write of one of them is noted.
-use Rattle.std.proofs.Common.{◌≡◌, ◌∙◌, ℕ, suc, ◌==◌, List, Bool, true, false, Some, refl, ap, sym, subst, slice_get, slice_set}
+use Rattle.std.proofs.Common.{◌≡◌, ◌∙◌, ℕ, suc, ◌==◌, List, Bool, true, false, Some, refl, ap, sym, subst, slice_get, slice_set, ◌<◌, arith, length}
 use Rattle.std.proofs.lemmas.Bool.Decides.{Decides-eqb}
 use Rattle.std.proofs.lemmas.List.{length-set}
 use Rattle.std.proofs.lemmas.List.Elements.{All-weaker}
-use Rattle.std.proofs.Common.{◌<◌, arith, length}
 use Rattle.rel_base.specs.Tables.{Stamped}
 use Rattle.rel_base.proofs.Bits.{no_both}
 use Rattle.row_sets.proofs.Histories.{unwrapped}
+use Rattle.row_sets.specs.Log.{history_of, stamped_of}
+use Rattle.row_sets.specs.declared.entry.Entry.{Entry}
 use Rattle.version_index.specs.Columns.{IsColumn}
 use Rattle.version_index.specs.Index.{AreNoted, IsIndex}
-use Rattle.version_index.specs.Log.{history_of, stamped_of}
-use Rattle.version_index.specs.declared.entry.Entry.{Entry}
 use Rattle.version_index.specs.declared.index.TableIndex.{TableIndex}
 use Rattle.version_index.proofs.Logged.{get_history}
 use Rattle.version_index.proofs.Noting.{chains_skip}

@@ -7,11 +7,12 @@ use Rattle.std.proofs.lemmas.List.Elements.{All-weaker}
 use Rattle.rel_base.specs.Tables.{Stamped}
 use Rattle.rel_base.specs.declared.value.Value.{Value}
 use Rattle.rel_base.proofs.Bits.{both_true}
+use Rattle.row_sets.specs.Log.{history_of, stamped_of}
+use Rattle.row_sets.specs.declared.entry.Entry.{Entry}
 use Rattle.version_index.specs.Chain.{IsFirst, IsLast, IsLastFrom, is_late, is_on, is_seen}
-use Rattle.version_index.specs.Log.{InOrder, history_of, stamped_of}
+use Rattle.version_index.specs.Log.{InOrder}
 use Rattle.version_index.specs.Numbers.{lesser, passes_at, passing}
 use Rattle.version_index.specs.View.{IsBack, history_in, noted_below}
-use Rattle.version_index.specs.declared.entry.Entry.{Entry}
 use Rattle.version_index.specs.declared.keyed.Back.{Back}
 use Rattle.version_index.specs.declared.view.TableView.{TableView}
 use Rattle.version_index.proofs.Firsts.{LateWalk, late_fail, late_pass, late_stop}

@@ -14,15 +14,17 @@ use Rattle.rel_base.specs.declared.schema.TableDef.{TableDef}
 use Rattle.rel_base.specs.declared.value.Value.{Value}
 use Rattle.rel_base.proofs.Bits.{both_true, first_true, no_both, not_true, second_true}
 use Rattle.rel_base.proofs.Columns.{span_column_below}
+use Rattle.row_sets.specs.Watched.{is_watched}
+use Rattle.row_sets.specs.Log.{FitsTable, history_of, stamped_of}
+use Rattle.row_sets.specs.declared.entry.Entry.{Entry}
+use Rattle.row_sets.specs.declared.hits.Watch.{Watch}
 use Rattle.version_index.specs.Chain.{IsFirst, is_late}
 use Rattle.version_index.specs.Columns.{cell, has, touches, touches_at}
-use Rattle.version_index.specs.Hits.{IsFirstFrom, is_watched}
+use Rattle.version_index.specs.Hits.{IsFirstFrom}
 use Rattle.version_index.specs.Left.{left_at}
-use Rattle.version_index.specs.Log.{FitsTable, InOrder, history_of, stamped_of}
+use Rattle.version_index.specs.Log.{InOrder}
 use Rattle.version_index.specs.Numbers.{passes, passes_at, passing}
 use Rattle.version_index.specs.View.{IsAsked, history_in}
-use Rattle.version_index.specs.declared.entry.Entry.{Entry}
-use Rattle.version_index.specs.declared.hits.Watch.{Watch}
 use Rattle.version_index.specs.declared.view.TableView.{TableView}
 use Rattle.version_index.proofs.LeastHits.{first_agrees, hits_point}
 use Rattle.version_index.proofs.Logged.{all_fail, blocks_rise, contains_got, get_history, lt_false}

@@ -3,16 +3,12 @@ use Rattle.std.specs.Prelude.{◌≡◌, ◌<◌, ◌≤◌, ℕ, List, Bool, fa
 use Rattle.std.specs.Option.{option_map}
 use Rattle.rel_base.specs.Tables.{Stamped}
 use Rattle.row_sets.specs.Versions.{Hit}
+use Rattle.row_sets.specs.Watched.{is_watched}
+use Rattle.row_sets.specs.declared.hits.Watch.{Watch}
 use Rattle.version_index.specs.Chain.{IsFirst}
-use Rattle.version_index.specs.Log.{is_hit_between}
 use Rattle.version_index.specs.Numbers.{passes_at}
 use Rattle.version_index.specs.Rows.{write_of}
 use Rattle.version_index.specs.View.{told_of}
-use Rattle.version_index.specs.declared.hits.Watch.{Watch}
-
--- whether a read hits a write in a block above one height and up to another
-abbrev pub is_watched : Watch → Stamped → Bool
-is_watched watch stamped = is_hit_between watch.def.now watch.read.now watch.after watch.upto stamped
 
 -- the number of the first item from a number on that passes a test
 abbrev pub IsFirstFrom : {X : Type 0} → (X → Bool) → ℕ → List X → Option ℕ → Type 0

@@ -4,11 +4,11 @@ use Rattle.std.specs.Option.{IsSomeAnd, option_and_then}
 use Rattle.rel_base.specs.Tables.{Stamped}
 use Rattle.rel_base.specs.declared.schema.TableDef.{TableDef}
 use Rattle.rel_base.specs.declared.value.Value.{Value}
+use Rattle.row_sets.specs.Log.{history_of}
+use Rattle.row_sets.specs.declared.entry.Entry.{Entry}
 use Rattle.version_index.specs.Chains.{AreChains}
 use Rattle.version_index.specs.Columns.{IsColumn}
-use Rattle.version_index.specs.Log.{history_of}
 use Rattle.version_index.specs.declared.column.Column.{Column}
-use Rattle.version_index.specs.declared.entry.Entry.{Entry}
 use Rattle.version_index.specs.declared.index.TableIndex.{TableIndex}
 
 -- the columns of a table that have an index by their values: the declared ones, and the first key column where the key has more

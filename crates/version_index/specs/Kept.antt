@@ -1,18 +1,12 @@
 -- What a store of versions keeps true of its log and its indexes.
 use Rattle.std.specs.Prelude.{◌≡◌, ◌≤◌, ◌-◌, ℕ, List, length, map}
-use Rattle.std.specs.Vec.{vec_len, vec_capacity}
-use Rattle.std.specs.declared.vec.Vec.{Vec}
-use Rattle.std.specs.declared.alloc.Global.{Global}
 use Rattle.rel_base.specs.declared.schema.TableDef.{TableDef}
 use Rattle.rel_base.specs.Tables.{HistoryFits}
+use Rattle.row_sets.specs.Log.{history_of}
+use Rattle.row_sets.specs.declared.entry.Entry.{Entry}
 use Rattle.version_index.specs.Index.{AreNoted, columns_in, index_columns}
-use Rattle.version_index.specs.Log.{history_of, InOrder}
-use Rattle.version_index.specs.declared.entry.Entry.{Entry}
+use Rattle.version_index.specs.Log.{InOrder}
 use Rattle.version_index.specs.declared.index.TableIndex.{TableIndex}
-
--- how many entries a log has room for
-abbrev pub room_of : Vec Entry Global → ℕ
-room_of log = vec_capacity log - vec_len log
 
 -- the writes fit their tables and stand in order, and the indexes, one for each table, tell of the first of them, as many as are noted
 pub record WellKept (defs : List TableDef) (entries : List Entry) (indexes : List TableIndex) (noted : ℕ) : Type 0 where

@@ -6,9 +6,10 @@ use Rattle.rel_base.specs.declared.access.Read.{Read}
 use Rattle.rel_base.specs.declared.schema.TableDef.{TableDef}
 use Rattle.rel_base.specs.declared.value.Value.{Value}
 use Rattle.row_sets.specs.Versions.{Hit}
+use Rattle.row_sets.specs.Log.{history_of}
 use Rattle.version_index.specs.Chain.{is_on}
 use Rattle.version_index.specs.Index.{HasColumns, IsIndex}
-use Rattle.version_index.specs.Log.{InOrder, history_of}
+use Rattle.version_index.specs.Log.{InOrder}
 use Rattle.version_index.specs.Numbers.{lesser, passes_at, passing}
 use Rattle.version_index.specs.declared.keyed.Back.{Back}
 use Rattle.version_index.specs.declared.view.TableView.{TableView}

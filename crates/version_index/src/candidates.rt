@@ -7,10 +7,10 @@ ghost use Rattle.version_index.specs.Columns.{IsColumn};
 ghost use Rattle.version_index.specs.View.{IsView, history_in};
 
 use crate::column::Column;
-use crate::entry::entry_at;
 use crate::living::{Living, Marks};
 use crate::view::TableView;
 use rel_base::{Key, List, NoMemory, Twin, Value};
+use row_sets::entry::entry_at;
 use std::alloc::Global;
 use std::ops::Bound;
 

@@ -1,15 +1,12 @@
 //! How the log grows, and how its tail is noted in the indexes of the tables.
 
-ghost use Rattle.std.specs.Prelude.{◌≡◌, ◌<◌, ◌≤◌, ◌+◌, ◌++◌, ◌∷◌, [], All, OnErr, OnOk, length, slice_get};
-ghost use Rattle.std.specs.Vec.{vec_len, vec_capacity};
-ghost use Rattle.row_sets.specs.Versions.{stamped_at};
+ghost use Rattle.std.specs.Prelude.{◌≡◌, ◌<◌, ◌≤◌, ◌+◌, All, OnErr, OnOk, length};
+ghost use Rattle.row_sets.specs.Log.{history_of};
 ghost use Rattle.version_index.specs.Index.{AreNoted, columns_in};
-ghost use Rattle.version_index.specs.Kept.{room_of};
-ghost use Rattle.version_index.specs.Log.{entry_of, history_of};
 
-use crate::entry::{Entry, entry_at};
 use crate::index::TableIndex;
-use rel_base::{List, NoMemory, Place, Placed, Write};
+use rel_base::NoMemory;
+use row_sets::entry::{Entry, entry_at};
 use std::alloc::Global;
 
 /// Notes the write of the entry of a number, the next one to note. Where memory is wanting, what the indexes tell stays as it was.
@@ -50,32 +47,4 @@ pub fn note_tail(
         *noted += 1;
     }
     Ok(())
-}
-
-/// Appends a write to a log that has room for it.
-fn push_one(log: &mut Vec<Entry>, place: Place, write: Write)
-    requires { vec_len log.old < vec_capacity log.old }
-    ensures log { log.new.items ≡ log.old.items ++ entry_of place write ∷ [] }
-    ensures len { vec_len log.new ≡ vec_len log.old + 1 }
-    ensures room { vec_capacity log.new ≡ vec_capacity log.old }
-{
-    let placed = Placed {
-        pos: place.pos,
-        write,
-    };
-    log.push_reserved(Entry {
-        block: place.block,
-        placed,
-    });
-}
-
-/// Appends the writes of a transaction at its place to a log that has room for them.
-pub fn push_all(log: &mut Vec<Entry>, place: Place, writes: List<Write>)
-    requires room { length writes ≤ room_of log.old }
-    ensures history { history_of log.new.items ≡ history_of log.old.items ++ stamped_at place writes }
-    ensures room { room_of log.new + length writes ≡ room_of log.old }
-{
-    for write in writes.into_vec() {
-        push_one(log, place, write);
-    }
 }

@@ -4,12 +4,12 @@ ghost use Rattle.std.specs.Prelude.{◌≡◌, ℕ, List, [], Some, cond, OnOk, 
 ghost use Rattle.std.specs.Ordering.{eq_by_cmp};
 ghost use Rattle.rel_base.specs.Value.{key_cmp};
 ghost use Rattle.rel_base.specs.declared.value.Value.{Value as Cell};
+ghost use Rattle.row_sets.specs.Log.{stamped_of};
 ghost use Rattle.version_index.specs.Chain.{is_on};
 ghost use Rattle.version_index.specs.Heads.{head_of, holds_key};
-ghost use Rattle.version_index.specs.Log.{stamped_of};
 
-use crate::entry::Entry;
 use rel_base::{Key, NoMemory, Twin};
+use row_sets::entry::Entry;
 use std::alloc::Global;
 use std::collections::BTreeMap;
 use std::marker::Model;

@@ -1,39 +1,21 @@
 //! The writes that a read hits.
 
-ghost use Rattle.std.specs.Prelude.{◌≡◌, IfSome, Some};
-ghost use Rattle.rel_base.specs.Access.{ReadFits, WriteFits, covers_some, read_table};
-ghost use Rattle.rel_base.specs.Schema.{RowFits};
+ghost use Rattle.std.specs.Prelude.{◌≡◌, Some};
+ghost use Rattle.rel_base.specs.Access.{ReadFits, read_table};
 ghost use Rattle.rel_base.specs.declared.access.Read.TheVariants as read;
+ghost use Rattle.row_sets.specs.Watched.{is_watched};
+ghost use Rattle.row_sets.specs.Log.{FitsTable, history_of};
 ghost use Rattle.version_index.specs.Chain.{IsFirst};
 ghost use Rattle.version_index.specs.Columns.{IsColumn};
-ghost use Rattle.version_index.specs.Hits.{IsFirstFrom, is_watched};
-ghost use Rattle.version_index.specs.Log.{FitsTable, history_of, stamped_of};
+ghost use Rattle.version_index.specs.Hits.{IsFirstFrom};
 ghost use Rattle.version_index.specs.View.{IsAsked, IsView, history_in};
 
 use crate::column::Column;
-use crate::entry::{Entry, entry_at};
 use crate::keyed::first_of;
 use crate::view::TableView;
-use rel_base::{Read, Row, TableDef, Value};
-
-/// A read with the declaration of its table, and the heights between which the writes are that it may hit.
-#[derive(Clone, Copy)]
-pub struct Watch<'a> {
-    pub def: &'a TableDef,
-    pub read: &'a Read,
-    pub after: u64,
-    pub upto: u64,
-}
-
-/// Whether a read hits a committed write in a block above `after` and up to `upto`.
-fn is_hit(entry: &Entry, watch: &Watch<'_>) -> bool
-    requires read_fits { ReadFits watch.now.def.now watch.now.read.now }
-    requires write_fits { read_table watch.now.read.now ≡ entry.now.placed.write.table → WriteFits watch.now.def.now entry.now.placed.write }
-    ensures { result ≡ is_watched watch.now (stamped_of entry.now) }
-{
-    watch.read.hits(watch.def, &entry.placed.write)
-        && (entry.block > watch.after && entry.block <= watch.upto)
-}
+use rel_base::Value;
+use row_sets::entry::{Entry, entry_at};
+use row_sets::hits::{Watch, is_hit};
 
 /// The number of the first write from a number on that a read hits.
 pub fn first_hit(entries: &[Entry], watch: &Watch<'_>, start: usize) -> Option<usize>
@@ -73,16 +55,4 @@ pub fn first_touching(
         left = earlier;
     }
     first
-}
-
-/// Whether a read covers a row that may be there.
-pub fn covers_part(read: &Read, def: &TableDef, row: &Option<Row>) -> bool
-    requires read_fits { ReadFits def.now read.now }
-    requires row_fits { IfSome row.now (λ r. RowFits def.now r) }
-    ensures { result ≡ covers_some def.now read.now row.now }
-{
-    match row {
-        None => false,
-        Some(row) => read.covers(def, row),
-    }
 }

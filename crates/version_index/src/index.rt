@@ -4,15 +4,15 @@ ghost use Rattle.std.specs.Prelude.{◌≡◌, ◌+◌, ◌++◌, ◌<◌, All, 
 ghost use Rattle.std.specs.List.{AllZip};
 ghost use Rattle.std.specs.Option.{option_copied};
 ghost use Rattle.rel_base.specs.declared.value.Value.{Value as Cell};
+ghost use Rattle.row_sets.specs.Log.{history_of};
 ghost use Rattle.version_index.specs.Chains.{slot_or};
 ghost use Rattle.version_index.specs.Columns.{IsNotedIn, IsReady, IsSameColumn, cell, has, has_slot};
 ghost use Rattle.version_index.specs.Index.{HasColumns, IsEmptyColumn, IsEmptyIndex, IsIndexOf, index_columns, last_in, row_after, row_by};
-ghost use Rattle.version_index.specs.Log.{history_of};
 
 use crate::chains::Chains;
 use crate::column::Column;
-use crate::entry::{Entry, entry_at};
 use rel_base::{NoMemory, Row, TableDef, Write};
+use row_sets::entry::{Entry, entry_at};
 use std::alloc::Global;
 
 /// The index of a table: the writes on each of its keys, and an index by the values of each column by which spans are read. A span of

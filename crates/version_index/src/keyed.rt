@@ -6,9 +6,9 @@ ghost use Rattle.version_index.specs.Chain.{IsFirst, IsLast, IsLastFrom, is_late
 ghost use Rattle.version_index.specs.Chains.{slot_of};
 ghost use Rattle.version_index.specs.View.{IsBack, IsView, history_in, noted_below};
 
-use crate::entry::{entry_at, is_on_key};
 use crate::view::TableView;
 use rel_base::Key;
+use row_sets::entry::{entry_at, is_on_key};
 
 /// A write on a key: its number, and those of the noted writes on the key before it.
 #[derive(Clone, Copy)]

@@ -5,7 +5,6 @@
 pub mod candidates;
 pub mod chains;
 pub mod column;
-pub mod entry;
 pub mod growth;
 pub mod heads;
 pub mod hits;
@@ -21,5 +20,4 @@ pub mod touched;
 pub mod versions;
 pub mod view;
 
-pub use entry::Entry;
 pub use store::IndexVersions;

@@ -1,36 +1,28 @@
 //! Answers to reads.
 
-ghost use Rattle.std.specs.Prelude.{◌≡◌, ◌∷◌, [], IfOk, Some, slice_get};
+ghost use Rattle.std.specs.Prelude.{◌≡◌, ◌∷◌, [], IfOk, Some};
 ghost use Rattle.std.specs.Option.{option_map};
-ghost use Rattle.rel_base.specs.Access.{ReadFits, WriteFits, read_table};
-ghost use Rattle.rel_base.specs.Among.{ReadFitsIn};
+ghost use Rattle.rel_base.specs.Access.{ReadFits, WriteFits};
 ghost use Rattle.rel_base.specs.Tables.{rows, tables_at};
 ghost use Rattle.rel_base.specs.declared.access.Read.TheVariants as read;
 ghost use Rattle.row_sets.specs.Versions.{hit_of};
+ghost use Rattle.row_sets.specs.Watched.{is_watched};
+ghost use Rattle.row_sets.specs.Log.{stamped_of};
 ghost use Rattle.version_index.specs.Chain.{IsFirst};
-ghost use Rattle.version_index.specs.Hits.{TellsFirst, is_watched};
-ghost use Rattle.version_index.specs.Log.{stamped_of};
+ghost use Rattle.version_index.specs.Hits.{TellsFirst};
 ghost use Rattle.version_index.specs.Rows.{rows_of_keys};
 ghost use Rattle.version_index.specs.View.{IsAsked, IsView, history_in, told_of};
 
-use crate::entry::{Entry, entry_at, place_at};
-use crate::hits::{Watch, covers_part, first_hit, first_touching};
+use crate::hits::{first_hit, first_touching};
 use crate::keyed::first_late;
 use crate::rows::add_key;
 use crate::span::{column_of, first_above, one_value, rows_of_span};
 use crate::view::{Look, TableView};
 use rel_base::{Key, List, NoMemory, Read, Seen, TableDef, Value};
 use row_sets::HitRef;
+use row_sets::entry::{Entry, entry_at, place_at};
+use row_sets::hits::{Watch, covers_part};
 use std::alloc::Global;
-
-/// The declaration of the table of a read.
-pub fn def_of<'a>(defs: &'a [TableDef], read: &Read) -> &'a TableDef
-    requires { ReadFitsIn defs.now read.now }
-    ensures declared { slice_get defs.now (read_table read.now) ≡ Some result.now }
-    ensures fits { ReadFits result.now read.now }
-{
-    &defs[read.table() as usize]
-}
 
 /// The row of one key after the block of a height, as a list of none or one.
 fn rows_of_key(

@@ -5,15 +5,15 @@ ghost use Rattle.std.specs.FinMap.{get};
 ghost use Rattle.rel_base.specs.Access.{ReadFits};
 ghost use Rattle.rel_base.specs.Schema.{RowFits};
 ghost use Rattle.rel_base.specs.Tables.{tables_at};
+ghost use Rattle.row_sets.specs.Log.{stamped_of};
 ghost use Rattle.version_index.specs.Chains.{slot_of};
-ghost use Rattle.version_index.specs.Log.{stamped_of};
 ghost use Rattle.version_index.specs.Rows.{covered_row, seen_of, seen_row};
 ghost use Rattle.version_index.specs.View.{IsAsked, IsView, history_in};
 
-use crate::entry::{Entry, entry_at, place_at};
 use crate::keyed::last_up_to;
 use crate::view::{Look, TableView};
 use rel_base::{Key, List, NoMemory, Place, Row, Seen, Twin};
+use row_sets::entry::{Entry, entry_at, place_at};
 use std::alloc::Global;
 
 /// Adds a row to rows, where a read covers it.

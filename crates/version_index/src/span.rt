@@ -3,25 +3,25 @@
 ghost use Rattle.std.specs.Prelude.{◌≡◌, ◌≤◌, All, Contains, IfOk, IfSome, List, None, OnOk, length, take, true};
 ghost use Rattle.std.specs.List.Sorted.{IsStrictlySortedBy};
 ghost use Rattle.std.specs.Option.{option_copied};
-ghost use Rattle.rel_base.specs.Access.{ReadFits, read_table};
-ghost use Rattle.rel_base.specs.Tables.{HistoryFits, rows, tables_at};
+ghost use Rattle.rel_base.specs.Tables.{rows, tables_at};
 ghost use Rattle.rel_base.specs.Value.{key_cmp};
 ghost use Rattle.rel_base.specs.declared.access.Read.TheVariants as read;
 ghost use Rattle.rel_base.specs.declared.value.Value.{Value as Cell};
+ghost use Rattle.row_sets.specs.Log.{history_of};
 ghost use Rattle.version_index.specs.Candidates.{Adds, IsCandidate, has_key, only_value};
 ghost use Rattle.version_index.specs.Columns.{IsColumn};
-ghost use Rattle.version_index.specs.Log.{FitsTable, InOrder, history_of};
+ghost use Rattle.version_index.specs.Log.{InOrder};
 ghost use Rattle.version_index.specs.Rows.{rows_of_keys};
 ghost use Rattle.version_index.specs.Span.{HasCellAt, HasKeyAt, IsChangedAbove, IsChangedBetween, IsTouchedSince, IsWantedBy, distinct, is_again, keys_in};
 ghost use Rattle.version_index.specs.View.{IsAsked, IsView, history_in};
 
 use crate::candidates::{Candidate, add_from, add_keys, add_living, add_touched};
 use crate::column::Column;
-use crate::entry::{Entry, entry_at};
 use crate::index::TableIndex;
 use crate::rows::add_key;
 use crate::view::{Look, TableView};
 use rel_base::{Key, List, NoMemory, Seen, Value};
+use row_sets::entry::{Entry, entry_at};
 use std::alloc::Global;
 
 /// The index by the values of a column of a table, where there is one.

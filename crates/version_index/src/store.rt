@@ -1,16 +1,16 @@
 //! The store of committed versions.
 
-ghost use Rattle.std.specs.Prelude.{◌≡◌, ◌<◌, All, IfOk, OnOk, Some, length, map, slice_get};
+ghost use Rattle.std.specs.Prelude.{◌≡◌, ◌<◌, All, IfOk, Some, length, map, slice_get};
 ghost use Rattle.version_index.specs.Index.{IsEmptyIndex, columns_in, index_columns};
 
-use crate::entry::Entry;
-use crate::growth::{note_tail, push_all};
-use crate::hits::Watch;
+use crate::growth::note_tail;
 use crate::index::TableIndex;
-use crate::reading::{def_of, late_at, rows_at};
+use crate::reading::{late_at, rows_at};
 use crate::versions::{all_back, chain_back, oldest_first};
 use crate::view::{Look, TableView};
 use rel_base::{Key, List, NoMemory, Place, Read, Seen, TableDef, Twin, Write};
+use row_sets::entry::{Entry, push_all};
+use row_sets::hits::{Watch, def_of};
 use row_sets::{HitRef, Lifespan, Versions};
 use std::alloc::Global;
 use std::marker::Model;
@@ -38,8 +38,9 @@ impl Model for IndexVersions {
     ghost use Rattle.rel_base.specs.contracts.schema.TableDef as def;
     ghost use Rattle.rel_base.specs.contracts.access.Placed as placed;
     ghost use Rattle.rel_base.specs.Tables.{Stamped};
-    ghost use Rattle.version_index.specs.Log.{history_of};
-    ghost use Rattle.version_index.specs.Kept.{WellKept, room_of};
+    ghost use Rattle.row_sets.specs.Log.{history_of};
+    ghost use Rattle.row_sets.specs.Log.{room_of};
+    ghost use Rattle.version_index.specs.Kept.{WellKept};
 
     ghost Value = { List Def × (List Stamped × ℕ) };
 

@@ -3,17 +3,17 @@
 ghost use Rattle.std.specs.Prelude.{◌≡◌, ◌++◌, ◌+◌, ◌<◌, IfOk, OnOk, drop, length, reverse};
 ghost use Rattle.std.specs.Option.{option_copied, option_map};
 ghost use Rattle.row_sets.specs.Lifespans.{is_of_key, is_of_table, lifespan, lifespans, place_of};
+ghost use Rattle.row_sets.specs.Log.{history_of, stamped_of};
 ghost use Rattle.version_index.specs.Chains.{slot_of};
-ghost use Rattle.version_index.specs.Log.{history_of, stamped_of};
 ghost use Rattle.version_index.specs.Rows.{AreFirsts, write_of};
 ghost use Rattle.version_index.specs.View.{IsView, history_in};
 
-use crate::entry::{Entry, entry_at, place_at};
 use crate::heads::Heads;
 use crate::keyed::{last_before, last_on};
 use crate::view::TableView;
 use rel_base::{Key, List, NoMemory, Place, Row, Twin};
 use row_sets::Lifespan;
+use row_sets::entry::{Entry, entry_at, place_at};
 use std::alloc::Global;
 
 /// Adds the version that a write left, where it left a row.

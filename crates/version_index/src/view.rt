@@ -1,10 +1,10 @@
 //! The log, as the index of one table sees it.
 
-ghost use Rattle.std.specs.Prelude.{◌≡◌, ◌<◌, Some, length, slice_get};
+ghost use Rattle.std.specs.Prelude.{◌<◌};
 
-use crate::entry::Entry;
 use crate::index::TableIndex;
 use rel_base::{Read, TableDef};
+use row_sets::entry::Entry;
 
 /// The log, with the index of a table. The index tells of the first entries of the log, as many as are noted; those from there on are
 /// the tail.

@@ -1,8 +1,8 @@
 use Rattle.std.proofs.Common.{◌≡◌, ◌∙◌, ◌+◌, ℕ, List, arith, subst, suc, sym, map, ap, slice_set}
 use Rattle.std.proofs.Math.Seq.{map-set_same}
 use Rattle.row_sets.proofs.Endings.{on_ok_then, on_err_then}
+use Rattle.row_sets.specs.Log.{history_of}
 use Rattle.version_index.specs.Index.{AreNoted, IsIndex}
-use Rattle.version_index.specs.Log.{history_of}
 use Rattle.version_index.specs.declared.column.Column.{Column}
 use Rattle.version_index.specs.declared.index.TableIndex.{TableIndex}
 use Rattle.version_index.proofs.Indexed.{index_from}

@@ -1,6 +1,6 @@
 use Rattle.std.proofs.Common.{◌≡◌, ◌≤◌, ◌-◌, length}
+use Rattle.row_sets.specs.Log.{history_of}
 use Rattle.version_index.specs.Index.{AreNoted, columns_in}
-use Rattle.version_index.specs.Log.{history_of}
 use Rattle.version_index.proofs.growth.note_tail.Given as goal
 
 -- the indexes tell of those that are noted

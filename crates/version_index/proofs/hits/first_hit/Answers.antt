@@ -3,8 +3,8 @@ use Rattle.std.proofs.lemmas.List.{length-map}
 use Rattle.std.proofs.lemmas.List.Elements.{All-contains}
 use Rattle.rel_base.specs.Access.{WriteFits, read_table}
 use Rattle.rel_base.proofs.Bits.{not_true}
-use Rattle.version_index.specs.Hits.{is_watched}
-use Rattle.version_index.specs.Log.{history_of, stamped_of}
+use Rattle.row_sets.specs.Watched.{is_watched}
+use Rattle.row_sets.specs.Log.{history_of, stamped_of}
 use Rattle.version_index.specs.Numbers.{passes, passes_at}
 use Rattle.version_index.proofs.Logged.{contains_got, get_history}
 use Rattle.version_index.proofs.Points.{at_below, below_or}

@@ -1,6 +1,6 @@
 use Rattle.std.proofs.Common.{◌≡◌, ◌<◌, ◌≤◌, false, ℕ}
-use Rattle.version_index.specs.Hits.{is_watched}
-use Rattle.version_index.specs.Log.{history_of}
+use Rattle.row_sets.specs.Watched.{is_watched}
+use Rattle.row_sets.specs.Log.{history_of}
 use Rattle.version_index.specs.Numbers.{passes_at}
 use Rattle.version_index.proofs.hits.first_hit.Given as goal
 

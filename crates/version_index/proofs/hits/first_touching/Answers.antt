@@ -1,7 +1,7 @@
 use Rattle.std.proofs.Common.{◌≡◌, ◌∙◌, ap, arith, cond, sym, subst, Some}
 use Rattle.std.proofs.lemmas.List.Elements.{All-contains}
 use Rattle.rel_base.specs.Access.{WriteFits, read_table}
-use Rattle.version_index.specs.Log.{stamped_of}
+use Rattle.row_sets.specs.Log.{stamped_of}
 use Rattle.version_index.specs.View.{history_in}
 use Rattle.version_index.proofs.Logged.{contains_got, get_history}
 use Rattle.version_index.proofs.Points.{no_items}

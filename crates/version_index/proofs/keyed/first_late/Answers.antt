@@ -1,7 +1,7 @@
 use Rattle.std.proofs.Common.{◌<◌, ℕ, List, arith, subst, sym}
 use Rattle.rel_base.specs.declared.value.Value.{Value}
+use Rattle.row_sets.specs.Log.{history_of}
 use Rattle.version_index.specs.Chain.{is_late, is_on}
-use Rattle.version_index.specs.Log.{history_of}
 use Rattle.version_index.proofs.Firsts.{late_end, late_start}
 use Rattle.version_index.proofs.Lasts.{count, fewer_left}
 use Rattle.version_index.proofs.Logged.{late_within}

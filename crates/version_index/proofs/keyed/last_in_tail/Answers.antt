@@ -1,6 +1,6 @@
 use Rattle.std.proofs.Common.{◌≡◌, ◌∙◌, ◌<◌, ◌≤◌, ◌-◌, ◌⊎◌, ℕ, false, inl, inr, ap, arith, sym, take}
+use Rattle.row_sets.specs.Log.{history_of}
 use Rattle.version_index.specs.Chain.{is_on}
-use Rattle.version_index.specs.Log.{history_of}
 use Rattle.version_index.specs.Numbers.{passes, passes_at}
 use Rattle.version_index.proofs.Logged.{get_history}
 use Rattle.version_index.proofs.Points.{below_or, fails_drop, last_points, take_at}

@@ -1,7 +1,7 @@
 use Rattle.std.proofs.Common.{◌<◌, ℕ, List, arith, subst, sym}
 use Rattle.rel_base.specs.declared.value.Value.{Value}
+use Rattle.row_sets.specs.Log.{history_of}
 use Rattle.version_index.specs.Chain.{is_on, is_seen}
-use Rattle.version_index.specs.Log.{history_of}
 use Rattle.version_index.proofs.Lasts.{count, fewer_left, walk_end, walk_start}
 use Rattle.version_index.proofs.Logged.{seen_within}
 use Rattle.version_index.proofs.Walked.{SeenWalk, number_of, seen_back, seen_below, seen_found}

@@ -1,4 +1,4 @@
-use Rattle.version_index.specs.Hits.{is_watched}
+use Rattle.row_sets.specs.Watched.{is_watched}
 use Rattle.version_index.specs.View.{history_in}
 use Rattle.version_index.proofs.Points.{first_of_from}
 use Rattle.version_index.proofs.Watching.{low_numbers}

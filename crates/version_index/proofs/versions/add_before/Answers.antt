@@ -3,7 +3,7 @@ use Rattle.std.specs.List.{find}
 use Rattle.std.specs.Option.{option_map}
 use Rattle.row_sets.specs.Lifespans.{is_of_table, lifespan, lifespans, place_of}
 use Rattle.row_sets.proofs.Endings.{on_ok_then}
-use Rattle.version_index.specs.Log.{history_of, stamped_of}
+use Rattle.row_sets.specs.Log.{history_of, stamped_of}
 use Rattle.version_index.specs.Chain.{is_on}
 use Rattle.version_index.specs.Rows.{AreFirsts, write_of}
 use Rattle.version_index.proofs.Ended.{all_skip, all_step, firsts_skip, firsts_step}

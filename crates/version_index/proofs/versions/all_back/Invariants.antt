@@ -1,6 +1,6 @@
 use Rattle.std.proofs.Common.{◌≡◌, ◌≤◌, drop, length, reverse}
 use Rattle.row_sets.specs.Lifespans.{is_of_table, lifespans}
-use Rattle.version_index.specs.Log.{history_of}
+use Rattle.row_sets.specs.Log.{history_of}
 use Rattle.version_index.specs.Rows.{AreFirsts}
 use Rattle.version_index.proofs.versions.all_back.Given as goal
 

@@ -2,8 +2,8 @@ use Rattle.std.proofs.Common.{◌≡◌, ◌∙◌, ◌++◌, ◌<◌, sym, subs
 use Rattle.std.proofs.lemmas.List.{length-map}
 use Rattle.rel_base.specs.declared.value.Value.{Value}
 use Rattle.row_sets.specs.Lifespans.{lifespan, place_of}
+use Rattle.row_sets.specs.Log.{stamped_of}
 use Rattle.version_index.specs.Chain.{is_on}
-use Rattle.version_index.specs.Log.{stamped_of}
 use Rattle.version_index.specs.View.{history_in}
 use Rattle.version_index.proofs.Ended.{VersionWalk, versions_start, versions_back, versions_end, versions_below}
 use Rattle.version_index.proofs.Lasts.{count, fewer_left}

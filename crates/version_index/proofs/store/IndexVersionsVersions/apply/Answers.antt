@@ -2,7 +2,7 @@ use Rattle.std.proofs.Common.{All, ap, arith, length, length-append, subst, sym}
 use Rattle.std.proofs.lemmas.List.{length-map}
 use Rattle.rel_base.specs.Among.{WriteFitsIn}
 use Rattle.row_sets.specs.Versions.{IsBefore, stamped_at}
-use Rattle.version_index.specs.Log.{history_of, stamped_of}
+use Rattle.row_sets.specs.Log.{history_of, stamped_of}
 use Rattle.version_index.proofs.Keeping.{kept_next}
 use Rattle.version_index.proofs.store.IndexVersionsVersions.apply.Goals as goal
 

@@ -4,7 +4,8 @@ use Rattle.rel_base.specs.Access.{read_table}
 use Rattle.rel_base.specs.Late.{least_hit}
 use Rattle.rel_base.specs.Tables.{writes_between}
 use Rattle.row_sets.specs.Versions.{hit_by, hit_of}
-use Rattle.version_index.specs.Log.{InOrder, history_of}
+use Rattle.row_sets.specs.Log.{history_of}
+use Rattle.version_index.specs.Log.{InOrder}
 use Rattle.version_index.specs.View.{history_in}
 use Rattle.version_index.proofs.Answered.{told_least}
 use Rattle.version_index.proofs.Keeping.{is_asked}

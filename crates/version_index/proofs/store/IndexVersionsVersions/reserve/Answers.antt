@@ -1,7 +1,7 @@
-use Rattle.std.proofs.Common.{◌≤◌, ◌<◌, All, List, length, refl, subst, sym}
+use Rattle.std.proofs.Common.{◌<◌, All, length, refl, subst, sym}
+use Rattle.row_sets.specs.Log.{history_of}
+use Rattle.row_sets.specs.declared.entry.Entry.{Entry}
 use Rattle.version_index.specs.Index.{AreNoted}
-use Rattle.version_index.specs.Log.{history_of}
-use Rattle.version_index.specs.declared.entry.Entry.{Entry}
 use Rattle.version_index.proofs.Keeping.{entries_below, kept_noted}
 use Rattle.version_index.proofs.store.IndexVersionsVersions.reserve.Goals as goal
 

@@ -2,7 +2,7 @@ use Rattle.std.proofs.Common.{◌≡◌, ◌∙◌, IfOk, Some, ap, slice_get, s
 use Rattle.rel_base.specs.Access.{read_table}
 use Rattle.rel_base.specs.Among.{rows_in}
 use Rattle.rel_base.specs.Tables.{rows, tables_at}
-use Rattle.version_index.specs.Log.{history_of}
+use Rattle.row_sets.specs.Log.{history_of}
 use Rattle.version_index.proofs.Answered.{rows_declared}
 use Rattle.version_index.proofs.Keeping.{is_asked}
 use Rattle.version_index.proofs.store.IndexVersionsVersions.visible.Goals as goal
