@@ -1,7 +1,12 @@
 //! Operators of numbers and texts.
 
-ghost use Rattle.std.specs.Prelude.{◌≡◌};
-ghost use Rattle.proc_syntax.specs.Values.{sum_of, difference_of, product_of, quotient_of, remainder_of, negation_of, join_of};
+ghost use Rattle.std.specs.Prelude.{◌≡◌, ℤ, FitsSigned};
+ghost use Rattle.std.specs.Int.{w64};
+ghost use Rattle.std.specs.Option.{SomeIff, ok_or, option_map};
+ghost use Rattle.rel_base.specs.declared.value.Value.TheVariants as value;
+ghost use Rattle.proc_syntax.specs.declared.fault.Fault.TheVariants as fault;
+ghost use Rattle.proc_syntax.specs.declared.run.Stop.TheVariants as stop;
+ghost use Rattle.proc_syntax.specs.Values.{number, sum_of, difference_of, product_of, quotient_of, remainder_of, negation_of, join_of};
 ghost use Rattle.proc_eval.specs.Gives.{Gives};
 
 use crate::halt::Halt;
@@ -9,83 +14,76 @@ use proc_syntax::{Fault, Stop};
 use rel_base::{StrFault, Value};
 use std::alloc::Global;
 
+/// The number that was computed, where it fits 64 bits.
+fn fitting(computed: Option<i64>) -> Result<Value, Stop>
+    ensures exact { result ≡ ok_or (option_map value.Int computed) (stop.Fault fault.Overflow) }
+    ensures means { (n : ℤ) → SomeIff computed (FitsSigned w64 n) n → result ≡ number n }
+{
+    match computed {
+        Some(number) => Ok(Value::Int(number)),
+        None => Err(Stop::Fault(Fault::Overflow)),
+    }
+}
+
 /// `left + right`.
-pub fn sum(left: &Value, right: &Value) -> Result<Value, Halt>
-    ensures { Gives result (sum_of left.now right.now) }
+pub fn sum(left: &Value, right: &Value) -> Result<Value, Stop>
+    ensures { result ≡ sum_of left.now right.now }
 {
     match (left, right) {
-        (Value::Int(left), Value::Int(right)) => match left.checked_add(*right) {
-            Some(sum) => Ok(Value::Int(sum)),
-            None => Err(Halt::Stop(Stop::Fault(Fault::Overflow))),
-        },
-        _ => Err(Halt::Stop(Stop::IllTyped)),
+        (Value::Int(left), Value::Int(right)) => fitting(left.checked_add(*right)),
+        _ => Err(Stop::IllTyped),
     }
 }
 
 /// `left - right`.
-pub fn difference(left: &Value, right: &Value) -> Result<Value, Halt>
-    ensures { Gives result (difference_of left.now right.now) }
+pub fn difference(left: &Value, right: &Value) -> Result<Value, Stop>
+    ensures { result ≡ difference_of left.now right.now }
 {
     match (left, right) {
-        (Value::Int(left), Value::Int(right)) => match left.checked_sub(*right) {
-            Some(difference) => Ok(Value::Int(difference)),
-            None => Err(Halt::Stop(Stop::Fault(Fault::Overflow))),
-        },
-        _ => Err(Halt::Stop(Stop::IllTyped)),
+        (Value::Int(left), Value::Int(right)) => fitting(left.checked_sub(*right)),
+        _ => Err(Stop::IllTyped),
     }
 }
 
 /// `left * right`.
-pub fn product(left: &Value, right: &Value) -> Result<Value, Halt>
-    ensures { Gives result (product_of left.now right.now) }
+pub fn product(left: &Value, right: &Value) -> Result<Value, Stop>
+    ensures { result ≡ product_of left.now right.now }
 {
     match (left, right) {
-        (Value::Int(left), Value::Int(right)) => match left.checked_mul(*right) {
-            Some(product) => Ok(Value::Int(product)),
-            None => Err(Halt::Stop(Stop::Fault(Fault::Overflow))),
-        },
-        _ => Err(Halt::Stop(Stop::IllTyped)),
+        (Value::Int(left), Value::Int(right)) => fitting(left.checked_mul(*right)),
+        _ => Err(Stop::IllTyped),
     }
 }
 
 /// `left / right`, truncated toward 0.
-pub fn quotient(left: &Value, right: &Value) -> Result<Value, Halt>
-    ensures { Gives result (quotient_of left.now right.now) }
+pub fn quotient(left: &Value, right: &Value) -> Result<Value, Stop>
+    ensures { result ≡ quotient_of left.now right.now }
 {
     match (left, right) {
-        (Value::Int(_), Value::Int(0)) => Err(Halt::Stop(Stop::Fault(Fault::ZeroDivide))),
-        (Value::Int(left), Value::Int(right)) => match left.checked_div(*right) {
-            Some(quotient) => Ok(Value::Int(quotient)),
-            None => Err(Halt::Stop(Stop::Fault(Fault::Overflow))),
-        },
-        _ => Err(Halt::Stop(Stop::IllTyped)),
+        (Value::Int(_), Value::Int(0)) => Err(Stop::Fault(Fault::ZeroDivide)),
+        (Value::Int(left), Value::Int(right)) => fitting(left.checked_div(*right)),
+        _ => Err(Stop::IllTyped),
     }
 }
 
 /// `left % right`, with the sign of `left`.
-pub fn remainder(left: &Value, right: &Value) -> Result<Value, Halt>
-    ensures { Gives result (remainder_of left.now right.now) }
+pub fn remainder(left: &Value, right: &Value) -> Result<Value, Stop>
+    ensures { result ≡ remainder_of left.now right.now }
 {
     match (left, right) {
-        (Value::Int(_), Value::Int(0)) => Err(Halt::Stop(Stop::Fault(Fault::ZeroDivide))),
-        (Value::Int(left), Value::Int(right)) => match left.checked_rem(*right) {
-            Some(remainder) => Ok(Value::Int(remainder)),
-            None => Err(Halt::Stop(Stop::Fault(Fault::Overflow))),
-        },
-        _ => Err(Halt::Stop(Stop::IllTyped)),
+        (Value::Int(_), Value::Int(0)) => Err(Stop::Fault(Fault::ZeroDivide)),
+        (Value::Int(left), Value::Int(right)) => fitting(left.checked_rem(*right)),
+        _ => Err(Stop::IllTyped),
     }
 }
 
 /// `-value`.
-pub fn negation(value: &Value) -> Result<Value, Halt>
-    ensures { Gives result (negation_of value.now) }
+pub fn negation(value: &Value) -> Result<Value, Stop>
+    ensures { result ≡ negation_of value.now }
 {
     match value {
-        Value::Int(value) => match value.checked_neg() {
-            Some(negation) => Ok(Value::Int(negation)),
-            None => Err(Halt::Stop(Stop::Fault(Fault::Overflow))),
-        },
-        _ => Err(Halt::Stop(Stop::IllTyped)),
+        Value::Int(value) => fitting(value.checked_neg()),
+        _ => Err(Stop::IllTyped),
     }
 }
 

@@ -15,37 +15,37 @@ use std::alloc::Global;
 use std::cmp::Ordering;
 
 /// The truth value that a value is.
-pub fn flag(value: &Value) -> Result<bool, Halt>
-    ensures { Gives result (flag_of value.now) }
+pub fn flag(value: &Value) -> Result<bool, Stop>
+    ensures { result ≡ flag_of value.now }
 {
     match value {
         Value::Bool(flag) => Ok(*flag),
-        _ => Err(Halt::Stop(Stop::IllTyped)),
+        _ => Err(Stop::IllTyped),
     }
 }
 
 /// `not value`.
-pub fn negated(value: &Value) -> Result<Value, Halt>
-    ensures { Gives result (not_of value.now) }
+pub fn negated(value: &Value) -> Result<Value, Stop>
+    ensures { result ≡ not_of value.now }
 {
     let holds = flag(value)?;
     Ok(Value::Bool(!holds))
 }
 
 /// How two values of one kind stand to each other.
-pub fn compare(left: &Value, right: &Value) -> Result<Ordering, Halt>
-    ensures { Gives result (cond (has_kind (kind_of left.now) right.now) (Ok (value_cmp left.now right.now)) (Err stop.IllTyped)) }
+pub fn compare(left: &Value, right: &Value) -> Result<Ordering, Stop>
+    ensures { result ≡ cond (has_kind (kind_of left.now) right.now) (Ok (value_cmp left.now right.now)) (Err stop.IllTyped) }
 {
     if has_kind(left.kind(), right) {
         Ok(left.cmp(right))
     } else {
-        Err(Halt::Stop(Stop::IllTyped))
+        Err(Stop::IllTyped)
     }
 }
 
 /// Both of two truth values.
-pub fn both(left: &Value, right: &Value) -> Result<Value, Halt>
-    ensures { Gives result (and_of left.now (Ok right.now)) }
+pub fn both(left: &Value, right: &Value) -> Result<Value, Stop>
+    ensures { result ≡ and_of left.now (Ok right.now) }
 {
     if flag(left)? {
         let holds = flag(right)?;
@@ -56,8 +56,8 @@ pub fn both(left: &Value, right: &Value) -> Result<Value, Halt>
 }
 
 /// One of two truth values.
-pub fn either(left: &Value, right: &Value) -> Result<Value, Halt>
-    ensures { Gives result (or_of left.now (Ok right.now)) }
+pub fn either(left: &Value, right: &Value) -> Result<Value, Stop>
+    ensures { result ≡ or_of left.now (Ok right.now) }
 {
     if flag(left)? {
         Ok(Value::Bool(true))
@@ -72,19 +72,19 @@ pub fn two(alloc: Global, op: Op, left: &Value, right: &Value) -> Result<Value, 
     ensures { Gives result (two_of op left.now right.now) }
 {
     match op {
-        Op::Or => either(left, right),
-        Op::And => both(left, right),
+        Op::Or => Ok(either(left, right)?),
+        Op::And => Ok(both(left, right)?),
         Op::Eq => Ok(Value::Bool(compare(left, right)?.is_eq())),
         Op::Ne => Ok(Value::Bool(compare(left, right)?.is_ne())),
         Op::Lt => Ok(Value::Bool(compare(left, right)?.is_lt())),
         Op::Le => Ok(Value::Bool(compare(left, right)?.is_le())),
         Op::Gt => Ok(Value::Bool(compare(left, right)?.is_gt())),
         Op::Ge => Ok(Value::Bool(compare(left, right)?.is_ge())),
-        Op::Add => sum(left, right),
-        Op::Sub => difference(left, right),
+        Op::Add => Ok(sum(left, right)?),
+        Op::Sub => Ok(difference(left, right)?),
         Op::Join => join(alloc, left, right),
-        Op::Mul => product(left, right),
-        Op::Div => quotient(left, right),
-        Op::Rem => remainder(left, right),
+        Op::Mul => Ok(product(left, right)?),
+        Op::Div => Ok(quotient(left, right)?),
+        Op::Rem => Ok(remainder(left, right)?),
     }
 }

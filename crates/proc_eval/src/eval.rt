@@ -70,11 +70,11 @@ pub fn eval(
         ),
         Expr::Not { inner, .. } => {
             let value = eval(alloc, tables, variables, inner.get())?;
-            negated(&value)
+            Ok(negated(&value)?)
         }
         Expr::Neg { inner, .. } => {
             let value = eval(alloc, tables, variables, inner.get())?;
-            negation(&value)
+            Ok(negation(&value)?)
         }
         Expr::Paren { inner, .. } => eval(alloc, tables, variables, inner.get()),
         Expr::Two { op, left, right } => {

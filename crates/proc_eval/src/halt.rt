@@ -20,3 +20,14 @@ impl From<NoMemory> for Halt {
         Halt::NoMemory
     }
 }
+
+impl From<Stop> for Halt {
+    ghost use Rattle.std.specs.Prelude.{◌≡◌};
+    ghost use Rattle.proc_eval.specs.declared.halt.Halt.TheVariants as halt;
+
+    ghost from_gives = { λ why e. e ≡ halt.Stop why };
+
+    fn from(why: Stop) -> Halt {
+        Halt::Stop(why)
+    }
+}

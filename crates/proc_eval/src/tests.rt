@@ -1,30 +1,26 @@
 //! Operators at numbers that were worked by hand.
 
 use crate::arith::{negation, product, quotient, remainder, sum};
-use crate::halt::Halt;
 use proc_syntax::{Fault, Stop};
 use rel_base::Value;
 use std::test::Fail;
 
-fn is_int(found: &Result<Value, Halt>, wanted: i64) -> bool {
+fn is_int(found: &Result<Value, Stop>, wanted: i64) -> bool {
     matches!(found, Ok(Value::Int(value)) if *value == wanted)
 }
 
 /// The fault that stops a run.
-fn fault_of(found: &Result<Value, Halt>) -> Option<&Fault> {
+fn fault_of(found: &Result<Value, Stop>) -> Option<&Fault> {
     match found {
         Ok(_) => None,
-        Err(halt) => match halt {
-            Halt::NoMemory => None,
-            Halt::Stop(stop) => match stop {
-                Stop::Fault(fault) => Some(fault),
-                Stop::IllTyped => None,
-            },
+        Err(stop) => match stop {
+            Stop::Fault(fault) => Some(fault),
+            Stop::IllTyped => None,
         },
     }
 }
 
-fn is_overflow(found: &Result<Value, Halt>) -> bool {
+fn is_overflow(found: &Result<Value, Stop>) -> bool {
     matches!(fault_of(found), Some(Fault::Overflow))
 }
 
@@ -39,7 +35,7 @@ fn division_truncates_and_a_remainder_has_the_sign_of_the_dividend(
     assert!(rt;
         matches!(
             quotient(&two, &Value::Int(0)),
-            Err(Halt::Stop(Stop::Fault(Fault::ZeroDivide)))
+            Err(Stop::Fault(Fault::ZeroDivide))
         )
     );
     Ok(())
