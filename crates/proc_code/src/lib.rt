@@ -7,6 +7,8 @@ pub mod laws;
 pub mod numbering;
 pub mod places;
 pub mod resolving;
+pub mod statements;
+pub mod terms;
 pub mod tree;
 pub mod values;
 

@@ -1,6 +1,6 @@
 use Rattle.std.proofs.Common.{◌≡◌, ◌++◌, drop, map}
 use Rattle.proc_code.specs.Resolved.{term_of}
-use Rattle.proc_code.proofs.resolving.resolve_terms.Given as goal
+use Rattle.proc_code.proofs.terms.resolve_terms.Given as goal
 
 -- the terms so far, and those of the rest
 abbrev pub invariant-loop-expr : goal.invariant-loop-expr

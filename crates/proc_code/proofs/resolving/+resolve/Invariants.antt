@@ -1,7 +1,0 @@
-use Rattle.std.proofs.Common.{◌≡◌, ◌++◌, drop, map}
-use Rattle.proc_code.specs.Resolved.{action_of}
-use Rattle.proc_code.proofs.resolving.+resolve.Given as goal
-
--- the actions so far, and those of the rest
-abbrev pub invariant-resolve_block-loop-stmt : goal.invariant-resolve_block-loop-stmt
-invariant-resolve_block-loop-stmt l = l.actions ++ map (action_of l.tables l.columns l.names) (drop l.stmt-index l.stmts) ≡ map (action_of l.tables l.columns l.names) l.stmts

@@ -1,7 +1,0 @@
-use Rattle.std.proofs.Common.{◌≡◌, ◌++◌, drop, map}
-use Rattle.proc_code.specs.Resolved.{setting_of}
-use Rattle.proc_code.proofs.resolving.resolve_settings.Given as goal
-
--- the settings so far, and those of the rest
-abbrev pub invariant-loop-change : goal.invariant-loop-change
-invariant-loop-change l = l.settings ++ map (setting_of l.tables l.columns l.names l.table) (drop l.change-index l.changes) ≡ map (setting_of l.tables l.columns l.names l.table) l.changes

@@ -1,0 +1,231 @@
+//! Names in the statements of a procedure, resolved to numbers once its variables are known.
+
+ghost use Rattle.std.specs.Prelude.{◌≡◌, ◌<◌, ◌^◌, IfOk, length, map};
+ghost use Rattle.std.specs.Option.{option_map};
+ghost use Rattle.proc_code.specs.declared.tree.Action.TheVariants as action;
+ghost use Rattle.proc_code.specs.Numbers.{number_of, table_number, column_of_table};
+ghost use Rattle.proc_code.specs.Resolved.{term_of, setting_of, action_of};
+
+use crate::numbering::Numbering;
+use crate::places::{column_of_table, table_number};
+use crate::terms::{resolve_end, resolve_term, resolve_terms};
+use crate::tree::{Action, Setting};
+use proc_syntax::{Change, Expr, Named, Stmt};
+use rel_base::{List, Name, NoMemory, TableDef, Twin};
+use std::alloc::Global;
+
+/// What resolves the names in the statements of a procedure: the declared tables, and the numbers of columns and variables.
+#[derive(Clone, Copy)]
+pub struct Resolver<'a> {
+    pub alloc: Global,
+    pub tables: &'a List<TableDef>,
+    pub columns: &'a Numbering,
+    pub names: &'a Numbering,
+}
+
+/// `span on column from low to high`.
+#[derive(Clone, Copy)]
+struct Span<'a> {
+    column: &'a Named,
+    low: &'a Option<Expr>,
+    high: &'a Option<Expr>,
+}
+
+fn resolve_settings(
+    resolver: &Resolver<'_>,
+    table: &Name,
+    changes: &[Change],
+) -> Result<List<Setting>, NoMemory>
+    requires { length resolver.now.tables.now < 2 ^ 32 }
+    ensures { IfOk result (λ settings. settings ≡ map (setting_of resolver.now.tables.now resolver.now.columns.now resolver.now.names.now table.now) changes.now) }
+{
+    let mut settings = List::new(resolver.alloc);
+    for change in changes {
+        let setting = Setting {
+            column: column_of_table(resolver.tables, table, &change.column.name),
+            value: resolve_term(
+                resolver.alloc,
+                resolver.columns,
+                resolver.names,
+                &change.value,
+            )?,
+        };
+        settings.push(setting)?;
+    }
+    Ok(settings)
+}
+
+/// The code of a block.
+#[cycle(resolve)]
+pub fn resolve_block(resolver: &Resolver<'_>, stmts: &[Stmt]) -> Result<List<Action>, NoMemory>
+    requires { length resolver.now.tables.now < 2 ^ 32 }
+    ensures { IfOk result (λ actions. actions ≡ map (action_of resolver.now.tables.now resolver.now.columns.now resolver.now.names.now) stmts.now) }
+{
+    let mut actions = List::new(resolver.alloc);
+    for stmt in stmts {
+        let action = resolve_stmt(resolver, stmt)?;
+        actions.push(action)?;
+    }
+    Ok(actions)
+}
+
+/// The code of a statement.
+#[cycle(resolve)]
+fn resolve_stmt(resolver: &Resolver<'_>, stmt: &Stmt) -> Result<Action, NoMemory>
+    requires { length resolver.now.tables.now < 2 ^ 32 }
+    ensures { IfOk result (λ action. action ≡ action_of resolver.now.tables.now resolver.now.columns.now resolver.now.names.now stmt.now) }
+{
+    match stmt {
+        Stmt::Let { name, value } => resolve_set(resolver, name, value),
+        Stmt::Assign { name, value } => resolve_set(resolver, name, value),
+        Stmt::If { test, then, other } => {
+            let test = resolve_term(resolver.alloc, resolver.columns, resolver.names, test)?;
+            let then = resolve_block(resolver, then.as_slice())?;
+            match other {
+                None => Ok(Action::If {
+                    test,
+                    then,
+                    other: List::new(resolver.alloc),
+                }),
+                Some(other) => Ok(Action::If {
+                    test,
+                    then,
+                    other: resolve_block(resolver, other.as_slice())?,
+                }),
+            }
+        }
+        Stmt::Get {
+            name,
+            table,
+            key,
+            found,
+            absent,
+        } => Ok(Action::Get {
+            slot: resolver.names.number_or_len(&name.name),
+            table: table_number(resolver.tables, &table.name),
+            key: resolve_terms(
+                resolver.alloc,
+                resolver.columns,
+                resolver.names,
+                key.as_slice(),
+            )?,
+            found: resolve_block(resolver, found.as_slice())?,
+            absent: resolve_block(resolver, absent.as_slice())?,
+        }),
+        Stmt::For {
+            name,
+            table,
+            column,
+            low,
+            high,
+            body,
+        } => {
+            let span = Span { column, low, high };
+            resolve_for(resolver, name, table, &span, body)
+        }
+        Stmt::Insert { table, values } => resolve_insert(resolver, table, values),
+        Stmt::Update {
+            table,
+            key,
+            changes,
+        } => resolve_update(resolver, table, key, changes),
+        Stmt::Delete { table, key } => resolve_delete(resolver, table, key),
+        Stmt::Fail { text } => Ok(Action::Fail {
+            text: text.copy(resolver.alloc)?,
+        }),
+    }
+}
+
+/// The code of a `let` or of an assignment.
+fn resolve_set(resolver: &Resolver<'_>, name: &Named, value: &Expr) -> Result<Action, NoMemory>
+    ensures { IfOk result (λ made. made ≡ action.Set (number_of resolver.now.names.now name.now.name) (term_of resolver.now.columns.now resolver.now.names.now value.now)) }
+{
+    Ok(Action::Set {
+        slot: resolver.names.number_or_len(&name.name),
+        value: resolve_term(resolver.alloc, resolver.columns, resolver.names, value)?,
+    })
+}
+
+/// The code of a `for`.
+#[cycle(resolve)]
+fn resolve_for(
+    resolver: &Resolver<'_>,
+    name: &Named,
+    table: &Named,
+    span: &Span<'_>,
+    body: &List<Stmt>,
+) -> Result<Action, NoMemory>
+    requires { length resolver.now.tables.now < 2 ^ 32 }
+    ensures { IfOk result (λ made. made ≡ action.For (number_of resolver.now.names.now name.now.name) (table_number resolver.now.tables.now table.now.name) (column_of_table resolver.now.tables.now table.now.name span.now.column.now.name) (option_map (term_of resolver.now.columns.now resolver.now.names.now) span.now.low.now) (option_map (term_of resolver.now.columns.now resolver.now.names.now) span.now.high.now) (map (action_of resolver.now.tables.now resolver.now.columns.now resolver.now.names.now) body.now)) }
+{
+    Ok(Action::For {
+        slot: resolver.names.number_or_len(&name.name),
+        table: table_number(resolver.tables, &table.name),
+        column: column_of_table(resolver.tables, &table.name, &span.column.name),
+        low: resolve_end(resolver.alloc, resolver.columns, resolver.names, span.low)?,
+        high: resolve_end(resolver.alloc, resolver.columns, resolver.names, span.high)?,
+        body: resolve_block(resolver, body.as_slice())?,
+    })
+}
+
+/// The code of an `insert`.
+fn resolve_insert(
+    resolver: &Resolver<'_>,
+    table: &Named,
+    values: &List<Expr>,
+) -> Result<Action, NoMemory>
+    requires { length resolver.now.tables.now < 2 ^ 32 }
+    ensures { IfOk result (λ made. made ≡ action.Insert (table_number resolver.now.tables.now table.now.name) (map (term_of resolver.now.columns.now resolver.now.names.now) values.now)) }
+{
+    Ok(Action::Insert {
+        table: table_number(resolver.tables, &table.name),
+        values: resolve_terms(
+            resolver.alloc,
+            resolver.columns,
+            resolver.names,
+            values.as_slice(),
+        )?,
+    })
+}
+
+/// The code of an `update`.
+fn resolve_update(
+    resolver: &Resolver<'_>,
+    table: &Named,
+    key: &List<Expr>,
+    changes: &List<Change>,
+) -> Result<Action, NoMemory>
+    requires { length resolver.now.tables.now < 2 ^ 32 }
+    ensures { IfOk result (λ made. made ≡ action.Update (table_number resolver.now.tables.now table.now.name) (map (term_of resolver.now.columns.now resolver.now.names.now) key.now) (map (setting_of resolver.now.tables.now resolver.now.columns.now resolver.now.names.now table.now.name) changes.now)) }
+{
+    Ok(Action::Update {
+        table: table_number(resolver.tables, &table.name),
+        key: resolve_terms(
+            resolver.alloc,
+            resolver.columns,
+            resolver.names,
+            key.as_slice(),
+        )?,
+        settings: resolve_settings(resolver, &table.name, changes.as_slice())?,
+    })
+}
+
+/// The code of a `delete`.
+fn resolve_delete(
+    resolver: &Resolver<'_>,
+    table: &Named,
+    key: &List<Expr>,
+) -> Result<Action, NoMemory>
+    requires { length resolver.now.tables.now < 2 ^ 32 }
+    ensures { IfOk result (λ made. made ≡ action.Delete (table_number resolver.now.tables.now table.now.name) (map (term_of resolver.now.columns.now resolver.now.names.now) key.now)) }
+{
+    Ok(Action::Delete {
+        table: table_number(resolver.tables, &table.name),
+        key: resolve_terms(
+            resolver.alloc,
+            resolver.columns,
+            resolver.names,
+            key.as_slice(),
+        )?,
+    })
+}
