@@ -7,8 +7,8 @@ use Rattle.std.proofs.lemmas.Option.{none-some, some_pair_parts}
 use Rattle.canon_code.proofs.Exact.{IsExact}
 use Rattle.canon_code.specs.Codes.{AreBytes}
 use Rattle.canon_code.specs.Reads.{Reads}
-use Rattle.canon_code.specs.declared.fault.CodeFault.TheVariants as fault
-use Rattle.canon_code.specs.declared.fault.CodeFault.{CodeFault}
+use Rattle.rel_base.specs.declared.reading.ReadFault.TheVariants as fault
+use Rattle.rel_base.specs.declared.reading.ReadFault.{ReadFault}
 use Rattle.block_digest.specs.Decoding.{Decodes}
 use Rattle.block_digest.specs.Joined.{Reading}
 
@@ -39,6 +39,6 @@ whole_left code HasCode reading exact bytes x rest e some y has coded =
 
 -- where nothing is read, no code is the whole
 pub whole_none : {A : Type 0} (code : A → List ℕ) (HasCode : A → Type 0) (reading : Reading A) → IsExact code HasCode reading
-    → (bytes : List ℕ) (e : CodeFault) → Reads {A = A} (Err e) (reading bytes) → Decodes code HasCode bytes (Err e)
+    → (bytes : List ℕ) (e : ReadFault) → Reads {A = A} (Err e) (reading bytes) → Decodes code HasCode bytes (Err e)
 whole_none code HasCode reading exact bytes fault.NoMemory none = tt
 whole_none code HasCode reading exact bytes fault.Bad none = λ y has coded. none-some (y, []) (sym none ∙ whole_read code HasCode reading exact bytes y has coded)

@@ -2,8 +2,8 @@
 use Rattle.block_digest.specs.Codable.{IsCodable}
 use Rattle.block_digest.specs.Decoding.{Decodes}
 use Rattle.block_digest.specs.Grammar.{HasBlockCode}
-use Rattle.canon_code.specs.declared.fault.CodeFault.TheVariants as fault
-use Rattle.canon_code.specs.declared.fault.CodeFault.{CodeFault}
+use Rattle.rel_base.specs.declared.reading.ReadFault.TheVariants as fault
+use Rattle.rel_base.specs.declared.reading.ReadFault.{ReadFault}
 use Rattle.node_model.specs.BlockCode.{block_code, digest_of}
 use Rattle.node_model.specs.declared.result.BlockResult.{BlockResult}
 use Rattle.std.specs.Prelude.{List, MatchResult, Result, pos, replicate, ◌≡◌, ℕ}
@@ -26,5 +26,5 @@ CanBeWritten = (block : BlockResult) → HasBlockCode block → IsCodable block
 
 -- and where its code is decoded, the answer is that block, unless memory ran out
 abbrev pub IsReadBack : Type 0
-IsReadBack = (block : BlockResult) (answer : Result BlockResult CodeFault) → HasBlockCode block → Decodes block_code HasBlockCode (block_code block) answer
+IsReadBack = (block : BlockResult) (answer : Result BlockResult ReadFault) → HasBlockCode block → Decodes block_code HasBlockCode (block_code block) answer
     → MatchResult answer (λ found. found ≡ block) (λ e. e ≡ fault.NoMemory)

@@ -7,8 +7,8 @@ use Rattle.std.proofs.lemmas.Bool.{cases_lt, ltb-false, le-ltb, le-leb, leb-true
 use Rattle.std.proofs.lemmas.List.{take_at, drop_at, take-append-drop, length-take, get_or-drop, get_or-take, get_or_past, get_or-append-add}
 use Rattle.std.proofs.lemmas.Nat.{be_bytes_4, be_bytes_8, from_be_bytes-to_be_bytes_4, from_be_bytes-to_be_bytes_8}
 use Rattle.std.proofs.lemmas.Option.{none-some, same_Some, some_pair_parts}
-use Rattle.canon_code.specs.declared.fault.CodeFault.{CodeFault}
-use Rattle.canon_code.specs.declared.fault.CodeFault.TheVariants as fault
+use Rattle.rel_base.specs.declared.reading.ReadFault.{ReadFault}
+use Rattle.rel_base.specs.declared.reading.ReadFault.TheVariants as fault
 use Rattle.canon_code.specs.Codes.{AreBytes, be_code, byte_code, short_code, HasShortCode, counted, HasCounted}
 use Rattle.canon_code.specs.Parts.{◌>>=◌, number_at, byte_at, short_at, items_at, counted_at}
 use Rattle.canon_code.specs.Reads.{Reads, IsFront, Gets}
@@ -48,7 +48,7 @@ is_front code HasCode reading exact bytes x rest fits e =
 
 -- where nothing was read, no code stands at the front
 pub no_front : {A : Type 0} (code : A → List ℕ) (HasCode : A → Type 0) (reading : List ℕ → Option (A × List ℕ)) → IsExact code HasCode reading
-    → (bytes : List ℕ) (e : CodeFault) → Reads {A = A} (Err e) (reading bytes) → Gets code HasCode bytes (Err e)
+    → (bytes : List ℕ) (e : ReadFault) → Reads {A = A} (Err e) (reading bytes) → Gets code HasCode bytes (Err e)
 no_front code HasCode reading exact bytes fault.NoMemory none = tt
 no_front code HasCode reading exact bytes fault.Bad none = λ x rest has e. none-some (x, rest) (sym none ∙ ap reading e ∙ exact.back x rest has)
 

@@ -1,30 +1,14 @@
 -- What a reader answers, against the codes.
 use Rattle.std.specs.Prelude.{◌≡◌, ◌++◌, ℕ, List, length, take, Option, Some, None, Result, Ok, Err}
 use denote.Bor.{Bor}
-use Rattle.canon_code.specs.declared.fault.CodeFault.{CodeFault}
-use Rattle.canon_code.specs.declared.fault.CodeFault.TheVariants as fault
-
--- the thing and the bytes after it, exactly where reading gives them, unless memory ran out
-abbrev pub Reads : {A : Type 0} → Result (A × Bor (List ℕ)) CodeFault → Option (A × List ℕ) → Type 0
-Reads (Ok found) meant = meant ≡ Some (found.0, found.1.now)
-Reads (Err fault.NoMemory) meant = Unit {0}
-Reads (Err fault.Bad) meant = meant ≡ None
-
--- the thing alone
-abbrev pub Gives : {A : Type 0} → Result A CodeFault → Option A → Type 0
-Gives (Ok found) meant = meant ≡ Some found
-Gives (Err fault.NoMemory) meant = Unit {0}
-Gives (Err fault.Bad) meant = meant ≡ None
+use Rattle.rel_base.specs.declared.reading.ReadFault.{ReadFault}
+use Rattle.rel_base.specs.declared.reading.ReadFault.TheVariants as fault
+pub use Rattle.rel_base.specs.Reading.{Reads, Gives}
 
 -- bytes that were read in place
-abbrev pub slice_of : Result (Bor (List ℕ) × Bor (List ℕ)) CodeFault → Result (List ℕ × Bor (List ℕ)) CodeFault
+abbrev pub slice_of : Result (Bor (List ℕ) × Bor (List ℕ)) ReadFault → Result (List ℕ × Bor (List ℕ)) ReadFault
 slice_of (Ok found) = Ok (found.0.now, found.1)
 slice_of (Err fault) = Err fault
-
--- the bytes of a text that was found
-abbrev pub found_text : Option (Bor (List ℕ)) → Option (List ℕ)
-found_text None = None
-found_text (Some text) = Some text.now
 
 -- the code of a thing that may have one stands at the front of the bytes, and is so long
 pub record IsFront {A : Type 0} (code : A → List ℕ) (HasCode : A → Type 0) (bytes : List ℕ) (found : A × ℕ) : Type 0 where
@@ -37,7 +21,7 @@ abbrev pub HasNoFront : {A : Type 0} → (A → List ℕ) → (A → Type 0) →
 HasNoFront {A} code HasCode bytes = (x : A) (rest : List ℕ) → HasCode x → bytes ≡ code x ++ rest → ⊥
 
 -- the thing whose code stands at the front of the bytes, with the length of its code, exactly where one does, unless memory ran out
-abbrev pub Gets : {A : Type 0} → (A → List ℕ) → (A → Type 0) → List ℕ → Result (A × ℕ) CodeFault → Type 0
+abbrev pub Gets : {A : Type 0} → (A → List ℕ) → (A → Type 0) → List ℕ → Result (A × ℕ) ReadFault → Type 0
 Gets code HasCode bytes (Ok found) = IsFront code HasCode bytes found
 Gets code HasCode bytes (Err fault.NoMemory) = Unit {0}
 Gets code HasCode bytes (Err fault.Bad) = HasNoFront code HasCode bytes

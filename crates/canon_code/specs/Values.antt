@@ -1,8 +1,7 @@
 -- The code of a value: a byte for its kind, and then the value.
-use Rattle.std.specs.Prelude.{◌≡◌, ℕ, ℤ, List, [], ◌∷◌, length, Bool, true, false, cond, ◌&&◌, ◌==◌, nat_le, Option, Some, None, FitsSigned}
+use Rattle.std.specs.Prelude.{◌≡◌, ℕ, ℤ, List, [], ◌∷◌, Bool, true, false, cond, ◌==◌, Option, Some, None, FitsSigned}
 use Rattle.std.specs.Int.{w64, cast_signed, cast_unsigned}
-use Rattle.std.specs.Str.{is_utf8}
-use Rattle.rel_base.specs.Text.{has_no_control}
+pub use Rattle.rel_base.specs.Reading.{is_text}
 use Rattle.rel_base.specs.declared.value.Value.{Value}
 use Rattle.rel_base.specs.declared.value.Value.TheVariants as value
 use Rattle.canon_code.specs.Codes.{be_code, short_code, HasShortCode}
@@ -24,10 +23,6 @@ value_code (value.Int n) = 1 ∷ int_code n
 value_code (value.Text t) = 2 ∷ short_code t
 value_code (value.Bool b) = 3 ∷ bool_code b
 value_code (value.Bytes b) = 4 ∷ short_code b
-
--- UTF-8 of at most 255 bytes without a control character
-abbrev pub is_text : List ℕ → Bool
-is_text bytes = is_utf8 bytes && (nat_le (length bytes) 255 && has_no_control bytes)
 
 -- what the types promise of a value: an int has 64 bits, a text is one, bytes are few
 abbrev pub HasValueCode : Value → Type 0

@@ -4,7 +4,6 @@
 //! the front of some bytes, and answers what follows; a `get_` call answers the length of the code instead.
 #![tactic(auto)]
 
-pub mod fault;
 pub mod laws;
 pub mod number;
 pub mod row;
@@ -14,8 +13,8 @@ mod tests;
 pub mod value;
 pub mod write;
 
-pub use fault::CodeFault;
 pub use number::{get_u32, get_u64, put_u32, put_u64, read_u32, read_u64};
+pub use rel_base::ReadFault as CodeFault;
 pub use row::{MOST_VALUES, get_row, put_row, read_row};
 pub use short::{put_blob, put_text, read_blob, read_text};
 pub use value::{get_value, put_value, read_value};

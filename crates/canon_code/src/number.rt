@@ -6,7 +6,7 @@ ghost use Rattle.canon_code.specs.Codes.{be_code, byte_code};
 ghost use Rattle.canon_code.specs.Parts.{number_at, byte_at};
 ghost use Rattle.canon_code.specs.Reads.{Reads, Gets};
 
-use crate::fault::CodeFault;
+use crate::CodeFault;
 use rel_base::NoMemory;
 
 /// Writes a number of 32 bits at the end, in 4 bytes, or nothing where memory runs out.

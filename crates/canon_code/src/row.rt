@@ -7,7 +7,7 @@ ghost use Rattle.canon_code.specs.Reads.{Reads, Gets};
 ghost use Rattle.canon_code.specs.Values.{value_code, HasValueCode, value_at};
 ghost use Rattle.canon_code.specs.Rows.{row_code, HasRowCode, row_at};
 
-use crate::fault::CodeFault;
+use crate::CodeFault;
 use crate::number::read_u8;
 use crate::value::{put_value, read_value};
 use rel_base::{List, NoMemory, Row, Value};

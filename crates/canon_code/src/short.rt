@@ -1,15 +1,13 @@
 //! Texts and bytes behind one byte, which is their length.
 
-ghost use Rattle.std.specs.Prelude.{◌≡◌, ◌≤◌, ◌++◌, ◌&&◌, true, length, take, cond, Some, None, OnOk, OnErr, IsErrOf, IfOk, nat_le};
-ghost use Rattle.std.specs.Str.{is_utf8};
-ghost use Rattle.rel_base.specs.Text.{has_no_control};
+ghost use Rattle.std.specs.Prelude.{◌≡◌, ◌≤◌, ◌++◌, true, length, take, Some, OnOk, OnErr, IsErrOf, IfOk};
 ghost use Rattle.canon_code.specs.Codes.{AreBytes, HasShortCode, short_code};
 ghost use Rattle.canon_code.specs.Parts.{short_at, parted};
-ghost use Rattle.canon_code.specs.Reads.{Reads, Gives, slice_of, found_text};
+ghost use Rattle.canon_code.specs.Reads.{Reads, Gives, slice_of};
 ghost use Rattle.canon_code.specs.Values.{is_text, text_at};
 
-use crate::fault::CodeFault;
-use rel_base::{Blob, BlobFault, NoMemory, Str, StrFault};
+use crate::CodeFault;
+use rel_base::{Blob, BlobFault, NoMemory, Str, text_of};
 use std::alloc::Global;
 
 /// Writes bytes behind their length at the end, or a part of that.
@@ -80,38 +78,6 @@ fn split_short(len: u8, bytes: &[u8]) -> Result<(&[u8], &[u8]), CodeFault>
         return Err(CodeFault::Bad);
     }
     Ok(bytes.split_at(len))
-}
-
-/// The bytes as UTF-8, if they are.
-#[tactic(auto, using(crate::proofs::Texts::is_utf8_yes, crate::proofs::Texts::is_utf8_no))]
-fn utf8_of(bytes: &[u8]) -> Option<&str>
-    ensures { found_text result ≡ cond (is_utf8 bytes.now) (Some bytes.now) None }
-{
-    match std::str::from_utf8(bytes) {
-        Ok(text) => Some(text),
-        Err(_) => None,
-    }
-}
-
-/// The text, if it is short enough and has no control character.
-fn plain_text(alloc: Global, text: &str) -> Result<Str, CodeFault>
-    ensures { Gives result (cond (nat_le (length text.now) 255 && has_no_control text.now) (Some text.now) None) }
-{
-    match Str::new(alloc, text) {
-        Ok(text) => Ok(text),
-        Err(StrFault::NoMemory) => Err(CodeFault::NoMemory),
-        Err(StrFault::TooLong | StrFault::Control) => Err(CodeFault::Bad),
-    }
-}
-
-/// The text of some bytes, if they are one.
-fn text_of(alloc: Global, bytes: &[u8]) -> Result<Str, CodeFault>
-    ensures { Gives result (cond (is_text bytes.now) (Some bytes.now) None) }
-{
-    match utf8_of(bytes) {
-        Some(text) => plain_text(alloc, text),
-        None => Err(CodeFault::Bad),
-    }
 }
 
 /// Reads the text behind its length at the front of the bytes, and answers what follows it too.

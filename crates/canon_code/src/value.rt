@@ -7,7 +7,7 @@ ghost use Rattle.canon_code.specs.Parts.{short_at};
 ghost use Rattle.canon_code.specs.Reads.{Reads, Gets};
 ghost use Rattle.canon_code.specs.Values.{int_code, bool_code, value_code, HasValueCode, int_at, text_at, bool_at, as_kind, value_at};
 
-use crate::fault::CodeFault;
+use crate::CodeFault;
 use crate::number::{put_u64, read_u64};
 use crate::short::{put_blob, put_text, read_blob, read_text};
 use rel_base::{Blob, NoMemory, Str, Value};

@@ -7,7 +7,7 @@ ghost use Rattle.canon_code.specs.Reads.{Reads, Gets};
 ghost use Rattle.canon_code.specs.Rows.{row_code, key_code, HasRowCode};
 ghost use Rattle.canon_code.specs.Writes.{head_code, change_code, write_code, HasHeadCode, HasChangeCode, HasWriteCode, IsFewPart, insert_at, update_at, delete_at, change_at, write_at};
 
-use crate::fault::CodeFault;
+use crate::CodeFault;
 use crate::number::{put_u32, read_u32};
 use crate::row::{put_row, read_row};
 use rel_base::{NoMemory, Placed, Row, Write};

@@ -1,9 +1,8 @@
 -- Texts in quotes.
-use Rattle.std.specs.Prelude.{ℕ, List, [], ◌∷◌, ◌++◌, length, Bool, cond, ◌&&◌, ◌||◌, ◌==◌, nat_le, Option, Some, None}
+use Rattle.std.specs.Prelude.{ℕ, List, [], ◌∷◌, ◌++◌, Bool, cond, ◌||◌, ◌==◌, Option, Some, None}
 use Rattle.std.specs.List.{flat_map}
 use Rattle.std.specs.Option.{option_and_then}
-use Rattle.std.specs.Str.{is_utf8}
-use Rattle.rel_base.specs.Text.{has_no_control}
+pub use Rattle.rel_base.specs.Reading.{is_text}
 
 -- `"`
 abbrev pub quote : ℕ
@@ -32,10 +31,6 @@ abbrev mutual
   pub escaped : List ℕ → Option (List ℕ × List ℕ)
   escaped [] = None
   escaped (b ∷ bs) = cond (is_escaped b) (with_byte b (quoted bs)) None
-
--- UTF-8 of at most 255 bytes without a control character
-abbrev pub is_text : List ℕ → Bool
-is_text bytes = is_utf8 bytes && (nat_le (length bytes) 255 && has_no_control bytes)
 
 -- what was found, where it is a text
 abbrev pub where_text : List ℕ × List ℕ → Option (List ℕ × List ℕ)

@@ -8,7 +8,7 @@ ghost use Rattle.literals.specs.Reads.{Reads, Gives, items_of};
 ghost use Rattle.literals.specs.Bytes.{hex_value, pairs, with_pair, where_short, bytes_at, bytes_literal, hex_pair};
 ghost use Rattle.literals.specs.Part.{read_pairs_on, IsShorter};
 
-use crate::fault::LiteralFault;
+use crate::LiteralFault;
 use crate::part::Part;
 use rel_base::{Blob, BlobFault, NoMemory};
 use std::alloc::Global;

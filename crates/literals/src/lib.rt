@@ -2,7 +2,6 @@
 #![tactic(auto)]
 
 pub mod bytes;
-pub mod fault;
 pub mod laws;
 pub mod number;
 mod part;
@@ -11,6 +10,6 @@ mod tests;
 pub mod text;
 
 pub use bytes::{push_bytes, read_bytes};
-pub use fault::LiteralFault;
 pub use number::{push_int, push_number, read_number};
+pub use rel_base::ReadFault as LiteralFault;
 pub use text::{push_text, read_text};

@@ -1,17 +1,15 @@
 //! Texts in quotes.
 
-ghost use Rattle.std.specs.Prelude.{◌≡◌, ◌∷◌, ◌++◌, ◌<◌, [], length, take, cond, Some, None, OnOk, OnErr, nat_le, ◌&&◌};
-ghost use Rattle.std.specs.Str.{is_utf8};
-ghost use Rattle.rel_base.specs.Text.{has_no_control};
+ghost use Rattle.std.specs.Prelude.{◌≡◌, ◌∷◌, ◌++◌, ◌<◌, [], length, take, OnOk, OnErr};
 ghost use Rattle.std.specs.List.{flat_map};
 ghost use Rattle.std.specs.Option.{option_and_then};
-ghost use Rattle.literals.specs.Reads.{Reads, Gives, items_of, found_text};
-ghost use Rattle.literals.specs.Text.{quoted, is_text, is_escaped, where_text, text_at, text_literal, quoted_byte};
+ghost use Rattle.literals.specs.Reads.{Reads, items_of};
+ghost use Rattle.literals.specs.Text.{quoted, is_escaped, where_text, text_at, text_literal, quoted_byte};
 ghost use Rattle.literals.specs.Part.{read_on, IsShorter};
 
-use crate::fault::LiteralFault;
+use crate::LiteralFault;
 use crate::part::Part;
-use rel_base::{NoMemory, Str, StrFault};
+use rel_base::{NoMemory, Str, text_of};
 use std::alloc::Global;
 
 fn next_part(bytes: &[u8]) -> Part<'_>
@@ -49,38 +47,6 @@ fn unquote(alloc: Global, bytes: &[u8]) -> Result<(Vec<u8>, &[u8]), LiteralFault
             }
             Part::Bad => return Err(LiteralFault::Bad),
         }
-    }
-}
-
-/// The bytes as UTF-8, if they are.
-#[tactic(auto, using(crate::proofs::Utf8::is_utf8_yes, crate::proofs::Utf8::is_utf8_no))]
-fn utf8_of(bytes: &[u8]) -> Option<&str>
-    ensures { found_text result ≡ cond (is_utf8 bytes.now) (Some bytes.now) None }
-{
-    match std::str::from_utf8(bytes) {
-        Ok(text) => Some(text),
-        Err(_) => None,
-    }
-}
-
-/// The text, if it is short enough and has no control character.
-fn plain_text(alloc: Global, text: &str) -> Result<Str, LiteralFault>
-    ensures { Gives result (cond (nat_le (length text.now) 255 && has_no_control text.now) (Some text.now) None) }
-{
-    match Str::new(alloc, text) {
-        Ok(text) => Ok(text),
-        Err(StrFault::NoMemory) => Err(LiteralFault::NoMemory),
-        Err(StrFault::TooLong | StrFault::Control) => Err(LiteralFault::Bad),
-    }
-}
-
-/// The text of some bytes, if they are one.
-fn text_of(alloc: Global, bytes: &[u8]) -> Result<Str, LiteralFault>
-    ensures { Gives result (cond (is_text bytes.now) (Some bytes.now) None) }
-{
-    match utf8_of(bytes) {
-        Some(text) => plain_text(alloc, text),
-        None => Err(LiteralFault::Bad),
     }
 }
 

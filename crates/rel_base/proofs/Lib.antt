@@ -7,3 +7,4 @@ pub mod Commutes
 pub mod Least
 pub mod KeyOrder
 pub mod Stories
+mod Utf8

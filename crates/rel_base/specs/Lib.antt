@@ -1,5 +1,6 @@
 pub mod Text
 pub mod Held
+pub mod Reading
 pub mod Value
 pub mod Row
 pub mod Schema

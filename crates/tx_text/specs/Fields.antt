@@ -3,8 +3,8 @@ use Rattle.std.specs.Prelude.{◌≡◌, ℕ, List, length, take, drop, Bool, co
 use Rattle.std.specs.List.{before_first, position_or_len}
 use Rattle.std.specs.Str.{bytes_eq}
 use denote.Bor.{Bor}
-use Rattle.literals.specs.declared.fault.LiteralFault.{LiteralFault}
-use Rattle.literals.specs.declared.fault.LiteralFault.TheVariants as fault
+use Rattle.rel_base.specs.declared.reading.ReadFault.{ReadFault}
+use Rattle.rel_base.specs.declared.reading.ReadFault.TheVariants as fault
 use Rattle.rel_base.specs.Text.{has_id_form, has_name_form}
 
 -- ` `
@@ -32,7 +32,7 @@ abbrev pub name_at : List ℕ → Option (List ℕ × List ℕ)
 name_at bytes = cond (has_name_form (word bytes)) (Some (word bytes, past_word bytes)) None
 
 -- the rest of the bytes, as a reader answers it
-abbrev pub GivesRest : Result (Bor (List ℕ)) LiteralFault → Option (List ℕ) → Type 0
+abbrev pub GivesRest : Result (Bor (List ℕ)) ReadFault → Option (List ℕ) → Type 0
 GivesRest (Ok rest) meant = meant ≡ Some rest.now
 GivesRest (Err fault.NoMemory) meant = Unit {0}
 GivesRest (Err fault.Bad) meant = meant ≡ None

@@ -2,7 +2,8 @@
 
 ghost use Rattle.std.specs.Prelude.{◌≡◌, ◌<◌, ◌≤◌, length, cond, Some, None, IsErrOf};
 ghost use Rattle.std.specs.List.{position_or_len};
-ghost use Rattle.literals.specs.Reads.{Reads, Gives, found_text};
+ghost use Rattle.literals.specs.Reads.{Reads, Gives};
+ghost use Rattle.rel_base.specs.Reading.{found_text};
 ghost use Rattle.rel_base.specs.Text.{has_id_form, has_name_form};
 ghost use Rattle.tx_text.specs.Fields.{is_space, after, word, past_word, id_at, name_at, GivesRest};
 

@@ -1,6 +1,6 @@
 use Rattle.std.proofs.Common.{Err, MatchResult, Ok, Result, refl, ◌≡◌}
-use Rattle.canon_code.specs.declared.fault.CodeFault.TheVariants as fault
-use Rattle.canon_code.specs.declared.fault.CodeFault.{CodeFault}
+use Rattle.rel_base.specs.declared.reading.ReadFault.TheVariants as fault
+use Rattle.rel_base.specs.declared.reading.ReadFault.{ReadFault}
 use Rattle.canon_code.proofs.Exact.{one_to_one}
 use Rattle.node_model.specs.BlockCode.{block_code}
 use Rattle.node_model.specs.declared.result.BlockResult.{BlockResult}
@@ -21,7 +21,7 @@ returns-clause-tells c = λ x y has_x has_y same. one_to_one block_code HasBlock
 pub returns-clause-written : goal.returns-clause-written
 returns-clause-written c = can_be_written
 
-read_back : (block : BlockResult) (answer : Result BlockResult CodeFault) → HasBlockCode block → Decodes block_code HasBlockCode (block_code block) answer
+read_back : (block : BlockResult) (answer : Result BlockResult ReadFault) → HasBlockCode block → Decodes block_code HasBlockCode (block_code block) answer
     → MatchResult answer (λ found. found ≡ block) (λ e. e ≡ fault.NoMemory)
 read_back block (Ok found) has decoded = one_to_one block_code HasBlockCode block_at block_exact found block decoded.0 has decoded.1
 read_back block (Err fault.NoMemory) has decoded = refl
