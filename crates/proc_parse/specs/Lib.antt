@@ -9,6 +9,3 @@ pub mod Statements
 pub mod Grammar
 pub mod Shorter
 pub mod Faults
-pub mod Printed
-pub mod Unlined
-pub mod Laws

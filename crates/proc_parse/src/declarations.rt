@@ -7,7 +7,9 @@ ghost use Rattle.proc_parse.specs.Phrases.{names};
 ghost use Rattle.proc_parse.specs.Grammar.{table, more_parameters, parameters, procedure, is_end, application};
 ghost use Rattle.proc_parse.specs.Shorter.{shortens_procedure, shortens_table};
 
-use crate::phrase::{Phrase, Stop, list, list_in_parens, many, past_sign, past_word, sign, word};
+use crate::phrase::{
+    Parsed, Phrase, Stop, list, list_in_parens, many, past_sign, past_word, sign, word,
+};
 use crate::statements::{DEEPEST_BLOCK, block};
 use crate::token::{Lexeme, Sign, Token, Word};
 use proc_syntax::{App, ColumnText, Named, ProcDef, TableText};
@@ -15,10 +17,7 @@ use rel_base::List;
 use std::alloc::Global;
 
 /// Reads the part of a table's declaration that names its indexed columns, which may be absent.
-fn index_part<'a>(
-    alloc: Global,
-    tokens: &'a [Token],
-) -> Result<(List<Named>, &'a [Token]), Stop<'a>>
+fn index_part<'a>(alloc: Global, tokens: &'a [Token]) -> Parsed<'a, List<Named>>
     ensures { Gives result (behind (is_word Word.Index) names (done []) tokens.now) }
 {
     match past_word(tokens, Word::Index) {
@@ -30,7 +29,7 @@ fn index_part<'a>(
 impl Phrase for TableText {
     ghost rule = { table };
 
-    fn read<'a>(alloc: Global, tokens: &'a [Token]) -> Result<(TableText, &'a [Token]), Stop<'a>> {
+    fn read<'a>(alloc: Global, tokens: &'a [Token]) -> Parsed<'a, TableText> {
         let rest = word(tokens, Word::Table)?;
         let (name, rest) = Named::read(alloc, rest)?;
         let (columns, rest) = list_in_parens(alloc, rest)?;
@@ -51,10 +50,7 @@ impl Phrase for TableText {
 }
 
 /// Reads the parameters of a procedure.
-fn parameters<'a>(
-    alloc: Global,
-    tokens: &'a [Token],
-) -> Result<(List<ColumnText>, &'a [Token]), Stop<'a>>
+fn parameters<'a>(alloc: Global, tokens: &'a [Token]) -> Parsed<'a, List<ColumnText>>
     ensures { Gives result (parameters tokens.now) }
 {
     let rest = sign(tokens, Sign::Open)?;
@@ -65,10 +61,7 @@ fn parameters<'a>(
 }
 
 /// Reads one parameter at least, after the parenthesis.
-fn more_parameters<'a>(
-    alloc: Global,
-    tokens: &'a [Token],
-) -> Result<(List<ColumnText>, &'a [Token]), Stop<'a>>
+fn more_parameters<'a>(alloc: Global, tokens: &'a [Token]) -> Parsed<'a, List<ColumnText>>
     ensures { Gives result (more_parameters tokens.now) }
 {
     let (params, rest) = list(alloc, tokens)?;
@@ -79,7 +72,7 @@ fn more_parameters<'a>(
 impl Phrase for ProcDef {
     ghost rule = { procedure };
 
-    fn read<'a>(alloc: Global, tokens: &'a [Token]) -> Result<(ProcDef, &'a [Token]), Stop<'a>> {
+    fn read<'a>(alloc: Global, tokens: &'a [Token]) -> Parsed<'a, ProcDef> {
         let rest = word(tokens, Word::Proc)?;
         let (name, rest) = Named::read(alloc, rest)?;
         let (params, rest) = parameters(alloc, rest)?;
@@ -107,7 +100,7 @@ fn end(tokens: &[Token]) -> Result<&[Token], Stop<'_>>
 }
 
 /// Reads a whole application.
-pub fn application<'a>(alloc: Global, tokens: &'a [Token]) -> Result<(App, &'a [Token]), Stop<'a>>
+pub fn application<'a>(alloc: Global, tokens: &'a [Token]) -> Parsed<'a, App>
     ensures { Gives result (application tokens.now) }
 {
     let (tables, rest) = many(alloc, tokens, Word::Table)?;

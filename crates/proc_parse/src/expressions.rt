@@ -1,17 +1,19 @@
 //! Expressions.
 
 ghost use Rattle.std.specs.Prelude.{◌≡◌, ◌<◌, ◌≤◌, ◌-◌, IfOk};
-ghost use Rattle.proc_parse.specs.Words.{is_sign, is_word};
-ghost use Rattle.proc_parse.specs.Reading.{Gives, begins};
+ghost use Rattle.proc_parse.specs.Reading.{Gives};
 ghost use Rattle.proc_parse.specs.Found.{found_op};
-ghost use Rattle.proc_parse.specs.Expressions.{comparison_op, op_of, op_at, chain_from, chain_after, chain_of, value_of, literal, is_name, field_of, name_or_field, line_at};
+ghost use Rattle.proc_parse.specs.Expressions.{comparison_op, op_of, op_at, chain_from, chain_after, chain_of};
 ghost use Rattle.proc_parse.specs.Expressions.{inner, operand_of, atom_of, unary_of, comparison_of, negation_of, expression};
 ghost use Rattle.proc_parse.specs.Shorter.{shortens_expression};
 
-use crate::phrase::{Phrase, Stop, begins, past_sign, sign};
+use crate::operands::{
+    begins_with_name, begins_with_sign, literal, name_or_field, sign_line, word_line,
+};
+use crate::phrase::{Parsed, Phrase, Stop, begins, sign};
 use crate::token::{Lexeme, Sign, Token, Word};
-use proc_syntax::{Expr, Named, Op};
-use rel_base::{Boxed, NoMemory, Twin, Value};
+use proc_syntax::{Expr, Op};
+use rel_base::{Boxed, NoMemory};
 use std::alloc::Global;
 
 /// How many of `not`, `-` and `(` may be open at one place of an expression.
@@ -86,106 +88,6 @@ fn comparison_at(tokens: &[Token]) -> Option<(Op, &[Token])>
     }
 }
 
-/// The value that a token spells.
-fn value_of(alloc: Global, lexeme: &Lexeme) -> Result<Option<Value>, NoMemory>
-    ensures { IfOk result (λ value. value ≡ value_of lexeme.now) }
-{
-    match lexeme {
-        Lexeme::Int(number) => Ok(Some(Value::Int(*number))),
-        Lexeme::Text(text) => Ok(Some(Value::Text(text.copy(alloc)?))),
-        Lexeme::Bytes(bytes) => Ok(Some(Value::Bytes(bytes.copy(alloc)?))),
-        Lexeme::Word(Word::True) => Ok(Some(Value::Bool(true))),
-        Lexeme::Word(Word::False) => Ok(Some(Value::Bool(false))),
-        _ => Ok(None),
-    }
-}
-
-/// Reads a literal.
-fn literal<'a>(alloc: Global, tokens: &'a [Token]) -> Result<(Expr, &'a [Token]), Stop<'a>>
-    ensures { Gives result (literal tokens.now) }
-{
-    let [first, rest @ ..] = tokens else {
-        return Err(Stop::At(tokens));
-    };
-    match value_of(alloc, &first.lexeme)? {
-        Some(value) => Ok((
-            Expr::Value {
-                value,
-                line: first.line,
-            },
-            rest,
-        )),
-        None => Err(Stop::At(tokens)),
-    }
-}
-
-/// Reads a name, or a name and that of a column.
-fn name_or_field<'a>(alloc: Global, tokens: &'a [Token]) -> Result<(Expr, &'a [Token]), Stop<'a>>
-    ensures { Gives result (name_or_field tokens.now) }
-{
-    let (name, rest) = Named::read(alloc, tokens)?;
-    match past_sign(rest, Sign::Dot) {
-        Some(rest) => field(alloc, name, rest),
-        None => Ok((Expr::Var(name), rest)),
-    }
-}
-
-/// Reads the column of a row.
-fn field<'a>(
-    alloc: Global,
-    row: Named,
-    tokens: &'a [Token],
-) -> Result<(Expr, &'a [Token]), Stop<'a>>
-    ensures { Gives result (field_of row tokens.now) }
-{
-    let (column, rest) = Named::read(alloc, tokens)?;
-    Ok((Expr::Field { row, column }, rest))
-}
-
-fn begins_with_name(tokens: &[Token]) -> bool
-    ensures { result ≡ begins is_name tokens.now }
-{
-    matches!(
-        tokens,
-        [
-            Token {
-                lexeme: Lexeme::Name(_),
-                ..
-            },
-            ..
-        ]
-    )
-}
-
-fn begins_with_sign(tokens: &[Token], sign: Sign) -> bool
-    ensures { result ≡ begins (is_sign sign) tokens.now }
-{
-    match tokens {
-        [first, ..] => first.is_sign(sign),
-        [] => false,
-    }
-}
-
-/// Reads a sign, and answers its line too.
-fn sign_line(tokens: &[Token], sign: Sign) -> Result<(u32, &[Token]), Stop<'_>>
-    ensures { Gives result (line_at (is_sign sign) tokens.now) }
-{
-    match tokens {
-        [first, rest @ ..] if first.is_sign(sign) => Ok((first.line, rest)),
-        _ => Err(Stop::At(tokens)),
-    }
-}
-
-/// Reads a word, and answers its line too.
-fn word_line(tokens: &[Token], word: Word) -> Result<(u32, &[Token]), Stop<'_>>
-    ensures { Gives result (line_at (is_word word) tokens.now) }
-{
-    match tokens {
-        [first, rest @ ..] if first.is_word(word) => Ok((first.line, rest)),
-        _ => Err(Stop::At(tokens)),
-    }
-}
-
 /// Two expressions with an operator between them.
 fn two(alloc: Global, op: Op, left: Expr, right: Expr) -> Result<Expr, NoMemory>
     ensures { IfOk result (λ made. made ≡ Expr.Two op left right) }
@@ -197,11 +99,7 @@ fn two(alloc: Global, op: Op, left: Expr, right: Expr) -> Result<Expr, NoMemory>
 
 /// Reads an operand without a sign before it.
 #[cycle(operands)]
-fn atom<'a>(
-    alloc: Global,
-    depth: usize,
-    tokens: &'a [Token],
-) -> Result<(Expr, &'a [Token]), Stop<'a>>
+fn atom<'a>(alloc: Global, depth: usize, tokens: &'a [Token]) -> Parsed<'a, Expr>
     ensures { Gives result (atom_of (inner depth) tokens.now) }
 {
     if begins_with_sign(tokens, Sign::Open) {
@@ -216,11 +114,7 @@ fn atom<'a>(
 /// Reads an expression in parentheses, where so many more may be open.
 #[cycle(operands)]
 #[tactic(auto, using(crate::proofs::Depth::parens_less, crate::proofs::Depth::parens_none))]
-fn group<'a>(
-    alloc: Global,
-    depth: usize,
-    tokens: &'a [Token],
-) -> Result<(Expr, &'a [Token]), Stop<'a>>
+fn group<'a>(alloc: Global, depth: usize, tokens: &'a [Token]) -> Parsed<'a, Expr>
     ensures { Gives result ((inner depth).parens tokens.now) }
 {
     if depth == 0 {
@@ -235,11 +129,7 @@ fn group<'a>(
 
 /// Reads an operand of a product.
 #[cycle(operands)]
-fn unary<'a>(
-    alloc: Global,
-    depth: usize,
-    tokens: &'a [Token],
-) -> Result<(Expr, &'a [Token]), Stop<'a>>
+fn unary<'a>(alloc: Global, depth: usize, tokens: &'a [Token]) -> Parsed<'a, Expr>
     ensures { Gives result (unary_of (inner depth) tokens.now) }
 {
     if begins_with_sign(tokens, Sign::Minus) {
@@ -252,11 +142,7 @@ fn unary<'a>(
 /// Reads what begins with `-`.
 #[cycle(operands)]
 #[tactic(auto, using(crate::proofs::Depth::minus_less, crate::proofs::Depth::minus_none))]
-fn negative<'a>(
-    alloc: Global,
-    depth: usize,
-    tokens: &'a [Token],
-) -> Result<(Expr, &'a [Token]), Stop<'a>>
+fn negative<'a>(alloc: Global, depth: usize, tokens: &'a [Token]) -> Parsed<'a, Expr>
     ensures { Gives result ((inner depth).minus tokens.now) }
 {
     if depth == 0 {
@@ -268,71 +154,66 @@ fn negative<'a>(
     Ok((Expr::Neg { inner, line }, rest))
 }
 
-/// Reads a chain of operands.
-#[cycle(operands)]
-fn chain<'a>(
-    alloc: Global,
-    level: Level,
-    depth: usize,
-    tokens: &'a [Token],
-) -> Result<(Expr, &'a [Token]), Stop<'a>>
-    ensures { Gives result (chain_of (op_of level) (operand_of level (inner depth)) tokens.now) }
-{
-    let (left, rest) = operand(alloc, level, depth, tokens)?;
-    more(alloc, level, depth, MOST_OPERATORS, left, rest)
-}
-
-/// Reads the rest of a chain, which may have so many more operators.
-#[cycle(operands)]
-fn more<'a>(
-    alloc: Global,
+/// What remains of a chain: it may have so many more operators, and in its operands so many more `not`, `-` and `(` may be open.
+#[derive(Clone, Copy, Debug, PartialEq, Eq)]
+struct OpenChain {
     level: Level,
     depth: usize,
     most: usize,
-    left: Expr,
-    tokens: &'a [Token],
-) -> Result<(Expr, &'a [Token]), Stop<'a>>
-    requires { most ≤ 32 }
-    ensures { Gives result (chain_from (op_of level) (operand_of level (inner depth)) most left tokens.now) }
+}
+
+/// Reads a chain of operands.
+#[cycle(operands)]
+fn chain<'a>(alloc: Global, level: Level, depth: usize, tokens: &'a [Token]) -> Parsed<'a, Expr>
+    ensures { Gives result (chain_of (op_of level) (operand_of level (inner depth)) tokens.now) }
 {
-    match chain_op(level, tokens) {
+    let (left, rest) = operand(alloc, level, depth, tokens)?;
+    let chain = OpenChain {
+        level,
+        depth,
+        most: MOST_OPERATORS,
+    };
+    more(alloc, chain, left, rest)
+}
+
+/// Reads the rest of a chain.
+#[cycle(operands)]
+fn more<'a>(alloc: Global, chain: OpenChain, left: Expr, tokens: &'a [Token]) -> Parsed<'a, Expr>
+    requires { chain.most ≤ 32 }
+    ensures { Gives result (chain_from (op_of chain.level) (operand_of chain.level (inner chain.depth)) chain.most left tokens.now) }
+{
+    match chain_op(chain.level, tokens) {
         Some((op, rest)) => {
-            if most == 0 {
+            if chain.most == 0 {
                 return Err(Stop::At(tokens));
             }
-            more_after(alloc, level, depth, most - 1, left, op, rest)
+            let most = chain.most - 1;
+            more_after(alloc, OpenChain { most, ..chain }, left, op, rest)
         }
         None => Ok((left, tokens)),
     }
 }
 
-/// Reads the rest of a chain after an operator, behind which it may have so many more.
+/// Reads the rest of a chain after an operator, which is counted already.
 #[cycle(operands)]
 fn more_after<'a>(
     alloc: Global,
-    level: Level,
-    depth: usize,
-    most: usize,
+    chain: OpenChain,
     left: Expr,
     op: Op,
     tokens: &'a [Token],
-) -> Result<(Expr, &'a [Token]), Stop<'a>>
-    requires { most < 32 }
-    ensures { Gives result (chain_after (op_of level) (operand_of level (inner depth)) most left op tokens.now) }
+) -> Parsed<'a, Expr>
+    requires { chain.most < 32 }
+    ensures { Gives result (chain_after (op_of chain.level) (operand_of chain.level (inner chain.depth)) chain.most left op tokens.now) }
 {
-    let (right, rest) = operand(alloc, level, depth, tokens)?;
+    let (right, rest) = operand(alloc, chain.level, chain.depth, tokens)?;
     let left = two(alloc, op, left, right)?;
-    more(alloc, level, depth, most, left, rest)
+    more(alloc, chain, left, rest)
 }
 
 /// Reads an operand of a chain.
 #[cycle(operands)]
-fn operand<'a>(
-    alloc: Global,
-    level: Level,
-    depth: usize,
-    tokens: &'a [Token],
-) -> Result<(Expr, &'a [Token]), Stop<'a>>
+fn operand<'a>(alloc: Global, level: Level, depth: usize, tokens: &'a [Token]) -> Parsed<'a, Expr>
     ensures { Gives result (operand_of level (inner depth) tokens.now) }
 {
     match level {
@@ -345,11 +226,7 @@ fn operand<'a>(
 
 /// Reads an operand of `and`.
 #[cycle(operands)]
-fn negation<'a>(
-    alloc: Global,
-    depth: usize,
-    tokens: &'a [Token],
-) -> Result<(Expr, &'a [Token]), Stop<'a>>
+fn negation<'a>(alloc: Global, depth: usize, tokens: &'a [Token]) -> Parsed<'a, Expr>
     ensures { Gives result (negation_of (inner depth) tokens.now) }
 {
     if begins(tokens, Word::Not) {
@@ -362,11 +239,7 @@ fn negation<'a>(
 /// Reads what begins with `not`.
 #[cycle(operands)]
 #[tactic(auto, using(crate::proofs::Depth::nots_less, crate::proofs::Depth::nots_none))]
-fn denial<'a>(
-    alloc: Global,
-    depth: usize,
-    tokens: &'a [Token],
-) -> Result<(Expr, &'a [Token]), Stop<'a>>
+fn denial<'a>(alloc: Global, depth: usize, tokens: &'a [Token]) -> Parsed<'a, Expr>
     ensures { Gives result ((inner depth).nots tokens.now) }
 {
     if depth == 0 {
@@ -380,11 +253,7 @@ fn denial<'a>(
 
 /// Reads a sum, or a comparison of two.
 #[cycle(operands)]
-fn comparison<'a>(
-    alloc: Global,
-    depth: usize,
-    tokens: &'a [Token],
-) -> Result<(Expr, &'a [Token]), Stop<'a>>
+fn comparison<'a>(alloc: Global, depth: usize, tokens: &'a [Token]) -> Parsed<'a, Expr>
     ensures { Gives result (comparison_of (inner depth) tokens.now) }
 {
     let (left, rest) = chain(alloc, Level::Sum, depth, tokens)?;
@@ -400,7 +269,7 @@ fn comparison<'a>(
 impl Phrase for Expr {
     ghost rule = { expression };
 
-    fn read<'a>(alloc: Global, tokens: &'a [Token]) -> Result<(Expr, &'a [Token]), Stop<'a>> {
+    fn read<'a>(alloc: Global, tokens: &'a [Token]) -> Parsed<'a, Expr> {
         chain(alloc, Level::Or, MOST_OPEN, tokens)
     }
 

@@ -12,9 +12,10 @@ ghost use Rattle.proc_parse.specs.Words.{spelling, mark};
 ghost use Rattle.proc_parse.specs.Tokens.{Finds, word_in, run_len, run_lexeme, run_piece, opens_bytes, literal_piece, word_piece, int_or_bad, int_piece};
 ghost use Rattle.proc_parse.specs.Tokens.{sign_in, sign_piece, is_space, is_comment, piece_at, moved, is_last, ends, put, unless_last, tokens_of};
 
-use crate::token::{Lexeme, SIGNS, Sign, Token, WORDS, Word};
+use crate::runs::{run_len, run_lexeme};
+use crate::token::{Lexeme, SIGNS, Sign, Token};
 use literals::{LiteralFault, read_bytes, read_number, read_text};
-use rel_base::{List, Name, NameFault, NoMemory};
+use rel_base::{List, NoMemory};
 use std::alloc::Global;
 
 /// What stands at the front of some bytes.
@@ -32,70 +33,6 @@ pub enum Piece {
 pub struct Place {
     pub line: u32,
     pub col: u32,
-}
-
-/// Whether some bytes spell a word.
-fn is_spelled(bytes: &[u8], word: Word) -> bool
-    ensures { result ≡ pointwise nat_eq (spelling word) bytes.now }
-{
-    word.spelling().as_bytes() == bytes
-}
-
-/// The word of these that some bytes spell.
-fn word_in(words: &[Word], bytes: &[u8]) -> Option<Word>
-    ensures { result ≡ word_in words.now bytes.now }
-{
-    for word in words {
-        if is_spelled(bytes, *word) {
-            return Some(*word);
-        }
-    }
-    None
-}
-
-/// The name of some bytes.
-#[tactic(auto, using(crate::proofs::Ascii::name_is_utf8))]
-fn name_of(alloc: Global, bytes: &[u8]) -> Result<Name, NameFault>
-    ensures ok { IfOk result (λ made. made ≡ bytes.now) }
-    ensures bad { IsErrOf result NameFault.Bad ↔ (has_name_form bytes.now ≡ false) }
-{
-    match std::str::from_utf8(bytes) {
-        Ok(text) => Name::new(alloc, text),
-        Err(_) => Err(NameFault::Bad),
-    }
-}
-
-/// What letters, digits and `_` are as a token.
-fn run_lexeme(alloc: Global, run: &[u8]) -> Result<Lexeme, NoMemory>
-    ensures { IfOk result (λ lexeme. lexeme ≡ run_lexeme run.now) }
-{
-    if let Some(word) = word_in(&WORDS, run) {
-        return Ok(Lexeme::Word(word));
-    }
-    match name_of(alloc, run) {
-        Ok(name) => Ok(Lexeme::Name(name)),
-        Err(NameFault::Bad) => Ok(Lexeme::Bad),
-        Err(NameFault::NoMemory) => Err(NoMemory),
-    }
-}
-
-fn is_name_byte(byte: u8) -> bool
-    ensures { result ≡ is_name_byte byte }
-{
-    (byte >= b'a' && byte <= b'z') || (byte >= b'0' && byte <= b'9') || byte == b'_'
-}
-
-/// How many letters, digits and `_` stand at the front.
-fn run_len(bytes: &[u8]) -> usize
-    ensures value { result ≡ run_len bytes.now }
-    ensures bound { result ≤ length bytes.now }
-{
-    for (at, byte) in bytes.iter().enumerate() {
-        if !is_name_byte(*byte) {
-            return at;
-        }
-    }
-    bytes.len()
 }
 
 /// A reserved word or a name at the front.

@@ -5,7 +5,7 @@ ghost use Rattle.proc_parse.specs.Reading.{Gives};
 ghost use Rattle.proc_parse.specs.Phrases.{named, kind_of_word, kind_of_lexeme, kind_rule, column};
 ghost use Rattle.proc_parse.specs.Shorter.{shortens_column, shortens_named};
 
-use crate::phrase::{Phrase, Stop};
+use crate::phrase::{Parsed, Phrase, Stop};
 use crate::token::{Lexeme, Token, Word};
 use proc_syntax::{ColumnText, Named};
 use rel_base::{Kind, Twin};
@@ -14,7 +14,7 @@ use std::alloc::Global;
 impl Phrase for Named {
     ghost rule = { named };
 
-    fn read<'a>(alloc: Global, tokens: &'a [Token]) -> Result<(Named, &'a [Token]), Stop<'a>> {
+    fn read<'a>(alloc: Global, tokens: &'a [Token]) -> Parsed<'a, Named> {
         match tokens {
             [
                 Token {
@@ -58,7 +58,7 @@ fn kind_of_lexeme(lexeme: &Lexeme) -> Option<Kind>
 }
 
 /// Reads `int`, `text`, `bool` or `bytes`.
-fn kind(tokens: &[Token]) -> Result<(Kind, &[Token]), Stop<'_>>
+fn kind(tokens: &[Token]) -> Parsed<'_, Kind>
     ensures { Gives result (kind_rule tokens.now) }
 {
     let [first, rest @ ..] = tokens else {
@@ -73,7 +73,7 @@ fn kind(tokens: &[Token]) -> Result<(Kind, &[Token]), Stop<'_>>
 impl Phrase for ColumnText {
     ghost rule = { column };
 
-    fn read<'a>(alloc: Global, tokens: &'a [Token]) -> Result<(ColumnText, &'a [Token]), Stop<'a>> {
+    fn read<'a>(alloc: Global, tokens: &'a [Token]) -> Parsed<'a, ColumnText> {
         let (name, rest) = Named::read(alloc, tokens)?;
         let (kind, rest) = kind(rest)?;
         Ok((ColumnText { name, kind }, rest))

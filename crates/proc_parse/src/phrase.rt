@@ -28,12 +28,15 @@ impl<'a> From<NoMemory> for Stop<'a> {
     }
 }
 
+/// What was read at the front of some tokens and what follows it, or why nothing was read.
+pub type Parsed<'a, T> = Result<(T, &'a [Token]), Stop<'a>>;
+
 /// What a rule of the grammar reads.
 pub trait Phrase: Sized + Drop {
     ghost rule: { Reader Self };
 
     /// Reads a phrase at the front of the tokens, and answers what follows it too.
-    fn read<'a>(alloc: Global, tokens: &'a [Token]) -> Result<(Self, &'a [Token]), Stop<'a>>
+    fn read<'a>(alloc: Global, tokens: &'a [Token]) -> Parsed<'a, Self>
         ensures { Gives result (rule tokens.now) };
 
     ghost shortens: { Shortens rule };
@@ -112,10 +115,7 @@ pub fn sign(tokens: &[Token], sign: Sign) -> Result<&[Token], Stop<'_>>
 }
 
 /// Reads phrases that are separated by commas, one at least.
-pub fn list<'a, T: Phrase>(
-    alloc: Global,
-    tokens: &'a [Token],
-) -> Result<(List<T>, &'a [Token]), Stop<'a>>
+pub fn list<'a, T: Phrase>(alloc: Global, tokens: &'a [Token]) -> Parsed<'a, List<T>>
     ensures { Gives result (list_of T.rule tokens.now) }
 {
     let mut items = List::new(alloc);
@@ -131,11 +131,7 @@ pub fn list<'a, T: Phrase>(
 }
 
 /// Reads phrases as long as the next token is the word that each begins with.
-pub fn many<'a, T: Phrase>(
-    alloc: Global,
-    tokens: &'a [Token],
-    word: Word,
-) -> Result<(List<T>, &'a [Token]), Stop<'a>>
+pub fn many<'a, T: Phrase>(alloc: Global, tokens: &'a [Token], word: Word) -> Parsed<'a, List<T>>
     ensures { Gives result (many_of (is_word word) T.rule tokens.now) }
 {
     let mut items = List::new(alloc);
@@ -149,10 +145,7 @@ pub fn many<'a, T: Phrase>(
 }
 
 /// Reads phrases in parentheses that are separated by commas, one at least.
-pub fn list_in_parens<'a, T: Phrase>(
-    alloc: Global,
-    tokens: &'a [Token],
-) -> Result<(List<T>, &'a [Token]), Stop<'a>>
+pub fn list_in_parens<'a, T: Phrase>(alloc: Global, tokens: &'a [Token]) -> Parsed<'a, List<T>>
     ensures { Gives result (in_parens (list_of T.rule) tokens.now) }
 {
     let rest = sign(tokens, Sign::Open)?;

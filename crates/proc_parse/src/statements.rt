@@ -4,15 +4,16 @@ ghost use Rattle.std.specs.Prelude.{◌≡◌, ◌<◌, ◌-◌, None};
 ghost use Rattle.proc_parse.specs.Words.{is_word};
 ghost use Rattle.proc_parse.specs.Reading.{Gives, begins, behind, done, one};
 ghost use Rattle.proc_parse.specs.Lists.{many_of};
-ghost use Rattle.proc_parse.specs.Statements.{let_statement, assignment, some_block, if_statement, get_statement, some_expression, span_end, for_statement};
-ghost use Rattle.proc_parse.specs.Statements.{insert_statement, change, update_statement, delete_statement, text_of, text_rule, fail_statement};
+ghost use Rattle.proc_parse.specs.Statements.{some_block, if_statement, get_statement, some_expression, span_end, for_statement};
 ghost use Rattle.proc_parse.specs.Statements.{head_of_word, head_of_lexeme, head_of, statement_of, no_close, block_at};
-ghost use Rattle.proc_parse.specs.Shorter.{shortens_change};
 
-use crate::phrase::{Phrase, Stop, list, list_in_parens, past_word, sign, word};
+use crate::phrase::{Parsed, Phrase, Stop, list_in_parens, past_word, sign, word};
+use crate::plain_statements::{
+    assignment, delete_statement, fail_statement, insert_statement, let_statement, update_statement,
+};
 use crate::token::{Lexeme, Sign, Token, Word};
-use proc_syntax::{Change, Expr, Named, Stmt};
-use rel_base::{List, NoMemory, Str, Twin};
+use proc_syntax::{Expr, Named, Stmt};
+use rel_base::{List, NoMemory};
 use std::alloc::Global;
 
 /// How deep blocks may be, that of the procedure being the first.
@@ -68,115 +69,8 @@ fn head_of(tokens: &[Token]) -> Head
     }
 }
 
-/// Reads `let NAME = VALUE;`.
-fn let_statement<'a>(alloc: Global, tokens: &'a [Token]) -> Result<(Stmt, &'a [Token]), Stop<'a>>
-    ensures { Gives result (let_statement tokens.now) }
-{
-    let rest = word(tokens, Word::Let)?;
-    let (name, rest) = Named::read(alloc, rest)?;
-    let rest = sign(rest, Sign::Equal)?;
-    let (value, rest) = Expr::read(alloc, rest)?;
-    let rest = sign(rest, Sign::Semicolon)?;
-    Ok((Stmt::Let { name, value }, rest))
-}
-
-/// Reads `NAME = VALUE;`.
-fn assignment<'a>(alloc: Global, tokens: &'a [Token]) -> Result<(Stmt, &'a [Token]), Stop<'a>>
-    ensures { Gives result (assignment tokens.now) }
-{
-    let (name, rest) = Named::read(alloc, tokens)?;
-    let rest = sign(rest, Sign::Equal)?;
-    let (value, rest) = Expr::read(alloc, rest)?;
-    let rest = sign(rest, Sign::Semicolon)?;
-    Ok((Stmt::Assign { name, value }, rest))
-}
-
-/// Reads `insert TABLE (VALUES);`.
-fn insert_statement<'a>(alloc: Global, tokens: &'a [Token]) -> Result<(Stmt, &'a [Token]), Stop<'a>>
-    ensures { Gives result (insert_statement tokens.now) }
-{
-    let rest = word(tokens, Word::Insert)?;
-    let (table, rest) = Named::read(alloc, rest)?;
-    let (values, rest) = list_in_parens(alloc, rest)?;
-    let rest = sign(rest, Sign::Semicolon)?;
-    Ok((Stmt::Insert { table, values }, rest))
-}
-
-impl Phrase for Change {
-    ghost rule = { change };
-
-    fn read<'a>(alloc: Global, tokens: &'a [Token]) -> Result<(Change, &'a [Token]), Stop<'a>> {
-        let (column, rest) = Named::read(alloc, tokens)?;
-        let rest = sign(rest, Sign::Equal)?;
-        let (value, rest) = Expr::read(alloc, rest)?;
-        Ok((Change { column, value }, rest))
-    }
-
-    ghost shortens = { shortens_change };
-}
-
-/// Reads `update TABLE key (KEY) set CHANGES;`.
-fn update_statement<'a>(alloc: Global, tokens: &'a [Token]) -> Result<(Stmt, &'a [Token]), Stop<'a>>
-    ensures { Gives result (update_statement tokens.now) }
-{
-    let rest = word(tokens, Word::Update)?;
-    let (table, rest) = Named::read(alloc, rest)?;
-    let rest = word(rest, Word::Key)?;
-    let (key, rest) = list_in_parens(alloc, rest)?;
-    let rest = word(rest, Word::Set)?;
-    let (changes, rest) = list(alloc, rest)?;
-    let rest = sign(rest, Sign::Semicolon)?;
-    let update = Stmt::Update {
-        table,
-        key,
-        changes,
-    };
-    Ok((update, rest))
-}
-
-/// Reads `delete TABLE key (KEY);`.
-fn delete_statement<'a>(alloc: Global, tokens: &'a [Token]) -> Result<(Stmt, &'a [Token]), Stop<'a>>
-    ensures { Gives result (delete_statement tokens.now) }
-{
-    let rest = word(tokens, Word::Delete)?;
-    let (table, rest) = Named::read(alloc, rest)?;
-    let rest = word(rest, Word::Key)?;
-    let (key, rest) = list_in_parens(alloc, rest)?;
-    let rest = sign(rest, Sign::Semicolon)?;
-    Ok((Stmt::Delete { table, key }, rest))
-}
-
-/// Reads a text.
-fn text<'a>(alloc: Global, tokens: &'a [Token]) -> Result<(Str, &'a [Token]), Stop<'a>>
-    ensures { Gives result (text_rule tokens.now) }
-{
-    match tokens {
-        [
-            Token {
-                lexeme: Lexeme::Text(text),
-                ..
-            },
-            rest @ ..,
-        ] => Ok((text.copy(alloc)?, rest)),
-        _ => Err(Stop::At(tokens)),
-    }
-}
-
-/// Reads `fail TEXT;`.
-fn fail_statement<'a>(alloc: Global, tokens: &'a [Token]) -> Result<(Stmt, &'a [Token]), Stop<'a>>
-    ensures { Gives result (fail_statement tokens.now) }
-{
-    let rest = word(tokens, Word::Fail)?;
-    let (text, rest) = text(alloc, rest)?;
-    let rest = sign(rest, Sign::Semicolon)?;
-    Ok((Stmt::Fail { text }, rest))
-}
-
 /// Reads a whole expression, as one that need not have come.
-fn some_expression<'a>(
-    alloc: Global,
-    tokens: &'a [Token],
-) -> Result<(Option<Expr>, &'a [Token]), Stop<'a>>
+fn some_expression<'a>(alloc: Global, tokens: &'a [Token]) -> Parsed<'a, Option<Expr>>
     ensures { Gives result (some_expression tokens.now) }
 {
     let (expr, rest) = Expr::read(alloc, tokens)?;
@@ -184,11 +78,7 @@ fn some_expression<'a>(
 }
 
 /// Reads an end of a span after its word, which may be absent.
-fn span_end<'a>(
-    alloc: Global,
-    tokens: &'a [Token],
-    word: Word,
-) -> Result<(Option<Expr>, &'a [Token]), Stop<'a>>
+fn span_end<'a>(alloc: Global, tokens: &'a [Token], word: Word) -> Parsed<'a, Option<Expr>>
     ensures { Gives result (span_end word tokens.now) }
 {
     match past_word(tokens, word) {
@@ -200,11 +90,7 @@ fn span_end<'a>(
 /// Reads a block where blocks may be so deep.
 #[cycle(blocks)]
 #[tactic(auto, using(crate::proofs::Depth::block_less, crate::proofs::Depth::block_none))]
-pub fn block<'a>(
-    alloc: Global,
-    depth: usize,
-    tokens: &'a [Token],
-) -> Result<(List<Stmt>, &'a [Token]), Stop<'a>>
+pub fn block<'a>(alloc: Global, depth: usize, tokens: &'a [Token]) -> Parsed<'a, List<Stmt>>
     ensures { Gives result (block_at depth tokens.now) }
 {
     if depth == 0 {
@@ -228,11 +114,7 @@ fn goes_on(tokens: &[Token]) -> bool
 
 /// Reads statements up to the brace that closes their block, where blocks in them may be so deep.
 #[cycle(blocks)]
-fn statements<'a>(
-    alloc: Global,
-    depth: usize,
-    tokens: &'a [Token],
-) -> Result<(List<Stmt>, &'a [Token]), Stop<'a>>
+fn statements<'a>(alloc: Global, depth: usize, tokens: &'a [Token]) -> Parsed<'a, List<Stmt>>
     ensures { Gives result (many_of no_close (statement_of (block_at depth)) tokens.now) }
 {
     let mut body = List::new(alloc);
@@ -247,11 +129,7 @@ fn statements<'a>(
 
 /// Reads a statement.
 #[cycle(blocks)]
-fn statement<'a>(
-    alloc: Global,
-    depth: usize,
-    tokens: &'a [Token],
-) -> Result<(Stmt, &'a [Token]), Stop<'a>>
+fn statement<'a>(alloc: Global, depth: usize, tokens: &'a [Token]) -> Parsed<'a, Stmt>
     ensures { Gives result (statement_of (block_at depth) tokens.now) }
 {
     match head_of(tokens) {
@@ -269,11 +147,7 @@ fn statement<'a>(
 
 /// Reads `if TEST { THEN } else { OTHER }`, of which the second block may be absent.
 #[cycle(blocks)]
-fn if_statement<'a>(
-    alloc: Global,
-    depth: usize,
-    tokens: &'a [Token],
-) -> Result<(Stmt, &'a [Token]), Stop<'a>>
+fn if_statement<'a>(alloc: Global, depth: usize, tokens: &'a [Token]) -> Parsed<'a, Stmt>
     ensures { Gives result (if_statement (block_at depth) tokens.now) }
 {
     let rest = word(tokens, Word::If)?;
@@ -289,7 +163,7 @@ fn other_block<'a>(
     alloc: Global,
     depth: usize,
     tokens: &'a [Token],
-) -> Result<(Option<List<Stmt>>, &'a [Token]), Stop<'a>>
+) -> Parsed<'a, Option<List<Stmt>>>
     ensures { Gives result (behind (is_word Word.Else) (some_block (block_at depth)) (done None) tokens.now) }
 {
     let Some(rest) = past_word(tokens, Word::Else) else {
@@ -301,11 +175,7 @@ fn other_block<'a>(
 
 /// Reads `get NAME from TABLE key (KEY) { FOUND } else { ABSENT }`.
 #[cycle(blocks)]
-fn get_statement<'a>(
-    alloc: Global,
-    depth: usize,
-    tokens: &'a [Token],
-) -> Result<(Stmt, &'a [Token]), Stop<'a>>
+fn get_statement<'a>(alloc: Global, depth: usize, tokens: &'a [Token]) -> Parsed<'a, Stmt>
     ensures { Gives result (get_statement (block_at depth) tokens.now) }
 {
     let rest = word(tokens, Word::Get)?;
@@ -329,11 +199,7 @@ fn get_statement<'a>(
 
 /// Reads `for NAME in TABLE span on COLUMN from LOW to HIGH { BODY }`, of which each end may be absent.
 #[cycle(blocks)]
-fn for_statement<'a>(
-    alloc: Global,
-    depth: usize,
-    tokens: &'a [Token],
-) -> Result<(Stmt, &'a [Token]), Stop<'a>>
+fn for_statement<'a>(alloc: Global, depth: usize, tokens: &'a [Token]) -> Parsed<'a, Stmt>
     ensures { Gives result (for_statement (block_at depth) tokens.now) }
 {
     let rest = word(tokens, Word::For)?;

@@ -5,9 +5,9 @@ use Rattle.proc_parse.specs.Expressions.{inner, op_of, operand_of}
 use Rattle.proc_parse.proofs.Depth.{chain_more}
 use Rattle.proc_parse.proofs.expressions.+operands.Goals as goal
 
-pub more-returns-else-most-eq0 : goal.more-returns-else-most-eq0
-more-returns-else-most-eq0 t c =
-    let some : 0 < c.args.most = omega (arith, c.if-most-eq0.false) in
+pub more-returns-else-chain-eq0 : goal.more-returns-else-chain-eq0
+more-returns-else-chain-eq0 t c =
+    let some : 0 < c.args.chain.most = omega (arith, c.if-chain-eq0.false) in
     subst (λ (meant : Read Expr). Gives c.more_after.result meant)
-    (sym (chain_more (op_of c.args.level) (operand_of c.args.level (inner c.args.depth)) c.args.most c.args.left c.in-Some.op c.args.tokens.now c.in-Some.rest.now some c.in-Some.ensures))
+    (sym (chain_more (op_of c.args.chain.level) (operand_of c.args.chain.level (inner c.args.chain.depth)) c.args.chain.most c.args.left c.in-Some.op c.args.tokens.now c.in-Some.rest.now some c.in-Some.ensures))
     c.more_after.ensures

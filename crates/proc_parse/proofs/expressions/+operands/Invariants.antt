@@ -26,7 +26,7 @@ abbrev pub decreases-chain : goal.decreases-chain
 decreases-chain l = 1000 * l.depth + rank l.level + 90
 
 abbrev pub decreases-more : goal.decreases-more
-decreases-more l = 1000 * l.depth + rank l.level + 12 + 2 * l.most
+decreases-more l = 1000 * l.chain.depth + rank l.chain.level + 12 + 2 * l.chain.most
 
 abbrev pub decreases-operand : goal.decreases-operand
 decreases-operand l = 1000 * l.depth + rank l.level + 10
@@ -41,4 +41,4 @@ abbrev pub decreases-comparison : goal.decreases-comparison
 decreases-comparison l = 1000 * l.depth + 300
 
 abbrev pub decreases-more_after : goal.decreases-more_after
-decreases-more_after l = 1000 * l.depth + rank l.level + 13 + 2 * l.most
+decreases-more_after l = 1000 * l.chain.depth + rank l.chain.level + 13 + 2 * l.chain.most

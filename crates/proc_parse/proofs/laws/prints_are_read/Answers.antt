@@ -1,5 +1,0 @@
-use Rattle.proc_parse.proofs.PrintedBack.{prints_are_read}
-use Rattle.proc_parse.proofs.laws.prints_are_read.Goals as goal
-
-pub returns : goal.returns
-returns c = prints_are_read

@@ -1,5 +1,0 @@
-use Rattle.proc_parse.proofs.Stable.{prints_are_stable}
-use Rattle.proc_parse.proofs.laws.prints_are_stable.Goals as goal
-
-pub returns : goal.returns
-returns c = prints_are_stable

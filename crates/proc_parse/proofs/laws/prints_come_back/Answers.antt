@@ -1,5 +1,0 @@
-use Rattle.proc_parse.proofs.PrintedBack.{prints_come_back}
-use Rattle.proc_parse.proofs.laws.prints_come_back.Goals as goal
-
-pub returns : goal.returns
-returns c = prints_come_back

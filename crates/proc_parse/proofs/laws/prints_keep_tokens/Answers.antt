@@ -1,5 +1,0 @@
-use Rattle.proc_parse.proofs.PrintedBack.{prints_keep_tokens}
-use Rattle.proc_parse.proofs.laws.prints_keep_tokens.Goals as goal
-
-pub returns : goal.returns
-returns c = prints_keep_tokens

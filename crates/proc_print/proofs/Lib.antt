@@ -1,0 +1,14 @@
+pub mod Bare
+pub mod BareRules
+pub mod ExprTrees
+pub mod Fine
+pub mod Lexed
+pub mod LexedTokens
+pub mod LexedTrees
+pub mod PrintedBack
+pub mod Spoken
+pub mod SpokenTrees
+pub mod Stable
+pub mod Tells
+pub mod TellsRules
+pub mod UnlinedTrees

@@ -1,0 +1,3 @@
+pub mod Printed
+pub mod Unlined
+pub mod Laws
