@@ -10,8 +10,8 @@ use Rattle.chain_file.specs.declared.draft.Reading.{Reading}
 use Rattle.chain_file.specs.declared.draft.Begun.{Begun}
 use Rattle.tx_text.specs.Parts.{parts_of}
 use Rattle.std.specs.Prelude.{Result, Ok, Err, IfOk}
-use Rattle.chain_file.specs.declared.fault.DraftFault.{DraftFault}
-use Rattle.chain_file.specs.Gives.{Gives}
+use Rattle.rel_base.specs.declared.reading.ReadFault.{ReadFault}
+use Rattle.rel_base.specs.Reading.{Gives}
 use Rattle.chain_file.specs.Numbered.{NumberedFrom}
 use Rattle.chain_file.specs.Draft.{block_if, block_of, within_block, between_blocks, is_block_line, end_block, add_tx, line_after, take_line, all_ended, last_part, read_parts, start, after_header, draft}
 
@@ -98,6 +98,6 @@ pub draft_numbered : (bytes : List ℕ) (blocks : List Block) → draft bytes �
 draft_numbered bytes blocks e = subst (Holds (NumberedFrom 1)) e (after_sound (parts_of bytes))
 
 -- what a reader answers, if it answers the blocks of these parts
-pub parts_numbered : (bytes : List ℕ) (parts : List (List ℕ)) (result : Result (List Block) DraftFault) → parts_of bytes ≡ parts → Gives result (after_header parts) → IfOk result (λ blocks. NumberedFrom 1 blocks)
+pub parts_numbered : (bytes : List ℕ) (parts : List (List ℕ)) (result : Result (List Block) ReadFault) → parts_of bytes ≡ parts → Gives result (after_header parts) → IfOk result (λ blocks. NumberedFrom 1 blocks)
 parts_numbered bytes parts (Ok blocks) e given = draft_numbered bytes blocks (ap after_header e ∙ given)
 parts_numbered bytes parts (Err fault) e given = tt

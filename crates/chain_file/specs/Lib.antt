@@ -1,5 +1,4 @@
 pub mod Draft
-pub mod Gives
 pub mod Numbered
 pub mod Text
 pub mod Steps

@@ -1,19 +1,17 @@
 //! Draft files: blocks of transactions, numbered from 1.
 
 ghost use Rattle.std.specs.Prelude.{◌≡◌, ◌+◌, ◌∷◌, ◌++◌, ◌<◌, length, cond, nat_lt, ◌^◌, Some, None, codes, IfOk};
-ghost use Rattle.chain_file.specs.Gives.{Gives};
+ghost use Rattle.rel_base.specs.Reading.{Gives};
 ghost use Rattle.chain_file.specs.Draft.{block_of, is_block_line, begin_block, end_block, add_tx, line_after, take_line, finished, read_parts, start, after_header, draft};
 ghost use Rattle.tx_text.specs.Parts.{parts_of};
 ghost use Rattle.chain_file.specs.Numbered.{NumberedFrom};
-ghost use Rattle.tx_text.specs.Lines.{tx_of};
 
-use crate::fault::DraftFault;
 use itoa::Buffer;
 use proc_syntax::call::MOST_TRANSACTIONS;
 use proc_syntax::{Block, Tx};
-use rel_base::List;
+use rel_base::{List, ReadFault};
 use std::alloc::Global;
-use tx_text::{LineFault, read_tx, split_line};
+use tx_text::{read_tx, split_line};
 
 /// The number of blocks that a file may have.
 pub const MOST_BLOCKS: usize = 1_000_000;
@@ -47,38 +45,27 @@ fn is_block_line(number: u64, line: &[u8]) -> bool
     }
 }
 
-/// The transaction of a line.
-fn tx_of(alloc: Global, line: &[u8]) -> Result<Tx, DraftFault>
-    ensures { Gives result (tx_of line.now) }
-{
-    match read_tx(alloc, line) {
-        Ok(tx) => Ok(tx),
-        Err(LineFault::NoMemory) => Err(DraftFault::NoMemory),
-        Err(LineFault::Bad) => Err(DraftFault::Bad),
-    }
-}
-
 /// A block of time 0.
 #[tactic(auto, using(crate::proofs::Blocks::no_block))]
-fn block_of(number: u64, txs: List<Tx>) -> Result<Block, DraftFault>
+fn block_of(number: u64, txs: List<Tx>) -> Result<Block, ReadFault>
     ensures { Gives result (block_of number txs) }
 {
     match Block::new(number, 0, txs) {
         Ok(block) => Ok(block),
-        Err(_) => Err(DraftFault::Bad),
+        Err(_) => Err(ReadFault::Bad),
     }
 }
 
 /// A line between blocks.
-fn begin_block(alloc: Global, blocks: List<Block>, line: &[u8]) -> Result<Reading, DraftFault>
+fn begin_block(alloc: Global, blocks: List<Block>, line: &[u8]) -> Result<Reading, ReadFault>
     ensures { Gives result (begin_block blocks line.now) }
 {
     if blocks.len() >= MOST_BLOCKS {
-        return Err(DraftFault::Bad);
+        return Err(ReadFault::Bad);
     }
     let number = blocks.len() as u64 + 1;
     if !is_block_line(number, line) {
-        return Err(DraftFault::Bad);
+        return Err(ReadFault::Bad);
     }
     let begun = Begun {
         number,
@@ -91,7 +78,7 @@ fn begin_block(alloc: Global, blocks: List<Block>, line: &[u8]) -> Result<Readin
 }
 
 /// The end of a block.
-fn end_block(mut blocks: List<Block>, begun: Begun) -> Result<Reading, DraftFault>
+fn end_block(mut blocks: List<Block>, begun: Begun) -> Result<Reading, ReadFault>
     ensures { Gives result (end_block blocks begun.number begun.txs) }
 {
     let block = block_of(begun.number, begun.txs)?;
@@ -108,12 +95,12 @@ fn add_tx(
     blocks: List<Block>,
     mut begun: Begun,
     line: &[u8],
-) -> Result<Reading, DraftFault>
+) -> Result<Reading, ReadFault>
     ensures { Gives result (add_tx blocks begun.number begun.txs line.now) }
 {
-    let tx = tx_of(alloc, line)?;
+    let tx = read_tx(alloc, line)?;
     if begun.txs.len() >= MOST_TRANSACTIONS {
-        return Err(DraftFault::Bad);
+        return Err(ReadFault::Bad);
     }
     begun.txs.push(tx)?;
     Ok(Reading {
@@ -128,7 +115,7 @@ fn line_in_block(
     blocks: List<Block>,
     begun: Begun,
     line: &[u8],
-) -> Result<Reading, DraftFault>
+) -> Result<Reading, ReadFault>
     ensures { Gives result (line_after blocks (Some begun) line.now) }
 {
     if line == b"end".as_slice() {
@@ -139,7 +126,7 @@ fn line_in_block(
 }
 
 /// A line.
-fn take_line(alloc: Global, reading: Reading, line: &[u8]) -> Result<Reading, DraftFault>
+fn take_line(alloc: Global, reading: Reading, line: &[u8]) -> Result<Reading, ReadFault>
     ensures { Gives result (take_line reading line.now) }
 {
     let Reading { blocks, begun } = reading;
@@ -150,19 +137,19 @@ fn take_line(alloc: Global, reading: Reading, line: &[u8]) -> Result<Reading, Dr
 }
 
 /// The blocks, where none is left open.
-fn finished(reading: Reading) -> Result<List<Block>, DraftFault>
+fn finished(reading: Reading) -> Result<List<Block>, ReadFault>
     ensures { Gives result (finished reading) }
 {
     let Reading { blocks, begun } = reading;
     match begun {
         None => Ok(blocks),
-        Some(_) => Err(DraftFault::Bad),
+        Some(_) => Err(ReadFault::Bad),
     }
 }
 
 /// Reads the lines that follow the header.
 #[tactic(auto, using(crate::proofs::Steps::read_step, crate::proofs::Steps::read_stop, crate::proofs::Steps::read_end))]
-fn read_blocks(alloc: Global, bytes: &[u8]) -> Result<List<Block>, DraftFault>
+fn read_blocks(alloc: Global, bytes: &[u8]) -> Result<List<Block>, ReadFault>
     ensures { Gives result (read_parts start (parts_of bytes.now)) }
 {
     let mut reading = Reading {
@@ -175,29 +162,29 @@ fn read_blocks(alloc: Global, bytes: &[u8]) -> Result<List<Block>, DraftFault>
         rest = after;
     }
     if !rest.is_empty() {
-        return Err(DraftFault::Bad);
+        return Err(ReadFault::Bad);
     }
     finished(reading)
 }
 
 /// Reads a whole draft file: `draft 1`, and then blocks with the numbers from 1, each with its transaction lines and `end`.
 /// Bytes that are none are `Bad`.
-pub fn read_draft(alloc: Global, bytes: &[u8]) -> Result<List<Block>, DraftFault>
+pub fn read_draft(alloc: Global, bytes: &[u8]) -> Result<List<Block>, ReadFault>
     ensures draft { Gives result (draft bytes.now) }
     ensures numbered { IfOk result (λ blocks. NumberedFrom 1 blocks) }
 {
     match split_line(bytes) {
-        None => Err(DraftFault::Bad),
+        None => Err(ReadFault::Bad),
         Some((header, rest)) => read_after(alloc, header, rest),
     }
 }
 
 /// Reads the lines that follow the first.
-fn read_after(alloc: Global, header: &[u8], rest: &[u8]) -> Result<List<Block>, DraftFault>
+fn read_after(alloc: Global, header: &[u8], rest: &[u8]) -> Result<List<Block>, ReadFault>
     ensures { Gives result (after_header (header.now ∷ parts_of rest.now)) }
 {
     if header != b"draft 1".as_slice() {
-        return Err(DraftFault::Bad);
+        return Err(ReadFault::Bad);
     }
     read_blocks(alloc, rest)
 }

@@ -5,7 +5,6 @@ pub mod advance;
 #[cfg(test)]
 mod chain_tests;
 pub mod draft;
-pub mod fault;
 pub mod hash;
 pub mod laws;
 pub mod place;
@@ -17,6 +16,5 @@ pub mod step;
 mod tests;
 
 pub use draft::{LONGEST_DRAFT, read_draft};
-pub use fault::DraftFault;
 pub use reader::{Fed, Reader, read_pieces};
 pub use sealing::seal;
