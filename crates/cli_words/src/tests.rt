@@ -8,37 +8,6 @@ fn commands(rt: HostRuntime) -> Result<(), Fail> {
     let alloc = rt.alloc();
     let run = read_words(alloc, &["run", "--orders", "--blocks", "b", "--app", "a"]);
     assert!(rt; matches!(run, Ok(Settings::Run { .. })));
-    let simulate = [
-        "simulate",
-        "--schedule",
-        "s",
-        "--trace",
-        "--app",
-        "a",
-        "--blocks",
-        "b",
-    ];
-    assert!(rt;
-        matches!(
-            read_words(alloc, &simulate),
-            Ok(Settings::Simulate { arrivals: None, .. })
-        )
-    );
-    let provenance = [
-        "provenance",
-        "--query",
-        "written p1",
-        "--app",
-        "a",
-        "--blocks",
-        "b",
-    ];
-    assert!(rt;
-        matches!(
-            read_words(alloc, &provenance),
-            Ok(Settings::Provenance { .. })
-        )
-    );
     let seal = read_words(alloc, &["seal", "--blocks", "b"]);
     assert!(rt; matches!(seal, Ok(Settings::Seal { .. })));
     let load = read_words(alloc, &["load", "--number", "18446744073709551615"]);
@@ -48,14 +17,48 @@ fn commands(rt: HostRuntime) -> Result<(), Fail> {
     Ok(())
 }
 
+// A simulation has no arrivals where the words name none.
+#[test]
+fn a_simulation(rt: HostRuntime) -> Result<(), Fail> {
+    let words = [
+        "simulate",
+        "--schedule",
+        "s",
+        "--trace",
+        "--app",
+        "a",
+        "--blocks",
+        "b",
+    ];
+    let simulate = read_words(rt.alloc(), &words);
+    assert!(rt; matches!(simulate, Ok(Settings::Simulate { arrivals: None, .. })));
+    Ok(())
+}
+
+// The text of a query has its spaces.
+#[test]
+fn a_query(rt: HostRuntime) -> Result<(), Fail> {
+    let words = [
+        "provenance",
+        "--query",
+        "written p1",
+        "--app",
+        "a",
+        "--blocks",
+        "b",
+    ];
+    let provenance = read_words(rt.alloc(), &words);
+    assert!(rt; matches!(provenance, Ok(Settings::Provenance { .. })));
+    Ok(())
+}
+
 // A run has one node with two executors where the words say nothing else.
 #[test]
 fn a_run(rt: HostRuntime) -> Result<(), Fail> {
-    let alloc = rt.alloc();
-    let plain = read_words(alloc, &["run", "--app", "a", "--blocks", "b"]);
+    let run = read_words(rt.alloc(), &["run", "--app", "a", "--blocks", "b"]);
     assert!(rt;
         matches!(
-            plain,
+            run,
             Ok(Settings::Run {
                 arrivals: None,
                 nodes: 1,
@@ -64,7 +67,13 @@ fn a_run(rt: HostRuntime) -> Result<(), Fail> {
             })
         )
     );
-    let all = [
+    Ok(())
+}
+
+// A run with all its options.
+#[test]
+fn a_run_of_eight(rt: HostRuntime) -> Result<(), Fail> {
+    let words = [
         "run",
         "--trace",
         "--executors",
@@ -81,9 +90,10 @@ fn a_run(rt: HostRuntime) -> Result<(), Fail> {
         "b",
         "--digests",
     ];
+    let run = read_words(rt.alloc(), &words);
     assert!(rt;
         matches!(
-            read_words(alloc, &all),
+            run,
             Ok(Settings::Run {
                 arrivals: Some(_),
                 nodes: 8,
