@@ -1,7 +1,7 @@
 -- What stands in memory of the jobs, after each change.
 use Rattle.std.proofs.Common.{List, [], ap, map, refl, subst, suc, sym, zero, ◌++◌, ◌∙◌, ◌≡◌, ◌∷◌, ℕ}
 use Rattle.node_core.proofs.Dropped_rows.{count_dropped, ids_dropped}
-use Rattle.node_core.proofs.Quiet.{bounds_dropped}
+use Rattle.node_core.proofs.Quiet.{bounds_dropped, bounds_more}
 use Rattle.node_core.proofs.Table.{count_many}
 use Rattle.node_core.specs.ById.{Indexes, SameJobs, ids_of}
 use Rattle.node_core.specs.JobTable.{IsTable}
@@ -34,14 +34,14 @@ table_same rows now held bounds index new was is same =
     subst (λ all. IsTable all held bounds new) (sym is) (record { count = was.count; waits = was.waits; by_id = same (ids_of rows) was.by_id })
 
 -- jobs come behind
-pub table_more : (rows before now : List Row) (held : ℕ) (bounds more : WaitBounds) (index mid new : JobIndex) (txs : List (Shared Tx)) → IsTable rows held bounds index → before ≡ rows
-    → now ≡ before ++ map new_row txs → (BoundsHold bounds rows → BoundsHold more (rows ++ map new_row txs)) → SameJobs index mid → (Indexes mid (ids_of before) → Indexes new (ids_of now))
-    → IsTable now held more new
-table_more rows before now held bounds more index mid new txs was is are keeps same noted =
+pub table_more : (rows before now : List Row) (held : ℕ) (bounds : WaitBounds) (index mid new : JobIndex) (txs : List (Shared Tx)) → IsTable rows held bounds index → before ≡ rows
+    → now ≡ before ++ map new_row txs → SameJobs index mid → (Indexes mid (ids_of before) → Indexes new (ids_of now))
+    → IsTable now held bounds new
+table_more rows before now held bounds index mid new txs was is are same noted =
     let all : now ≡ rows ++ map new_row txs = are ∙ ap (λ front. front ++ map new_row txs) is in
     record {
       count = was.count ∙ sym (ap count_held all ∙ count_many rows txs);
-      waits = subst (BoundsHold more) (sym all) (keeps was.waits);
+      waits = subst (BoundsHold bounds) (sym all) (bounds_more bounds rows (map new_row txs) was.waits);
       by_id = noted (subst (λ all. Indexes mid (ids_of all)) (sym is) (same (ids_of rows) was.by_id));
     }
 

@@ -1,24 +1,23 @@
 //! What is known of the jobs that wait, so that a claim need not look at all jobs.
 
-ghost use Rattle.std.specs.Prelude.{◌≡◌, ◌<◌, ◌≤◌, ◌%◌, ◌++◌, ◌∷◌, List, [], length, map, slice_get, true};
-ghost use Rattle.node_core.specs.Waiting.{BoundsHold, WaitFrom, leading_quiet};
-ghost use Rattle.node_core.specs.Rows.{eligible_rows, new_row, put_at, status_of};
+ghost use Rattle.std.specs.Prelude.{◌≡◌, ◌<◌, ◌≤◌, ◌+◌, ◌%◌, List, [], drop, length, slice_get, take};
+ghost use Rattle.node_core.specs.Waiting.{BoundsHold, WaitAbove, leading_quiet};
+ghost use Rattle.node_core.specs.Rows.{eligible_rows, put_at};
 ghost use Rattle.node_core.specs.declared.jobs.Row.{Row};
 ghost use Rattle.node_core.specs.declared.jobs.Stage.{Stage};
-ghost use Rattle.node_model.specs.World.{is_waiting};
 
 use crate::jobs::Row;
 use crate::rows::{find_among, find_eligible, is_waiting};
-use proc_syntax::Tx;
-use std::sync::Arc;
 
 /// Bounds on the jobs that wait.
 #[derive(Drop)]
 pub struct WaitBounds {
     // So many of the first jobs do not wait.
     quiet: usize,
-    // No job that waits has a lower height.
-    least: u64,
+    // Of so many of the first jobs, those that wait are above a height.
+    passed: usize,
+    // That height.
+    above: u64,
 }
 
 /// How many of the first jobs do not wait, where so many are for certain.
@@ -34,27 +33,16 @@ pub fn skip_quiet(rows: &[Row], quiet: usize) -> usize
     rows.len()
 }
 
-// The lower one of a number and the height of a job, where that waits.
-fn lower_for(row: &Row, least: u64) -> u64
-    ensures fewer { result ≤ least }
-    ensures height { is_waiting (status_of row.now.stage) ≡ true → result ≤ row.now.tx.value.height }
+// How many jobs stand before the first one that waits and is not above a height, where that was looked for.
+fn count_passed(rows: &[Row], height: u64, found: Option<u64>) -> usize
+    requires { found ≡ slice_get (eligible_rows 1 height rows.now) 0 }
+    ensures within { result ≤ length rows.now }
+    ensures above { WaitAbove height (take result rows.now) }
 {
-    if is_waiting(&row.stage) {
-        return least.min(row.tx.height);
+    match found {
+        None => rows.len(),
+        Some(number) => (number - 1) as usize,
     }
-    least
-}
-
-/// The least height of a job that waits, or else the greatest number, where so many of the first jobs do not wait.
-pub fn least_height(rows: &[Row], quiet: usize) -> u64
-    requires { quiet ≤ leading_quiet rows.now }
-    ensures { WaitFrom result rows.now }
-{
-    let mut least = u64::MAX;
-    for i in quiet..rows.len() {
-        least = lower_for(&rows[i], least);
-    }
-    least
 }
 
 impl WaitBounds {
@@ -64,25 +52,34 @@ impl WaitBounds {
     {
         WaitBounds {
             quiet: 0,
-            least: u64::MAX,
+            passed: 0,
+            above: 0,
         }
     }
 
-    /// The number of the first job that waits and whose height is at most the given one. Where there is none, it is not looked for again
-    /// before some job could be one.
+    // Where a walk can start that looks for jobs that wait and whose height is at most the given one.
+    fn first_place(&self, height: u64) -> usize
+        ensures within { (rows : List Row) → BoundsHold self.now rows → result ≤ length rows }
+        ensures all { (rows : List Row) → BoundsHold self.now rows
+            → eligible_rows (result + 1) height (drop result rows) ≡ eligible_rows 1 height rows }
+    {
+        if height <= self.above {
+            return self.passed;
+        }
+        self.quiet
+    }
+
+    /// The number of the first job that waits and whose height is at most the given one. The jobs before it are not walked again at this
+    /// height, but for those that come to wait again.
     pub fn find_first(&mut self, rows: &[Row], height: u64) -> Option<u64>
         requires { BoundsHold self.old rows.now }
         ensures found { result ≡ slice_get (eligible_rows 1 height rows.now) 0 }
         ensures bounds { BoundsHold self.new rows.now }
     {
-        if height < self.least {
-            return None;
-        }
         self.quiet = skip_quiet(rows, self.quiet);
-        let found = find_eligible(rows, self.quiet, height, 0);
-        if found.is_none() {
-            self.least = least_height(rows, self.quiet);
-        }
+        let found = find_eligible(rows, self.first_place(height), height, 0);
+        self.passed = count_passed(rows, height, found);
+        self.above = height;
         found
     }
 
@@ -91,14 +88,7 @@ impl WaitBounds {
         requires { BoundsHold self.now rows.now }
         ensures { result ≡ slice_get (eligible_rows 1 height rows.now) (n % length (eligible_rows 1 height rows.now)) }
     {
-        find_among(rows, self.quiet, height, n)
-    }
-
-    /// A job came behind the others.
-    pub fn note(&mut self, tx: &Arc<Tx>)
-        ensures { (rows : List Row) → BoundsHold self.old rows → BoundsHold self.new (rows ++ new_row tx.now ∷ []) }
-    {
-        self.least = self.least.min(tx.height);
+        find_among(rows, self.first_place(height), height, n)
     }
 
     /// The job at a place has another stage.
@@ -109,16 +99,9 @@ impl WaitBounds {
         let row = &rows[place];
         if is_waiting(&row.stage) {
             self.quiet = self.quiet.min(place);
-            self.least = self.least.min(row.tx.height);
+            if row.tx.height <= self.above {
+                self.passed = self.passed.min(place);
+            }
         }
-    }
-}
-
-/// Jobs came behind the others.
-pub fn note_all(bounds: &mut WaitBounds, txs: &[Arc<Tx>])
-    ensures { (rows : List Row) → BoundsHold bounds.old rows → BoundsHold bounds.new (rows ++ map new_row txs.now) }
-{
-    for tx in txs {
-        bounds.note(tx);
     }
 }

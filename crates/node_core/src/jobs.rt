@@ -4,7 +4,7 @@ ghost use Rattle.std.specs.Prelude.{◌≡◌, ◌<◌, ◌≤◌, ◌+◌, ◌%
 ghost use Rattle.std.specs.Option.{option_copied, option_map};
 ghost use Rattle.node_model.specs.World.{eligible, is_held, is_waiting, number_of};
 
-use crate::bounds::{WaitBounds, note_all};
+use crate::bounds::WaitBounds;
 use crate::dropping::drop_all;
 use crate::index::{JobIndex, hold_all};
 use crate::lookup::find_number;
@@ -109,8 +109,8 @@ impl Jobs {
     }
 
     /// Of the jobs that wait and whose height is at most the given one, in order of number, the one at `n` modulo their count. The jobs
-    /// stay as they are, and only what is known of them grows: where `n` is 0, jobs that did not wait and heights of no job are not walked
-    /// again.
+    /// stay as they are, and only what is known of them grows: where `n` is 0, the jobs before the one that is found are not walked again at
+    /// this height, but for those that come to wait again.
     pub fn find_nth(&mut self, height: u64, n: u64) -> Option<u64>
         ensures found { result ≡ slice_get (eligible height (shown_all self.old)) (n % length (eligible height (shown_all self.old))) }
         ensures same { self.new ≡ self.old }
@@ -156,7 +156,6 @@ impl Jobs {
         self.rows.reserve(1)?;
         self.index.reserve(1)?;
         self.index.hold(&tx.id)?;
-        self.bounds.note(&tx);
         push_row(&mut self.rows, &mut self.index, tx);
         Ok(())
     }
@@ -169,7 +168,6 @@ impl Jobs {
         self.rows.reserve(txs.len())?;
         self.index.reserve(txs.len())?;
         hold_all(&mut self.index, txs.as_slice())?;
-        note_all(&mut self.bounds, txs.as_slice());
         push_rows(&mut self.rows, &mut self.index, txs);
         Ok(())
     }

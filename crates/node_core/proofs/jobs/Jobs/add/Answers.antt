@@ -17,5 +17,5 @@ invariant_of-self-2 c =
     let older : c.hold.new.self.older.items ≡ c.reserve-2.new.self.older.items = search rules in
     let same : SameJobs c.self.inside.index c.hold.new.self = λ ids was. same_jobs c.reserve-2.new.self c.hold.new.self c.hold.ensures.newest older ids (c.reserve-2.ensures.same ids was) in
     let before : c.reserve.new.self.items ≡ c.self.inside.rows.items = search rules in
-    table_more c.self.inside.rows.items c.reserve.new.self.items c.push_row.new.rows.items c.self.inside.held c.self.inside.bounds c.note.new.self c.self.inside.index c.hold.new.self
-    c.push_row.new.index (c.args.tx ∷ []) c.self.invariant before c.push_row.ensures.rows (c.note.ensures c.self.inside.rows.items) same c.push_row.ensures.index
+    table_more c.self.inside.rows.items c.reserve.new.self.items c.push_row.new.rows.items c.self.inside.held c.self.inside.bounds c.self.inside.index c.hold.new.self
+    c.push_row.new.index (c.args.tx ∷ []) c.self.invariant before c.push_row.ensures.rows same c.push_row.ensures.index

@@ -1,10 +1,8 @@
-use Rattle.std.proofs.Common.{All, List, length, rules, subst, map, ◌≡◌, ◌≤◌, ◌+◌, ◌++◌}
+use Rattle.std.proofs.Common.{All, List, length, rules, subst, ◌≡◌, ◌≤◌, ◌+◌}
 use Rattle.std.specs.Prelude.{vec_capacity, vec_len}
 use Rattle.node_core.proofs.Newest.{room_all, same_jobs}
 use Rattle.node_core.proofs.Standing.{table_more, table_same}
 use Rattle.node_core.specs.ById.{Holds, SameJobs, tx_ids}
-use Rattle.node_core.specs.Rows.{new_row}
-use Rattle.node_core.specs.Waiting.{BoundsHold}
 use Rattle.node_model.specs.Steps.{Shared}
 use Rattle.proc_syntax.specs.declared.call.Tx.{Tx}
 use Rattle.node_core.proofs.jobs.Jobs.add_all.Goals as goal
@@ -29,8 +27,5 @@ invariant_of-self-2 c =
     let same : SameJobs c.self.inside.index c.hold_all.new.index =
     λ ids was. same_jobs c.reserve-2.new.self c.hold_all.new.index c.hold_all.ensures.newest older ids (c.reserve-2.ensures.same ids was) in
     let before : c.reserve.new.self.items ≡ c.self.inside.rows.items = search rules in
-    let txs : c.as_slice-2.result.now ≡ c.args.txs.items = search rules in
-    let keeps : BoundsHold c.self.inside.bounds c.self.inside.rows.items → BoundsHold c.note_all.new.bounds (c.self.inside.rows.items ++ map new_row c.args.txs.items) =
-    λ was. subst (λ (all : List (Shared Tx)). BoundsHold c.note_all.new.bounds (c.self.inside.rows.items ++ map new_row all)) txs (c.note_all.ensures c.self.inside.rows.items was) in
-    table_more c.self.inside.rows.items c.reserve.new.self.items c.push_rows.new.rows.items c.self.inside.held c.self.inside.bounds c.note_all.new.bounds c.self.inside.index
-    c.hold_all.new.index c.push_rows.new.index c.args.txs.items c.self.invariant before c.push_rows.ensures.rows keeps same c.push_rows.ensures.index
+    table_more c.self.inside.rows.items c.reserve.new.self.items c.push_rows.new.rows.items c.self.inside.held c.self.inside.bounds c.self.inside.index
+    c.hold_all.new.index c.push_rows.new.index c.args.txs.items c.self.invariant before c.push_rows.ensures.rows same c.push_rows.ensures.index
