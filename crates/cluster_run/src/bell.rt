@@ -13,6 +13,7 @@ const LOOKS_BEFORE_SLEEP: u32 = 100;
 #[derive(Drop)]
 pub struct Bell {
     count: AtomicU64,
+    sleepers: AtomicU64,
 }
 
 impl Bell {
@@ -20,13 +21,17 @@ impl Bell {
     pub fn new() -> Bell {
         Bell {
             count: AtomicU64::new(0),
+            sleepers: AtomicU64::new(0),
         }
     }
 
-    /// Something has happened: whoever sleeps wakes.
+    /// Something has happened: whoever sleeps wakes. The system is called only where somebody may sleep: who is about to is counted before
+    /// the count is compared for the last time, so that it is seen here, or sees there that the bell was rung.
     pub fn ring(&self) {
         self.count.fetch_add(1, Ordering::SeqCst);
-        self.count.wake_all();
+        if self.sleepers.load(Ordering::SeqCst) != 0 {
+            self.count.wake_all();
+        }
     }
 
     /// How often it was rung, but for multiples of 2 to the 32.
@@ -43,6 +48,8 @@ impl Bell {
             }
             thread::yield_now();
         }
+        self.sleepers.fetch_add(1, Ordering::SeqCst);
         self.count.park(rt, heard);
+        self.sleepers.fetch_sub(1, Ordering::SeqCst);
     }
 }

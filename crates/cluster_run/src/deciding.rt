@@ -14,6 +14,31 @@ use rel_base::NoMemory;
 use row_sets::Versions;
 use std::sync::Wait;
 
+// The first job that can be claimed, if there is one, is run. Answers whether there was one.
+fn run_other<V: Versions, G: Gate, R: Wait>(
+    rt: &R,
+    node: &SharedNode<V>,
+    crew: &Crew<'_, G>,
+    pass: &mut NodePass<V>,
+) -> Result<bool, NoMemory>
+    requires lock { IsPassOf node.now.lock pass.old }
+    requires no_turn { HoldsNoTurn pass.old }
+    requires hand { HasNone pass.old }
+    ensures same { IsSamePass pass.old pass.new }
+    ensures no_turn { HoldsNoTurn pass.new }
+    ensures hand { HasNone pass.new }
+    ensures blocks { pass_number pass.old ≡ 0 → SameBlocks pass.old pass.new }
+{
+    match take_work(rt, node, pass, Pick::Nth(0)) {
+        Ok(None) => Ok(false),
+        Ok(Some(work)) => {
+            run_work(rt, node, crew, pass, work)?;
+            Ok(true)
+        }
+        Err(refused) => Err(refused),
+    }
+}
+
 // The job that is due, if it waits, is claimed and run.
 fn run_due<V: Versions, G: Gate, R: Wait>(
     rt: &R,
@@ -85,7 +110,9 @@ fn decide_next<V: Versions, G: Gate, R: Wait>(
                 ..
             },
         ) => {
-            crew.ended.wait(rt, heard);
+            if !run_other(rt, node, crew, pass)? {
+                crew.ended.wait(rt, heard);
+            }
             Ok(false)
         }
         Ok(Decided::AllDecided { .. }) | Ok(Decided::NoBlock { .. }) => Ok(true),
