@@ -2,9 +2,9 @@
 
 ghost use Rattle.rel_base.specs.Tables.{tables_at};
 
-use proc_run::Source;
 use rel_base::{List, NoMemory, Read, Seen};
 use row_sets::Versions;
+use snapshots::Snapshot;
 use std::alloc::Global;
 
 /// The tables of a store after the block of a height.
@@ -14,7 +14,7 @@ pub struct Moment<'a, V: Versions> {
     pub height: u64,
 }
 
-impl<V: Versions> Source for Moment<'_, V> {
+impl<V: Versions> Snapshot for Moment<'_, V> {
     ghost declared = { λ moment. V.tables moment.versions.now };
 
     ghost tables = { λ moment. tables_at moment.height (V.history moment.versions.now) };

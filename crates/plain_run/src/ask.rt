@@ -9,8 +9,8 @@ ghost use Rattle.row_sets.specs.Overlay.{own_of};
 ghost use Rattle.plain_run.specs.State.{state, IsReady};
 
 use crate::run::Run;
-use crate::snapshot::Snapshot;
 use rel_base::{List, Made, NoMemory, Read, Row, Seen, TableDef, Twin};
+use snapshots::Snapshot;
 use std::alloc::Global;
 
 /// The rows that a read gets of the snapshot.

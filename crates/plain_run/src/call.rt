@@ -11,12 +11,12 @@ ghost use Rattle.plain_run.specs.State.{state, IsReady};
 
 use crate::plain::run_block;
 use crate::run::Run;
-use crate::snapshot::Snapshot;
 use proc_eval::Halt;
 use proc_eval::call::{bind_arguments, procedure_named, takes};
 use proc_syntax::{App, Ending, ProcDef, Ran, Stop, Tx};
 use rel_base::{List, NoMemory, TableDef, Value};
 use row_sets::Overlay;
+use snapshots::Snapshot;
 use std::alloc::Global;
 
 /// How a run ends that stopped.

@@ -14,13 +14,13 @@ ghost use Rattle.plain_run.specs.State.{state, Ends, Chooses, IsReady, Keeps, Ke
 
 use crate::ask::{ask, ask_key};
 use crate::run::Run;
-use crate::snapshot::Snapshot;
 use proc_eval::Halt;
 use proc_eval::eval::{eval, eval_all, eval_changes};
 use proc_eval::fit::{fits_key, is_under, key_for, set_columns, span_read};
 use proc_eval::scope::{bind, table_named};
 use proc_syntax::{Binding, Change, Expr, Fault, Stop};
 use rel_base::{Key, List, Name, NoMemory, Read, Row, TableDef, Twin, Value};
+use snapshots::Snapshot;
 use std::alloc::Global;
 
 /// The table of a name.

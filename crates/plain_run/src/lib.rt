@@ -8,8 +8,6 @@ pub mod exec;
 pub mod plain;
 pub mod row_tables;
 pub mod run;
-pub mod snapshot;
 
 pub use call::run_call;
 pub use row_tables::RowTables;
-pub use snapshot::Snapshot;

@@ -9,12 +9,12 @@ use crate::exec::{
     bind_row, find_table, run_delete, run_get, run_insert, run_set, run_update, span_between,
 };
 use crate::run::Run;
-use crate::snapshot::Snapshot;
 use proc_eval::Halt;
 use proc_eval::compare::flag;
 use proc_eval::eval::{eval, eval_end};
 use proc_syntax::{Expr, Fault, Stmt, Stop};
 use rel_base::{List, Name, Row, TableDef, Twin};
+use snapshots::Snapshot;
 use std::alloc::Global;
 
 /// Runs a block: each statement in turn, with a step of its own.

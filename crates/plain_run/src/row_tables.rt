@@ -10,11 +10,11 @@ ghost use Rattle.proc_syntax.specs.Run.{run};
 ghost use Rattle.plain_run.specs.State.{IsReady, put_writes};
 
 use crate::call::run_call;
-use crate::snapshot::Snapshot;
 use proc_eval::fit::is_under;
 use proc_syntax::{App, Ran, Tx};
 use rel_base::{Key, List, NoMemory, Place, Read, Row, Seen, TableDef, Twin, Write};
 use row_sets::cover::is_covered;
+use snapshots::Snapshot;
 use std::alloc::Global;
 use std::collections::BTreeMap;
 

@@ -7,16 +7,16 @@ ghost use Rattle.proc_syntax.specs.Run.{run};
 ghost use Rattle.proc_run.specs.Told.{Agrees};
 
 use crate::machine::Machine;
-use crate::source::Source;
 use crate::state::Want;
 use proc_check::Checked;
 use proc_syntax::{Ran, Tx};
 use rel_base::{List, NoMemory, Read, Seen};
+use snapshots::Snapshot;
 use std::alloc::Global;
 use std::sync::Arc;
 
 /// The rows of a read.
-fn rows_for<S: Source>(alloc: Global, source: &S, read: Read) -> Result<List<Seen>, NoMemory>
+fn rows_for<S: Snapshot>(alloc: Global, source: &S, read: Read) -> Result<List<Seen>, NoMemory>
     requires { ReadFitsIn (S.declared source.now) read }
     ensures { IfOk result (λ rows. rows ≡ rows_in (S.declared source.now) read (S.tables source.now)) }
 {
@@ -24,7 +24,7 @@ fn rows_for<S: Source>(alloc: Global, source: &S, read: Read) -> Result<List<See
 }
 
 /// Answers the next read of a machine, where there is one.
-fn serve<S: Source>(alloc: Global, machine: &mut Machine, source: &S) -> Result<bool, NoMemory>
+fn serve<S: Snapshot>(alloc: Global, machine: &mut Machine, source: &S) -> Result<bool, NoMemory>
     requires asks { machine.old.asks ≡ None }
     requires declared { S.declared source.now ≡ tables_of machine.old.app }
     requires fit { TablesFit (tables_of machine.old.app) (S.tables source.now) }
@@ -49,7 +49,7 @@ fn serve<S: Source>(alloc: Global, machine: &mut Machine, source: &S) -> Result<
 
 /// The run of a call on tables whose rows fit: a machine is fed the rows of each read that it asks, and what it gives is the run. It
 /// asks at most 100,000 times.
-pub fn run_on<S: Source>(
+pub fn run_on<S: Snapshot>(
     alloc: Global,
     app: &Arc<Checked>,
     tx: &Tx,

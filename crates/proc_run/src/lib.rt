@@ -7,12 +7,10 @@ pub mod machine;
 pub mod place;
 pub mod plan;
 pub mod resume;
-pub mod source;
 pub mod start;
 pub mod state;
 pub mod turn;
 
 pub use drive::run_on;
 pub use machine::Machine;
-pub use source::Source;
 pub use state::Want;

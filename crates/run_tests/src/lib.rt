@@ -2,7 +2,6 @@
 #![tactic(auto)]
 
 pub mod alike;
-pub mod known;
 #[cfg(test)]
 mod tests;
 pub mod ways;

@@ -8,7 +8,6 @@ ghost use Rattle.proc_syntax.specs.Run.{run};
 ghost use Rattle.plain_run.specs.State.{IsReady};
 
 use crate::alike::Alike;
-use crate::known::Known;
 use plain_run::{RowTables, run_call};
 use proc_check::Checked;
 use proc_run::run_on;
@@ -31,7 +30,7 @@ pub fn agree(
     requires ready { IsReady tables.now.declared.now tables.now.declared.now (from_entries {R = ref_cmp} tables.now.rows.entries) }
     ensures { IfOk result (λ found. found ≡ Some (run app.now.value.app tx.now (pos 0) (from_entries {R = ref_cmp} tables.now.rows.entries))) }
 {
-    let by_machine = run_on(alloc, app, tx, 0, &Known { tables })?;
+    let by_machine = run_on(alloc, app, tx, 0, tables)?;
     let by_recursion = run_call(alloc, app.app(), tables.declared, tx, 0, tables)?;
     if by_machine.is_alike(&by_recursion) {
         Ok(Some(by_machine))

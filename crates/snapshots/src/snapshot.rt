@@ -8,8 +8,8 @@ ghost use Rattle.rel_base.specs.Among.{ReadFitsIn, rows_in};
 use rel_base::{List, NoMemory, Read, Seen};
 use std::alloc::Global;
 
-/// The tables as they are at some moment, which answer the reads of a machine.
-pub trait Source {
+/// The tables as they are at some moment, which answer the reads of a run.
+pub trait Snapshot {
     ghost declared: { Self → List TableDef };
 
     ghost tables: { Self → Tables };
