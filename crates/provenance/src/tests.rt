@@ -11,15 +11,15 @@ fn is_history(alloc: Global, text: &str, wanted_table: &str, wanted_key: &List<V
 }
 
 fn is_between(alloc: Global, text: &str, wanted_table: &str, wanted: (u64, u64)) -> bool {
-    match parse_query(alloc, text) {
+    match &parse_query(alloc, text) {
         Ok(Query::Between { table, from, to }) => table.as_str() == wanted_table
-            && (from, to) == wanted,
+            && (*from, *to) == wanted,
         _ => false,
     }
 }
 
 fn is_written(alloc: Global, text: &str, wanted_id: &str) -> bool {
-    match parse_query(alloc, text) {
+    match &parse_query(alloc, text) {
         Ok(Query::Written { id }) => id.as_str() == wanted_id,
         _ => false,
     }
