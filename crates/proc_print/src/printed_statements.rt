@@ -1,14 +1,13 @@
 //! Statements as lines.
 
 ghost use Rattle.std.specs.Prelude.{◌≡◌, ◌++◌, OnOk, IfOk, codes, map, flat_map};
-ghost use Rattle.std.specs.Option.{option_map};
-ghost use Rattle.proc_print.specs.Printed.{block_text, change_text, delete_text, else_text, end_text, ends_text, expr_text, fail_text, insert_text, keyed_text, line_text, span_text, stmt_text, update_text};
+ghost use Rattle.proc_print.specs.Printed.{block_text, change_text, delete_text, end_text, ends_text, expr_text, fail_text, insert_text, keyed_text, line_text, span_text, stmt_text, update_text};
 
 use crate::printed_expressions::{push_expr, push_name};
 use crate::writing::{Printed, push, push_in_parens, push_listed};
 use literals::push_text;
 use proc_syntax::{Change, Expr, Named, Stmt};
-use rel_base::{List, NoMemory, Str};
+use rel_base::{NoMemory, Str};
 use std::alloc::Global;
 
 impl Printed for Change {
@@ -29,14 +28,6 @@ fn push_setting(out: &mut Vec<u8>, name: &Named, value: &Expr) -> Result<(), NoM
     push(out, b" = ")?;
     push_expr(out, value)?;
     push(out, b";")
-}
-
-/// Writes `let NAME = VALUE;` at the end.
-fn push_let(out: &mut Vec<u8>, name: &Named, value: &Expr) -> Result<(), NoMemory>
-    ensures { OnOk result (out.new.items ≡ out.old.items ++ codes "let " ++ name.now.name ++ codes " = " ++ expr_text value.now ++ codes ";") }
-{
-    push(out, b"let ")?;
-    push_setting(out, name, value)
 }
 
 /// Writes a table and the key of one of its rows at the end.
@@ -211,35 +202,25 @@ fn push_else(
     push_block(alloc, out, margin, stmts)
 }
 
-/// Writes `if TEST { THEN } else { OTHER }` at the end, of which the second block may be absent.
-#[cycle(lines)]
-fn push_if(
-    alloc: Global,
-    out: &mut Vec<u8>,
-    margin: &[u8],
-    test: &Expr,
-    then: &List<Stmt>,
-    other: &Option<List<Stmt>>,
-) -> Result<(), NoMemory>
-    ensures { OnOk result (out.new.items ≡ out.old.items ++ codes "if " ++ expr_text test.now ++ codes " " ++ block_text (map stmt_text then.now) margin.now ++ else_text (option_map (map stmt_text) other.now) margin.now) }
-{
-    push_test(out, test)?;
-    push_block(alloc, out, margin, then.as_slice())?;
-    match other {
-        None => Ok(()),
-        Some(stmts) => push_else(alloc, out, margin, stmts.as_slice()),
-    }
-}
-
 /// Writes a statement at the end, of which the blocks close behind the margin.
 #[cycle(lines)]
 fn push_stmt(alloc: Global, out: &mut Vec<u8>, margin: &[u8], stmt: &Stmt) -> Result<(), NoMemory>
     ensures { OnOk result (out.new.items ≡ out.old.items ++ stmt_text stmt.now margin.now) }
 {
     match stmt {
-        Stmt::Let { name, value } => push_let(out, name, value),
+        Stmt::Let { name, value } => {
+            push(out, b"let ")?;
+            push_setting(out, name, value)
+        }
         Stmt::Assign { name, value } => push_setting(out, name, value),
-        Stmt::If { test, then, other } => push_if(alloc, out, margin, test, then, other),
+        Stmt::If { test, then, other } => {
+            push_test(out, test)?;
+            push_block(alloc, out, margin, then.as_slice())?;
+            match other {
+                None => Ok(()),
+                Some(stmts) => push_else(alloc, out, margin, stmts.as_slice()),
+            }
+        }
         Stmt::Get {
             name,
             table,
