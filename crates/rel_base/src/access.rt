@@ -8,8 +8,9 @@ ghost use Rattle.rel_base.specs.Schema.{RowFits};
 
 use crate::list::List;
 use crate::memory::{NoMemory, Twin};
+use crate::row::Row;
 use crate::schema::TableDef;
-use crate::value::{Key, Row, Value};
+use crate::value::{Key, Value};
 use std::alloc::Global;
 
 /// The place of a transaction in the chain: the number of its block, and its position in the block, both from 1.

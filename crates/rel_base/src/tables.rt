@@ -7,8 +7,9 @@ ghost use Rattle.rel_base.specs.Schema.{RowFits, key_of_row};
 
 use crate::list::List;
 use crate::memory::{NoMemory, Twin};
+use crate::row::Row;
 use crate::schema::TableDef;
-use crate::value::{Key, Row};
+use crate::value::Key;
 use std::alloc::Global;
 
 /// The key of a row: its values in the key columns, in their order.

@@ -6,19 +6,20 @@ use super::blob::{Blob, BlobFault};
 use super::list::List;
 use super::memory::Twin;
 use super::name::{Id, Name, NameFault};
+use super::row::Row;
 use super::schema::{Column, TableDef};
 use super::text::{Str, StrFault};
-use super::value::{Kind, Row, Value};
+use super::value::{Kind, Value};
 use std::alloc::Global;
 use std::test::Fail;
 
 fn row(alloc: Global, id: i64, name: &str) -> Result<Row, Fail>
     ensures { IfOk result (λ row. map kind_of row ≡ kind.Int ∷ kind.Text ∷ []) }
 {
-    let mut row = List::new(alloc);
-    row.push(Value::Int(id))?;
-    row.push(Value::Text(Str::new(alloc, name)?))?;
-    Ok(row)
+    let mut values = List::new(alloc);
+    values.push(Value::Int(id))?;
+    values.push(Value::Text(Str::new(alloc, name)?))?;
+    Ok(Row::new(values)?)
 }
 
 fn of_one<T: Drop>(alloc: Global, item: T) -> Result<List<T>, Fail>
@@ -83,6 +84,21 @@ fn orders_of_mixed_kinds(rt: HostRuntime) -> Result<(), Fail> {
     order.push_two(Value::Bool(false), Value::Bool(true))?;
     order.push(Value::Bytes(Blob::new(alloc, b"a")?))?;
     assert!(rt; values == order);
+    Ok(())
+}
+
+#[test]
+fn rows_with_several_owners(rt: HostRuntime) -> Result<(), Fail> {
+    let alloc = rt.alloc();
+    let ann = row(alloc, 1, "ann")?;
+    let twin = ann.copy(alloc)?;
+    assert!(rt; twin == ann);
+    let mut values = twin.to_list(alloc)?;
+    values.push(Value::Bool(true))?;
+    let longer = Row::new(values)?;
+    assert_eq!(rt; longer.len(), 3);
+    assert_eq!(rt; ann.len(), 2);
+    assert!(rt; longer != ann);
     Ok(())
 }
 

@@ -1,4 +1,4 @@
-//! Values, rows and keys.
+//! Values and keys.
 
 ghost use Rattle.std.specs.Prelude.{◌≡◌, ◌<◌, IfOk, refl};
 ghost use Rattle.std.specs.Cmp.{partial_equiv_from_equiv, eq_by_cmp_equiv, partial_order_from_total};
@@ -37,9 +37,6 @@ pub enum Value {
     /// Bytes, ordered lexicographically.
     Bytes(Blob),
 }
-
-/// A row of a table: a value for each column, in the order of the declaration.
-pub type Row = List<Value>;
 
 /// A key of a table: a value for each key column, in the order of the declaration. Keys compare value by value, and a key
 /// stands before every longer one that it begins.
