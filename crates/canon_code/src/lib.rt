@@ -15,7 +15,7 @@ pub mod write;
 
 pub use number::{get_u32, get_u64, put_u32, put_u64, read_u32, read_u64};
 pub use rel_base::ReadFault as CodeFault;
-pub use row::{MOST_VALUES, get_row, put_row, read_row};
+pub use row::{MOST_VALUES, get_row, put_row, read_key, read_row};
 pub use short::{put_blob, put_text, read_blob, read_text};
 pub use value::{get_value, put_value, read_value};
 pub use write::{get_write, put_write, read_write};

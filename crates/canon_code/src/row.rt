@@ -10,7 +10,7 @@ ghost use Rattle.canon_code.specs.Rows.{row_code, HasRowCode, row_at};
 use crate::CodeFault;
 use crate::number::read_u8;
 use crate::value::{put_value, read_value};
-use rel_base::{List, NoMemory, Row, Value};
+use rel_base::{Key, List, NoMemory, Row, Value};
 use std::alloc::Global;
 
 /// The number of values that a row may have.
@@ -30,18 +30,18 @@ fn push_values(out: &mut Vec<u8>, values: &[Value]) -> Result<(), NoMemory>
 
 /// Writes a row at the end, or a part of it.
 #[tactic(auto, using(crate::proofs::Fronts::front_front))]
-fn push_row(out: &mut Vec<u8>, row: &Row) -> Result<(), NoMemory>
+fn push_row(out: &mut Vec<u8>, row: &[Value]) -> Result<(), NoMemory>
     requires { length row.now ≤ 32 }
     ensures ok { OnOk result (out.new.items ≡ out.old.items ++ row_code row.now) }
     ensures front { take (length out.old.items) out.new.items ≡ out.old.items }
     ensures sound { OnOk result (HasRowCode row.now) }
 {
     out.push(row.len() as u8)?;
-    push_values(out, row.as_slice())
+    push_values(out, row)
 }
 
 /// Writes the code of a row or a key of at most 32 values at the end, or nothing where memory runs out.
-pub fn put_row(out: &mut Vec<u8>, row: &Row) -> Result<(), NoMemory>
+pub fn put_row(out: &mut Vec<u8>, row: &[Value]) -> Result<(), NoMemory>
     requires { length row.now ≤ 32 }
     ensures ok { OnOk result (out.new.items ≡ out.old.items ++ row_code row.now) }
     ensures err { OnErr result (out.new.items ≡ out.old.items) }
@@ -58,7 +58,7 @@ pub fn put_row(out: &mut Vec<u8>, row: &Row) -> Result<(), NoMemory>
 
 /// Reads so many values.
 #[tactic(auto, using(crate::proofs::Loop::items_step, crate::proofs::Loop::items_stop, crate::proofs::Loop::items_done))]
-fn read_values(alloc: Global, count: u8, bytes: &[u8]) -> Result<(Row, &[u8]), CodeFault>
+fn read_values(alloc: Global, count: u8, bytes: &[u8]) -> Result<(List<Value>, &[u8]), CodeFault>
     ensures { Reads result (items_at value_at count bytes.now) }
 {
     let mut values = List::new(alloc);
@@ -72,7 +72,7 @@ fn read_values(alloc: Global, count: u8, bytes: &[u8]) -> Result<(Row, &[u8]), C
 }
 
 /// Reads so many values, if they are few enough for a row.
-fn read_few(alloc: Global, count: u8, bytes: &[u8]) -> Result<(Row, &[u8]), CodeFault>
+fn read_few(alloc: Global, count: u8, bytes: &[u8]) -> Result<(List<Value>, &[u8]), CodeFault>
     ensures { Reads result (cond (nat_le count 32) (items_at value_at count bytes.now) None) }
 {
     if count > MOST_VALUES {
@@ -81,16 +81,24 @@ fn read_few(alloc: Global, count: u8, bytes: &[u8]) -> Result<(Row, &[u8]), Code
     read_values(alloc, count, bytes)
 }
 
-/// Reads the row or key whose code stands at the front of the bytes, and answers what follows it too.
-pub fn read_row(alloc: Global, bytes: &[u8]) -> Result<(Row, &[u8]), CodeFault>
+/// Reads the key whose code stands at the front of the bytes, and answers what follows it too.
+pub fn read_key(alloc: Global, bytes: &[u8]) -> Result<(Key, &[u8]), CodeFault>
     ensures { Reads result (row_at bytes.now) }
 {
     let (count, rest) = read_u8(bytes)?;
     read_few(alloc, count, rest)
 }
 
-/// Reads the row or key whose code stands at the front of the bytes, and answers the length of its code too. Bytes may follow
-/// it.
+/// Reads the row whose code stands at the front of the bytes, and answers what follows it too.
+pub fn read_row(alloc: Global, bytes: &[u8]) -> Result<(Row, &[u8]), CodeFault>
+    ensures { Reads result (row_at bytes.now) }
+{
+    let (values, rest) = read_key(alloc, bytes)?;
+    let row = Row::new(values)?;
+    Ok((row, rest))
+}
+
+/// Reads the row whose code stands at the front of the bytes, and answers the length of its code too. Bytes may follow it.
 pub fn get_row(alloc: Global, bytes: &[u8]) -> Result<(Row, usize), CodeFault>
     ensures { Gets row_code HasRowCode bytes.now result }
 {

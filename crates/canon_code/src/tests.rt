@@ -9,11 +9,11 @@ use std::test::Fail;
 fn ann(alloc: Global) -> Result<Row, Fail>
     ensures { IfOk result (λ row. length row ≡ 3) }
 {
-    let mut row = List::new(alloc);
-    row.push(Value::Int(1))?;
-    row.push(Value::Text(Str::new(alloc, "ann")?))?;
-    row.push(Value::Int(50))?;
-    Ok(row)
+    let mut values = List::new(alloc);
+    values.push(Value::Int(1))?;
+    values.push(Value::Text(Str::new(alloc, "ann")?))?;
+    values.push(Value::Int(50))?;
+    Ok(Row::new(values)?)
 }
 
 /// A write at position 1 of table 0, of the key 1.
@@ -54,7 +54,7 @@ fn code_of_a_row(rt: HostRuntime) -> Result<(), Fail> {
     let alloc = rt.alloc();
     let row = ann(alloc)?;
     let mut out = Vec::new(alloc);
-    put_row(&mut out, &row)?;
+    put_row(&mut out, row.as_slice())?;
     assert_eq!(rt;
         out.as_slice(),
         b"\x03\x01\x00\x00\x00\x00\x00\x00\x00\x01\x02\x03ann\x01\x00\x00\x00\x00\x00\x00\x00\x32".as_slice()

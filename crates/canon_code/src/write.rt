@@ -9,7 +9,7 @@ ghost use Rattle.canon_code.specs.Writes.{head_code, change_code, write_code, Ha
 
 use crate::CodeFault;
 use crate::number::{put_u32, read_u32};
-use crate::row::{put_row, read_row};
+use crate::row::{put_row, read_key, read_row};
 use rel_base::{NoMemory, Placed, Row, Write};
 use std::alloc::Global;
 
@@ -28,7 +28,7 @@ fn push_kind_and_row(out: &mut Vec<u8>, kind: u8, row: &Row) -> Result<(), NoMem
     ensures sound { OnOk result (HasRowCode row.now) }
 {
     out.push(kind)?;
-    put_row(out, row)
+    put_row(out, row.as_slice())
 }
 
 /// Writes an update at the end, or a part of it.
@@ -41,7 +41,7 @@ fn push_update(out: &mut Vec<u8>, before: &Row, after: &Row) -> Result<(), NoMem
     ensures sound { OnOk result (HasRowCode before.now × HasRowCode after.now) }
 {
     push_kind_and_row(out, 2, before)?;
-    put_row(out, after)
+    put_row(out, after.as_slice())
 }
 
 /// Writes at the end what became of a row, or a part of that.
@@ -69,7 +69,7 @@ fn push_head(out: &mut Vec<u8>, placed: &Placed) -> Result<(), NoMemory>
 {
     put_u32(out, placed.pos)?;
     put_u32(out, placed.write.table)?;
-    put_row(out, &placed.write.key)
+    put_row(out, placed.write.key.as_slice())
 }
 
 /// Writes a write at the end, or a part of it.
@@ -159,7 +159,7 @@ pub fn read_write(alloc: Global, bytes: &[u8]) -> Result<(Placed, &[u8]), CodeFa
 {
     let (pos, rest) = read_u32(bytes)?;
     let (table, rest) = read_u32(rest)?;
-    let (key, rest) = read_row(alloc, rest)?;
+    let (key, rest) = read_key(alloc, rest)?;
     let (change, rest) = read_change(alloc, rest)?;
     let Change { before, after } = change;
     let write = Write {
