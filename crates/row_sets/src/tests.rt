@@ -20,9 +20,9 @@ fn key(alloc: Global, id: i64) -> Result<Key, Fail> {
 }
 
 fn account(alloc: Global, id: i64, amount: i64) -> Result<Row, Fail> {
-    let mut row = one(alloc, Value::Int(id))?;
-    row.push(Value::Int(amount))?;
-    Ok(row)
+    let mut values = one(alloc, Value::Int(id))?;
+    values.push(Value::Int(amount))?;
+    Ok(Row::new(values)?)
 }
 
 /// An account that may be there.
@@ -87,7 +87,7 @@ fn from(low: i64) -> Read {
     }
 }
 
-fn int_at(values: &List<Value>, at: usize) -> Option<i64> {
+fn int_at(values: &[Value], at: usize) -> Option<i64> {
     match values.get(at) {
         Some(Value::Int(number)) => Some(*number),
         _ => None,
@@ -95,7 +95,7 @@ fn int_at(values: &List<Value>, at: usize) -> Option<i64> {
 }
 
 fn is_account(row: &Row, id: i64, amount: i64) -> bool {
-    int_at(row, 0) == Some(id) && int_at(row, 1) == Some(amount)
+    int_at(row.as_slice(), 0) == Some(id) && int_at(row.as_slice(), 1) == Some(amount)
 }
 
 #[test]
