@@ -9,7 +9,7 @@ ghost use Rattle.proc_syntax.specs.Scope.{column_in};
 ghost use Rattle.proc_syntax.specs.Meaning.{end_has, span_on, span_of, row_fits, key_for, set_columns};
 
 use crate::scope::column_in;
-use rel_base::{Column, Key, Kind, Name, NoMemory, Read, Row, TableDef, Twin, Value, key_of};
+use rel_base::{Column, Key, Kind, List, Name, NoMemory, Read, Row, TableDef, Twin, Value, key_of};
 use std::alloc::Global;
 
 /// Whether a value has a kind.
@@ -176,8 +176,8 @@ pub fn is_under(alloc: Global, def: &TableDef, key: &Key, row: &Row) -> Result<b
     }
 }
 
-/// Sets a column of a row that has it.
-fn set_column(row: &mut Row, column: usize, value: Value)
+/// Sets a column among the values of a row that has it.
+fn set_column(row: &mut List<Value>, column: usize, value: Value)
     ensures { row.new ≡ slice_set row.old column value }
 {
     if column < row.len() {
@@ -185,8 +185,12 @@ fn set_column(row: &mut Row, column: usize, value: Value)
     }
 }
 
-/// Sets columns of a row, one after the other.
-pub fn set_columns(alloc: Global, row: &mut Row, changes: &[(usize, Value)]) -> Result<(), NoMemory>
+/// Sets columns among the values of a row, one after the other.
+fn set_columns(
+    alloc: Global,
+    row: &mut List<Value>,
+    changes: &[(usize, Value)],
+) -> Result<(), NoMemory>
     ensures { OnOk result (row.new ≡ set_columns row.old changes.now) }
 {
     for change in changes {
@@ -194,4 +198,14 @@ pub fn set_columns(alloc: Global, row: &mut Row, changes: &[(usize, Value)]) -> 
         set_column(row, change.0, value);
     }
     Ok(())
+}
+
+/// A row with columns set, one after the other. The row itself stays as it is.
+pub fn with_columns(alloc: Global, old: &Row, changes: &[(usize, Value)]) -> Result<Row, NoMemory>
+    ensures { IfOk result (λ row. row ≡ set_columns old.now changes.now) }
+{
+    let mut values = old.to_list(alloc)?;
+    set_columns(alloc, &mut values, changes)?;
+    let row = Row::new(values)?;
+    Ok(row)
 }

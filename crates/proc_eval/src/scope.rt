@@ -10,7 +10,7 @@ ghost use Rattle.proc_eval.specs.Gives.{Gives};
 
 use crate::halt::Halt;
 use proc_syntax::{Binding, Stop, Variable};
-use rel_base::{List, Name, NoMemory, TableDef, Twin, Value, table_of};
+use rel_base::{List, Name, NoMemory, Row, TableDef, Twin, Value, table_of};
 use std::alloc::Global;
 
 /// What a name stands for.
@@ -75,12 +75,7 @@ pub fn value_in(
     }
 }
 
-fn cell<'a>(
-    tables: &List<TableDef>,
-    table: u32,
-    row: &'a List<Value>,
-    column: &Name,
-) -> Option<&'a Value>
+fn cell<'a>(tables: &List<TableDef>, table: u32, row: &'a Row, column: &Name) -> Option<&'a Value>
     ensures { option_copied result ≡ option_and_then (λ def. option_and_then (λ number. slice_get row.now number) (column_in def column.now)) (slice_get tables.now table) }
 {
     let def = tables.get(table as usize)?;
