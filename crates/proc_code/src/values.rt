@@ -13,7 +13,7 @@ use proc_eval::Halt;
 use proc_eval::arith::negation;
 use proc_eval::compare::{flag, negated, two};
 use proc_syntax::{Binding, Op, Stop};
-use rel_base::{List, Twin, Value};
+use rel_base::{List, Row, Twin, Value};
 use std::alloc::Global;
 
 /// A value that was computed, or one that stands in the code, in a variable or in a row that a variable holds, and is not copied.
@@ -204,6 +204,20 @@ pub fn eval_all(
         values.push(value)?;
     }
     Ok(values)
+}
+
+/// The row of the values of expressions, from the left.
+pub fn eval_row(
+    alloc: Global,
+    columns: &List<List<Option<usize>>>,
+    slots: &[Option<Binding>],
+    terms: &[Term],
+) -> Result<Row, Halt>
+    ensures { Gives result (worths_of columns.now terms.now slots.now) }
+{
+    let values = eval_all(alloc, columns, slots, terms)?;
+    let row = Row::new(values)?;
+    Ok(row)
 }
 
 /// The value of an end of a span, where it is given.
