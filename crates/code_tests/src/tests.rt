@@ -3,7 +3,7 @@ ghost use Rattle.std.specs.Prelude.{◌≤◌, IfOk, IfSome, length};
 use canon_code::{get_row, get_value, get_write, put_row, put_value, put_write};
 use rand::rngs::SmallRng;
 use rand_core::{Rng, SeedableRng};
-use rel_base::{Blob, List, Placed, Row, Str, Value, Write};
+use rel_base::{Blob, Key, List, Placed, Row, Str, Value, Write};
 use std::alloc::Global;
 use std::test::Fail;
 
@@ -18,18 +18,26 @@ fn drawn_value(alloc: Global, rng: &mut SmallRng) -> Result<Value, Fail> {
     }
 }
 
+/// A key of at most 31 values.
+fn drawn_key(alloc: Global, rng: &mut SmallRng) -> Result<Key, Fail>
+    ensures { IfOk result (λ key. length key ≤ 32) }
+{
+    let mut key = List::new(alloc);
+    for _ in 0..rng.next_u32() % 32 {
+        key.push(drawn_value(alloc, rng)?)?;
+    }
+    if key.len() > 32 {
+        return Err("a key of too many values".into());
+    }
+    Ok(key)
+}
+
 /// A row of at most 31 values.
 fn drawn_row(alloc: Global, rng: &mut SmallRng) -> Result<Row, Fail>
     ensures { IfOk result (λ row. length row ≤ 32) }
 {
-    let mut row = List::new(alloc);
-    for _ in 0..rng.next_u32() % 32 {
-        row.push(drawn_value(alloc, rng)?)?;
-    }
-    if row.len() > 32 {
-        return Err("a row of too many values".into());
-    }
-    Ok(row)
+    let values = drawn_key(alloc, rng)?;
+    Ok(Row::new(values)?)
 }
 
 /// A row that may be there.
@@ -58,7 +66,7 @@ fn row_comes_back(alloc: Global, row: &Row) -> Result<bool, Fail>
     requires { length row.now ≤ 32 }
 {
     let mut code = Vec::new(alloc);
-    put_row(&mut code, row)?;
+    put_row(&mut code, row.as_slice())?;
     let length = code.len();
     code.push(7)?;
     let (read, count) = get_row(alloc, &code)?;
@@ -67,7 +75,7 @@ fn row_comes_back(alloc: Global, row: &Row) -> Result<bool, Fail>
 
 /// Whether a write with a row before or a row after, or both, is.
 fn write_comes_back(alloc: Global, rng: &mut SmallRng, form: u32) -> Result<bool, Fail> {
-    let key = drawn_row(alloc, rng)?;
+    let key = drawn_key(alloc, rng)?;
     let before = drawn_part(alloc, rng, form != 0)?;
     let after = drawn_part(alloc, rng, form != 1)?;
     let placed = Placed {
