@@ -15,8 +15,8 @@ ghost use Rattle.plain_run.specs.State.{state, Ends, Chooses, IsReady, Keeps, Ke
 use crate::ask::{ask, ask_key};
 use crate::run::Run;
 use proc_eval::Halt;
-use proc_eval::eval::{eval, eval_all, eval_changes};
-use proc_eval::fit::{fits_key, is_under, key_for, set_columns, span_read};
+use proc_eval::eval::{eval, eval_all, eval_changes, eval_row};
+use proc_eval::fit::{fits_key, is_under, key_for, span_read, with_columns};
 use proc_eval::scope::{bind, table_named};
 use proc_syntax::{Binding, Change, Expr, Fault, Stop};
 use rel_base::{Key, List, Name, NoMemory, Read, Row, TableDef, Twin, Value};
@@ -153,7 +153,7 @@ pub fn run_insert<S: Snapshot>(
     ensures found { Keeps tables.now (S.tables snapshot.now) run.old.own run.new.own }
 {
     let (number, def) = find_table(tables, table)?;
-    let row = eval_all(alloc, tables, run.variables.as_slice(), values)?;
+    let row = eval_row(alloc, tables, run.variables.as_slice(), values)?;
     let key = key_of_fit(alloc, def, &row)?;
     let read = Read::Point {
         table: number,
@@ -173,8 +173,7 @@ fn changed(
 ) -> Result<Row, Halt>
     ensures { Gives result (found (row_under def.now key.now (set_columns old.now changes.now))) }
 {
-    let mut row = old.copy(alloc)?;
-    set_columns(alloc, &mut row, changes)?;
+    let row = with_columns(alloc, old, changes)?;
     if is_under(alloc, def, key, &row)? {
         Ok(row)
     } else {
