@@ -8,7 +8,7 @@ ghost use Rattle.proc_eval.specs.Gives.{Gives};
 ghost use Rattle.proc_eval.specs.declared.halt.Halt.TheVariants as halt;
 ghost use Rattle.proc_run.specs.Planned.{plan_of, plan_set, plan_if, plan_get, plan_for, plan_insert, plan_update, plan_delete};
 
-use proc_code::values::{eval, eval_all, eval_end, eval_settings};
+use proc_code::values::{eval, eval_all, eval_end, eval_row, eval_settings};
 use proc_code::{Action, Setting, Term};
 use proc_eval::Halt;
 use proc_eval::compare::flag;
@@ -174,7 +174,7 @@ fn plan_insert(
     ensures { Gives result (plan_insert tables.now columns.now table values.now slots.now) }
 {
     let def = find_table(tables, table)?;
-    let row = eval_all(alloc, columns, slots, values)?;
+    let row = eval_row(alloc, columns, slots, values)?;
     let key = key_of_fit(alloc, def, &row)?;
     Ok(Plan::Ask {
         read: Read::Point { table, key },

@@ -23,7 +23,7 @@ use crate::plan::{Pending, find_table};
 use crate::state::Run;
 use crate::turn::{push, put};
 use proc_eval::Halt;
-use proc_eval::fit::{is_under, set_columns};
+use proc_eval::fit::{is_under, with_columns};
 use proc_syntax::{Binding, Fault, Stop};
 use rel_base::{Key, List, Made, NoMemory, Read, Row, Seen, TableDef, Twin, Value};
 use row_sets::Overlay;
@@ -65,8 +65,7 @@ fn changed(
 ) -> Result<Row, Halt>
     ensures { Gives result (found (row_under def.now key.now (set_columns old.now changes.now))) }
 {
-    let mut row = old.copy(alloc)?;
-    set_columns(alloc, &mut row, changes)?;
+    let row = with_columns(alloc, old, changes)?;
     if is_under(alloc, def, key, &row)? {
         Ok(row)
     } else {
