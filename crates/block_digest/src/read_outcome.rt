@@ -8,7 +8,7 @@ ghost use Rattle.canon_code.specs.Values.{text_at};
 ghost use Rattle.block_digest.specs.Joined.{made_at, then_at};
 ghost use Rattle.block_digest.specs.Readings.{small_at, one_of, two_of, late_at, fault_at, clash_at, danger_at, outcome_at};
 
-use canon_code::{CodeFault, read_row, read_text, read_u32, read_u64};
+use canon_code::{CodeFault, read_key, read_text, read_u32, read_u64};
 use node_model::{Clash, Danger, Late, Outcome};
 use proc_syntax::Fault;
 use rel_base::Place;
@@ -22,7 +22,7 @@ fn read_late(alloc: Global, stale: bool, bytes: &[u8]) -> Result<(Outcome, &[u8]
     let (block, rest) = read_u64(rest)?;
     let (pos, rest) = read_u32(rest)?;
     let (table, rest) = read_u32(rest)?;
-    let (key, rest) = read_row(alloc, rest)?;
+    let (key, rest) = read_key(alloc, rest)?;
     let late = Late {
         stale,
         read,
@@ -71,7 +71,7 @@ fn read_clash(alloc: Global, bytes: &[u8]) -> Result<(Outcome, &[u8]), CodeFault
 {
     let (with, rest) = read_u32(bytes)?;
     let (table, rest) = read_u32(rest)?;
-    let (key, rest) = read_row(alloc, rest)?;
+    let (key, rest) = read_key(alloc, rest)?;
     Ok((Outcome::WriteConflict(Clash { with, table, key }), rest))
 }
 

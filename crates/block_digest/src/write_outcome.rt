@@ -27,7 +27,7 @@ fn push_ref(out: &mut Vec<u8>, pos: u32, table: u32, key: &Key) -> Result<(), No
 {
     put_u32(out, pos)?;
     put_u32(out, table)?;
-    put_row(out, key)
+    put_row(out, key.as_slice())
 }
 
 /// The byte for a late read.
