@@ -20,7 +20,8 @@ fn lots(alloc: Global) -> Result<List<TableDef>, Fail> {
 fn row(alloc: Global) -> Result<Row, Fail> {
     let site = Value::Text(Str::new(alloc, "a\"\\b")?);
     let tag = Value::Bytes(Blob::new(alloc, &[0, 255])?);
-    Ok(List::from_vec(vec![in alloc; Value::Int(i64::MIN), site, Value::Bool(true), tag]?))
+    let values = vec![in alloc; Value::Int(i64::MIN), site, Value::Bool(true), tag]?;
+    Ok(Row::new(List::from_vec(values))?)
 }
 
 fn failed(alloc: Global) -> Result<Told, Fail> {

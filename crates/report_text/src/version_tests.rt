@@ -17,7 +17,8 @@ fn accounts(alloc: Global) -> Result<List<TableDef>, Fail> {
 
 fn account(alloc: Global, balance: i64) -> Result<Row, Fail> {
     let owner = Value::Text(Str::new(alloc, "ann")?);
-    Ok(List::from_vec(vec![in alloc; Value::Int(1), owner, Value::Int(balance)]?))
+    let values = vec![in alloc; Value::Int(1), owner, Value::Int(balance)]?;
+    Ok(Row::new(List::from_vec(values))?)
 }
 
 #[test]
