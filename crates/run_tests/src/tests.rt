@@ -143,7 +143,7 @@ fn add_row(
         table: 0,
         key,
         before: None,
-        after: Some(values(alloc, row)?),
+        after: Some(Row::new(values(alloc, row)?)?),
     })?;
     Ok(())
 }
