@@ -22,6 +22,7 @@ use Rattle.proc_syntax.proofs.call.Block.TheSendSync as block
 use Rattle.proc_syntax.proofs.call.Tx.TheSendSync as tx
 use Rattle.proc_syntax.specs.contracts.tree.App as App
 use Rattle.rel_base.proofs.list.List.TheSendSync as list
+use Rattle.rel_base.proofs.row.Row.TheSendSync as table_row
 use Rattle.row_sets.specs.declared.versions.Versions.{Ghosts}
 use Rattle.turn_lock.proofs.lock.TurnLock.TheSendSync as lock
 use Rattle.turn_lock.proofs.pass.Pass.TheSendSync as pass
@@ -34,7 +35,7 @@ index_send : IsSend JobIndex.the_field.row
 index_send = search (sends, maps.crosses, crosses, sendable) depth 60 fits 20000
 
 row_field_send : IsSend Row.the_field.row
-row_field_send = search (sends, tx.the_send, tx.the_sync, crosses, sendable) depth 60 fits 20000
+row_field_send = search (sends, table_row.the_send, table_row.the_field_send, tx.the_send, tx.the_sync, crosses, sendable) depth 60 fits 20000
 
 row_send : IsSend Row.the_row
 row_send = search (row_field_send, sendable) depth 60 fits 20000
@@ -43,7 +44,7 @@ jobs_send : IsSend Jobs.the_field.row
 jobs_send = search (row_send, index_send, crosses, sendable) depth 60 fits 20000
 
 done_send : IsSend BlockInWork.the_field.row
-done_send = search (sends, crosses, sendable) depth 60 fits 20000
+done_send = search (sends, table_row.the_send, table_row.the_field_send, crosses, sendable) depth 60 fits 20000
 
 working_field_send : IsSend Working.the_field.row
 working_field_send = search (done_send, block.the_send, block.the_sync, crosses, sendable) depth 60 fits 20000
