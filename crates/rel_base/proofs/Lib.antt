@@ -8,3 +8,5 @@ pub mod Least
 pub mod KeyOrder
 pub mod Stories
 mod Utf8
+mod Words
+mod Padding

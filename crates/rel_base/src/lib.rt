@@ -10,6 +10,7 @@ pub mod list;
 pub mod memory;
 pub mod name;
 pub mod reading;
+mod rooms;
 pub mod row;
 pub mod schema;
 mod short_text;

@@ -119,7 +119,7 @@ impl PartialEq for Str {
     ghost laws = { partial_equiv_from_equiv nat_list_eq_equiv };
 
     fn eq(&self, other: &Self) -> bool {
-        self.text.as_str() == other.text.as_str()
+        self.cmp(other).is_eq()
     }
 }
 
@@ -147,6 +147,6 @@ impl Ord for Str {
     ghost matches_eq = { Prim.search (comparing, rules) };
 
     fn cmp(&self, other: &Self) -> Ordering {
-        self.text.as_str().cmp(&other.text.as_str())
+        self.text.order(&other.text)
     }
 }
