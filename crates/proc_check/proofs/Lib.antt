@@ -9,3 +9,4 @@ pub mod Fitting
 pub mod Typed_lists
 pub mod Running
 pub mod Typed_runs
+mod Places

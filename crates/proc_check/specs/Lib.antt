@@ -7,3 +7,4 @@ pub mod Gives
 pub mod Apps
 pub mod Laws
 pub mod Sizes
+pub mod Places

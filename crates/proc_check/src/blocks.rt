@@ -17,11 +17,11 @@ use rel_base::{Kind, List, NoMemory};
 use std::alloc::Global;
 
 /// Brings into scope what a statement brings, if anything.
-fn enter_maybe(scope: &mut Scope, brought: Option<Variable>) -> Result<(), NoMemory>
+fn enter_maybe(alloc: Global, scope: &mut Scope, brought: Option<Variable>) -> Result<(), NoMemory>
     ensures ok { OnOk result (scope.new ≡ scope.old ++ option_to_list brought) }
 {
     match brought {
-        Some(variable) => scope.enter(variable),
+        Some(variable) => scope.enter(alloc, variable),
         None => Ok(()),
     }
 }
@@ -66,7 +66,7 @@ fn check_stmt(
         } => {
             let number = check_get(tables, scope, name, table, key.as_slice())?;
             let outside = scope.len();
-            scope.enter(variable_of(alloc, name, Sort::Row(number))?)?;
+            scope.enter(alloc, variable_of(alloc, name, Sort::Row(number))?)?;
             check_block(alloc, tables, scope, found.as_slice())?;
             scope.leave(outside);
             check_block(alloc, tables, scope, absent.as_slice())?;
@@ -82,7 +82,7 @@ fn check_stmt(
         } => {
             let number = check_for(tables, scope, name, table, column, low, high)?;
             let outside = scope.len();
-            scope.enter(variable_of(alloc, name, Sort::Row(number))?)?;
+            scope.enter(alloc, variable_of(alloc, name, Sort::Row(number))?)?;
             check_block(alloc, tables, scope, body.as_slice())?;
             scope.leave(outside);
             Ok(None)
@@ -121,7 +121,7 @@ pub fn check_block(
     let outside = scope.len();
     for stmt in stmts {
         let brought = check_stmt(alloc, tables, scope, stmt)?;
-        enter_maybe(scope, brought)?;
+        enter_maybe(alloc, scope, brought)?;
     }
     scope.leave(outside);
     Ok(())

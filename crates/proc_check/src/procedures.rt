@@ -24,7 +24,8 @@ fn scope_of(alloc: Global, params: &[ColumnText]) -> Result<Scope, NoMemory>
 {
     let mut scope = Scope::new(alloc);
     for param in params {
-        scope.enter(variable_of(alloc, &param.name, Sort::Value(param.kind))?)?;
+        let variable = variable_of(alloc, &param.name, Sort::Value(param.kind))?;
+        scope.enter(alloc, variable)?;
     }
     Ok(scope)
 }

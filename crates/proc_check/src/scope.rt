@@ -1,7 +1,10 @@
 //! The names that are in scope, and what they stand for.
 
-ghost use Rattle.std.specs.Prelude.{◌≡◌, ◌≤◌, ◌++◌, ◌∷◌, [], length, take, IfOk, OnOk, OnErr};
-ghost use Rattle.std.specs.Option.{option_to_list};
+ghost use Rattle.std.specs.Prelude.{◌≡◌, ◌-◌, ◌++◌, ◌∷◌, [], length, take, List, IfOk, OnOk, OnErr};
+ghost use Rattle.std.specs.BTreeMap.{IsUnchanged, get};
+ghost use Rattle.std.specs.Cmp.Lexicographic.{slice_cmp};
+ghost use Rattle.std.specs.Ordering.{nat_cmp};
+ghost use Rattle.proc_check.specs.Places.{HasPlaces};
 ghost use Rattle.proc_check.specs.Scope.{look_up, variable_of, new_name, value_kind, row_table};
 ghost use Rattle.proc_check.specs.Scope.{sort_kind, sort_table};
 
@@ -10,6 +13,7 @@ use crate::named::{found, refuse};
 use proc_syntax::Named;
 use rel_base::{Kind, Name, NoMemory, Twin};
 use std::alloc::Global;
+use std::collections::BTreeMap;
 use std::marker::Model;
 
 /// What a name stands for.
@@ -38,31 +42,60 @@ pub fn variable_of(alloc: Global, name: &Named, sort: Sort) -> Result<Variable, 
     })
 }
 
-/// The names in scope, the outermost first.
+/// The names in scope, the outermost first. An ordered map has the place of each, so that a name is looked up in a number of steps
+/// that grows as the logarithm.
 #[derive(Drop)]
 pub struct Scope {
     variables: Vec<Variable>,
+    places: BTreeMap<Name, usize>,
 }
 
 impl Model for Scope {
     ghost use Rattle.std.specs.Prelude.{List};
+    ghost use Rattle.proc_check.specs.Places.{HasPlaces};
     ghost use Rattle.proc_check.specs.declared.scope.Variable.{Variable};
 
     ghost Value = { List Variable };
 
     ghost view = { λ a. a.variables.items };
+
+    ghost invariant = { λ a. HasPlaces a.places a.variables.items };
 }
 
-/// What a name stands for among variables.
-fn look_up(variables: &[Variable], name: &Name) -> Option<Sort>
-    ensures { result ≡ look_up variables.now name.now }
+/// The place that a map has for a name.
+fn place_of(places: &BTreeMap<Name, usize>, name: &Name) -> Option<usize>
+    ensures { result ≡ get (slice_cmp nat_cmp) places.now name.now }
 {
-    for variable in variables {
-        if variable.name.as_str() == name.as_str() {
-            return Some(variable.sort);
+    places.get(name).copied()
+}
+
+/// Notes the place of one more variable, unless there is one of its name before it.
+fn note(
+    alloc: Global,
+    places: &mut BTreeMap<Name, usize>,
+    variable: &Variable,
+    place: usize,
+) -> Result<(), NoMemory>
+    ensures more { OnOk result ((before : List Variable) → length before ≡ place → HasPlaces places.old before → HasPlaces places.new (before ++ variable.now ∷ [])) }
+    ensures same { OnErr result (IsUnchanged places.old places.new) }
+{
+    if places.contains_key(&variable.name) {
+        return Ok(());
+    }
+    let name = variable.name.copy(alloc)?;
+    places.insert(name, place)?;
+    Ok(())
+}
+
+/// Forgets the place of the last variable, unless there is one of its name before it.
+fn forget(places: &mut BTreeMap<Name, usize>, last: &Variable, place: usize)
+    ensures { (before : List Variable) → length before ≡ place → HasPlaces places.old (before ++ last.now ∷ []) → HasPlaces places.new before }
+{
+    if let Some(first) = place_of(places, &last.name) {
+        if first == place {
+            let _ = places.remove(&last.name);
         }
     }
-    None
 }
 
 /// The kind of what must be a value.
@@ -98,6 +131,7 @@ impl Scope {
     {
         Scope {
             variables: Vec::new(alloc),
+            places: BTreeMap::new(alloc),
         }
     }
 
@@ -112,23 +146,40 @@ impl Scope {
     pub fn look_up(&self, name: &Name) -> Option<Sort>
         ensures { result ≡ look_up self.now name.now }
     {
-        look_up(self.variables.as_slice(), name)
+        match place_of(&self.places, name) {
+            None => None,
+            Some(place) => Some(self.variables[place].sort),
+        }
     }
 
     /// Brings a name into scope.
-    pub fn enter(&mut self, variable: Variable) -> Result<(), NoMemory>
+    pub fn enter(&mut self, alloc: Global, variable: Variable) -> Result<(), NoMemory>
         ensures ok { OnOk result (self.new ≡ self.old ++ variable ∷ []) }
         ensures err { OnErr result (self.new ≡ self.old) }
     {
-        self.variables.push(variable)?;
+        // Room first, so that nothing has to be taken back where memory is wanting.
+        self.variables.reserve(1)?;
+        note(alloc, &mut self.places, &variable, self.variables.len())?;
+        self.variables.push_reserved(variable);
         Ok(())
+    }
+
+    // Takes the innermost name out of scope.
+    fn leave_last(&mut self)
+        ensures { self.new ≡ take (length self.old - 1) self.old }
+    {
+        if let Some(last) = self.variables.pop() {
+            forget(&mut self.places, &last, self.variables.len());
+        }
     }
 
     /// Leaves the names in scope that were there first, as many as are told.
     pub fn leave(&mut self, count: usize)
         ensures { self.new ≡ take count self.old }
     {
-        self.variables.truncate(count);
+        for _ in count..self.len() {
+            self.leave_last();
+        }
     }
 
     /// Checks a name that comes into scope, of which nothing may be in scope yet.
