@@ -35,7 +35,7 @@ index_send : IsSend JobIndex.the_field.row
 index_send = search (sends, maps.crosses, crosses, sendable) depth 60 fits 20000
 
 row_field_send : IsSend Row.the_field.row
-row_field_send = search (sends, table_row.the_send, table_row.the_field_send, tx.the_send, tx.the_sync, crosses, sendable) depth 60 fits 20000
+row_field_send = search (sends, table_row.the_send, tx.the_send, tx.the_sync, crosses, sendable) depth 60 fits 20000
 
 row_send : IsSend Row.the_row
 row_send = search (row_field_send, sendable) depth 60 fits 20000
@@ -44,7 +44,7 @@ jobs_send : IsSend Jobs.the_field.row
 jobs_send = search (row_send, index_send, crosses, sendable) depth 60 fits 20000
 
 done_send : IsSend BlockInWork.the_field.row
-done_send = search (sends, table_row.the_send, table_row.the_field_send, crosses, sendable) depth 60 fits 20000
+done_send = search (sends, table_row.the_send, crosses, sendable) depth 60 fits 20000
 
 working_field_send : IsSend Working.the_field.row
 working_field_send = search (done_send, block.the_send, block.the_sync, crosses, sendable) depth 60 fits 20000
