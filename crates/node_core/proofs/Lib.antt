@@ -20,6 +20,7 @@ pub mod Ending
 pub mod Answering
 pub mod Telling
 pub mod Outcomes
+pub mod Fresh_ids
 pub mod Fresh_jobs
 pub mod Deliveries
 pub mod Seals

@@ -20,7 +20,7 @@ use Rattle.proc_syntax.specs.declared.call.Tx.{Tx}
 pub equal_ids : (a b : List ℕ) → bytes_eq a b ≡ true → a ≡ b
 equal_ids a b h = (bytes_eq-Decides a b).0 h
 
-ids_sym : (a b : List ℕ) → bytes_eq a b ≡ bytes_eq b a
+pub ids_sym : (a b : List ℕ) → bytes_eq a b ≡ bytes_eq b a
 ids_sym a b = by (bytes_eq a b) (bytes_eq b a) (λ h. (bytes_eq-Decides b a).1 (sym (equal_ids a b h))) (λ h. (bytes_eq-Decides a b).1 (sym (equal_ids b a h)))
   where
     by : (one other : Bool) → (one ≡ true → other ≡ true) → (other ≡ true → one ≡ true) → one ≡ other

@@ -7,10 +7,17 @@ use Rattle.node_core.specs.declared.jobs.Row.{Row}
 use Rattle.node_model.specs.World.{number_of}
 use Rattle.proc_syntax.specs.declared.call.Tx.{Tx}
 use Rattle.proc_syntax.specs.declared.tree.App.{App}
+use Rattle.std.specs.BTreeSet.{BTreeSet, contains}
+use Rattle.std.specs.Cmp.Lexicographic.{slice_cmp}
 use Rattle.std.specs.List.{list_any}
 use Rattle.std.specs.Option.{is_some}
-use Rattle.std.specs.Prelude.{Bool, List, [], cond, map, take, ◌+◌, ◌||◌, ◌∷◌, ℕ}
+use Rattle.std.specs.Ordering.{nat_cmp}
+use Rattle.std.specs.Prelude.{Bool, List, [], cond, map, take, ◌+◌, ◌||◌, ◌≡◌, ◌∷◌, ℕ}
 use Rattle.std.specs.Str.{bytes_eq}
+
+-- a set has the ids of some transactions, and no other
+abbrev pub HasIds : BTreeSet (List ℕ) → List Tx → Type 0
+HasIds ids txs = (id : List ℕ) → contains (slice_cmp nat_cmp) ids id ≡ list_any (bytes_eq id) (map (λ tx. tx.id) txs)
 
 -- a transaction of the block of a number, with some before it, has a cause that is known without a run, or a job
 abbrev pub needs_none : App → IdIndex → List Row → ℕ → List Tx → Tx → Bool

@@ -1,12 +1,16 @@
 //! Deliveries of blocks.
 
-ghost use Rattle.std.specs.Prelude.{◌≡◌, ◌+◌, IfOk, length, map};
-ghost use Rattle.node_core.specs.Fresh.{fresh_in, needs_none};
+ghost use Rattle.std.specs.Prelude.{◌≡◌, ◌+◌, ◌++◌, ◌||◌, ◌∷◌, IfOk, List, OnOk, [], is_some, length, map};
+ghost use Rattle.std.specs.List.{list_any};
+ghost use Rattle.std.specs.Str.{bytes_eq};
+ghost use Rattle.block_work.specs.Causes.{early_by};
+ghost use Rattle.node_core.specs.Fresh.{HasIds, fresh_in};
+ghost use Rattle.node_core.specs.Rows.{shown_all};
+ghost use Rattle.node_model.specs.World.{number_of};
 
 use crate::answers::Delivered;
 use crate::arriving::share_tx;
 use crate::jobs::Jobs;
-use crate::known::has_id;
 use crate::node::NodeCore;
 use crate::room::make_room;
 use crate::working::Working;
@@ -14,9 +18,10 @@ use block_work::{BlockInWork, IdIndex, early_cause};
 use node_model::{BlockResult, Entry, Event};
 use proc_check::Checked;
 use proc_syntax::{Block, Tx};
-use rel_base::{NoMemory, Twin};
+use rel_base::{Id, NoMemory, Twin};
 use row_sets::Versions;
 use std::alloc::Global;
+use std::collections::BTreeSet;
 use std::sync::Arc;
 
 // The number of the block after these.
@@ -55,18 +60,19 @@ pub fn share_txs(alloc: Global, txs: &[Tx]) -> Result<Vec<Arc<Tx>>, NoMemory>
     Ok(shared)
 }
 
-// Whether a transaction of the block of a number, with some before it, has a cause that is known without a run, or a job.
-fn needs_none(
-    app: &Checked,
-    ids: &IdIndex,
-    jobs: &Jobs,
-    number: u64,
-    before: &[Tx],
-    tx: &Tx,
-) -> bool
-    ensures { result ≡ needs_none app.now.app ids.now jobs.now number before.now tx.now }
+// Whether a transaction has the id of one before it. From then on its id is among theirs.
+fn repeats(alloc: Global, before: &mut BTreeSet<Id>, tx: &Tx) -> Result<bool, NoMemory>
+    ensures repeats { IfOk result (λ repeats. (txs : List Tx) → HasIds before.old txs → repeats ≡ list_any (bytes_eq tx.now.id) (map (λ tx. tx.id) txs)) }
+    ensures joins { OnOk result ((txs : List Tx) → HasIds before.old txs → HasIds before.new (txs ++ tx.now ∷ [])) }
 {
-    let known = ids.find(&tx.id).is_some() || has_id(before, &tx.id);
+    let is_new = before.insert(tx.id.copy(alloc)?)?;
+    Ok(!is_new)
+}
+
+// Whether a transaction of the block of a number, whose id is known or not, has a cause that is known without a run, or a job.
+fn needs_none(app: &Checked, jobs: &Jobs, number: u64, known: bool, tx: &Tx) -> bool
+    ensures { result ≡ (is_some (early_by known app.now.app number tx.now) || is_some (number_of tx.now (shown_all jobs.now))) }
+{
     early_cause(app, known, number, tx).is_some() || jobs.find(tx).is_some()
 }
 
@@ -84,8 +90,12 @@ fn fresh_txs(
 {
     let txs = block.txs.as_slice();
     let mut made = Vec::new(alloc);
+    let mut before = BTreeSet::new(alloc);
     for i in 0..txs.len() {
-        if !needs_none(app, ids, jobs, block.number, &txs[..i], &txs[i]) {
+        let tx = &txs[i];
+        let repeated = repeats(alloc, &mut before, tx)?;
+        let known = ids.find(&tx.id).is_some() || repeated;
+        if !needs_none(app, jobs, block.number, known, tx) {
             made.push(shared[i].clone()?)?;
         }
     }

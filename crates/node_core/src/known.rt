@@ -33,8 +33,8 @@ pub fn settled_in(ids: &IdIndex, height: u64, id: &Id) -> Option<u64>
     }
 }
 
-/// Whether one of some transactions has the id.
-pub fn has_id(txs: &[Tx], id: &Id) -> bool
+// Whether one of some transactions has the id.
+fn has_id(txs: &[Tx], id: &Id) -> bool
     ensures { result ≡ list_any (bytes_eq id.now) (map (λ tx. tx.id) txs.now) }
 {
     for tx in txs {
