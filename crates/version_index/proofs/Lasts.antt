@@ -1,7 +1,7 @@
 -- Steps of a walk along the items that pass a test, from the last one back.
-use Rattle.std.proofs.Common.{◌≡◌, ℕ, suc, zero, ◌+◌, ◌<◌, List, [], ◌∷◌, Bool, true, false, Option, Some, None, refl, ap, sym, subst, arith, All, slice_get, take, drop, length}
+use Rattle.std.proofs.Common.{◌≡◌, ℕ, suc, zero, ◌+◌, ◌<◌, List, [], ◌∷◌, Bool, true, false, Option, Some, None, refl, ap, arith, All, slice_get, take, length}
 use Rattle.std.specs.Option.{IsSomeAnd}
-use Rattle.std.proofs.lemmas.List.{take_all, length-take}
+use Rattle.std.proofs.lemmas.List.{length-take}
 use Rattle.std.proofs.lemmas.List.Elements.{All-cons, All-head, All-tail, All-weaker}
 use Rattle.version_index.specs.Chain.{IsLast}
 
@@ -33,11 +33,7 @@ module _ {X : Type 0} (on seen : X → Bool) (within : (x : X) → on x ≡ fals
   pub none_seen : (xs : List X) → All (λ x. on x ≡ false) xs → All (λ x. seen x ≡ false) xs
   none_seen xs none = All-weaker (λ x. on x ≡ false) (λ x. seen x ≡ false) within xs none
 
-  -- where the last that is on is seen, it is the last that is seen
-  pub last_seen : (xs : List X) (number : ℕ) → IsLast on xs (Some number) → IsSomeAnd (slice_get xs number) (λ x. seen x ≡ true) → IsLast seen xs (Some number)
-  last_seen xs number last passes = (passes, none_seen (drop (suc number) xs) last.1)
-
-  -- where it is not, the last that is seen stands before it
+  -- where the last that is on is not seen, the last that is seen stands before it
   pub earlier_seen : (xs : List X) (number : ℕ) (found : Option ℕ) → IsLast on xs (Some number) → IsSomeAnd (slice_get xs number) (λ x. seen x ≡ false) → IsLast seen (take number xs) found → IsLast seen xs found
   earlier_seen [] number found last fails before = absurd last.0
   earlier_seen (x ∷ xs) zero None last fails before = All-cons Fails x xs fails (none_seen xs last.1)
@@ -46,34 +42,6 @@ module _ {X : Type 0} (on seen : X → Bool) (within : (x : X) → on x ≡ fals
       All-cons Fails x xs (All-head Fails x (take number xs) before) (earlier_seen xs number None last fails (All-tail Fails x (take number xs) before))
   earlier_seen (x ∷ xs) (suc number) (Some zero) last fails before = (before.0, earlier_seen xs number None last fails before.1)
   earlier_seen (x ∷ xs) (suc number) (Some (suc other)) last fails before = earlier_seen xs number (Some other) last fails before
-
-  -- ---- the walk for the last that is seen
-
-  -- a part of the list from its start, with the last item of it that is on; the last that is seen there is so in the list
-  abbrev pub Walk : List X → Option ℕ → Type 0
-  Walk xs place = (part : ℕ) × IsLast on (take part xs) place × ((found : Option ℕ) → IsLast seen (take part xs) found → IsLast seen xs found)
-
-  pub walk_start : (xs : List X) (head : Option ℕ) → IsLast on xs head → Walk xs head
-  walk_start xs head last =
-      let whole : xs ≡ take (length xs) xs = sym (take_all (length xs) xs (omega arith)) in
-      (length xs, subst (λ ys. IsLast on ys head) whole last, λ found is. subst (λ ys. IsLast seen ys found) (sym whole) is)
-
-  pub walk_found : (xs : List X) (number : ℕ) → Walk xs (Some number) → IsSomeAnd (slice_get xs number) (λ x. seen x ≡ true) → IsLast seen xs (Some number)
-  walk_found xs number walk passes =
-      let part = take walk.0 xs in
-      walk.2 (Some number) (last_seen part number walk.1 (subst (λ found. IsSomeAnd found (λ x. seen x ≡ true)) (sym (get_of_part (λ x. on x ≡ true) walk.0 number xs walk.1.0)) passes))
-
-  pub walk_back : (xs : List X) (number : ℕ) (earlier : Option ℕ) → Walk xs (Some number) → IsSomeAnd (slice_get xs number) (λ x. seen x ≡ false) → IsLast on (take number xs) earlier → Walk xs earlier
-  walk_back xs number earlier walk fails link = (
-    number,
-    link,
-    λ found before. walk.2 found (earlier_seen (take walk.0 xs) number found walk.1
-        (subst (λ found. IsSomeAnd found (λ x. seen x ≡ false)) (sym (get_of_part (λ x. on x ≡ true) walk.0 number xs walk.1.0)) fails)
-        (subst (λ ys. IsLast seen ys found) (sym (take_of_part (λ x. on x ≡ true) walk.0 number xs walk.1.0)) before)),
-  )
-
-  pub walk_end : (xs : List X) → Walk xs None → IsLast seen xs None
-  walk_end xs walk = walk.2 None (none_seen (take walk.0 xs) walk.1)
 
 -- how many items are at most left of a walk
 abbrev pub count : Option ℕ → ℕ

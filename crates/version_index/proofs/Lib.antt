@@ -30,3 +30,5 @@ pub mod Answered
 pub mod Ordered
 pub mod Behind
 pub mod Keeping
+pub mod Halves
+pub mod Lows

@@ -11,7 +11,7 @@ use Rattle.rel_base.proofs.Bits.{is_Equal}
 use Rattle.row_sets.proofs.Histories.{unwrapped}
 use Rattle.row_sets.specs.declared.entry.Entry.{Entry}
 use Rattle.row_sets.specs.Log.{FitsTable, history_of, stamped_of}
-use Rattle.version_index.specs.Chain.{is_late, is_on, is_seen}
+use Rattle.version_index.specs.Chain.{is_late, is_on}
 use Rattle.version_index.specs.Log.{InOrder, Precedes}
 
 -- ---- items by their numbers
@@ -60,10 +60,6 @@ entry_fits def entries table number entry fits there same =
 -- a write that is on a table and key is on its own
 pub same_ref : (ref : ℕ × List Value) (stamped : Stamped) → is_on ref stamped ≡ true → write_ref stamped.1.write ≡ ref
 same_ref ref stamped on = sym (ref_cmp-exact ref (write_ref stamped.1.write) (is_Equal (ref_cmp ref (write_ref stamped.1.write)) on))
-
--- what is not on a key is not seen on it
-pub seen_within : (ref : ℕ × List Value) (height : ℕ) (stamped : Stamped) → is_on ref stamped ≡ false → is_seen ref height stamped ≡ false
-seen_within ref height stamped off = ap (λ b. b && nat_le stamped.0 height) off
 
 -- what is not on a key is not late on it
 pub late_within : (ref : ℕ × List Value) (after upto : ℕ) (stamped : Stamped) → is_on ref stamped ≡ false → is_late ref after upto stamped ≡ false

@@ -1,12 +1,14 @@
 -- What the last write on a key up to a height says of the tables at the height.
-use Rattle.std.proofs.Common.{◌≡◌, ◌∙◌, ℕ, suc, zero, List, [], ◌∷◌, ◌++◌, true, false, ◌&&◌, cond, Option, Some, None, refl, ap, sym, All, slice_get, take, nat_le}
+use Rattle.std.proofs.Common.{◌≡◌, ◌∙◌, ℕ, suc, zero, List, [], ◌∷◌, ◌++◌, true, false, ◌&&◌, cond, Option, Some, None, is_some, refl, ap, sym, subst, All, slice_get, take, nat_le}
 use Rattle.std.specs.FinMap.{get, get-empty}
+use Rattle.std.specs.Option.{IsSomeAnd}
 use Rattle.std.proofs.lemmas.List.Elements.{All-head, All-tail}
 use Rattle.rel_base.specs.declared.access.Seen.{Seen}
 use Rattle.rel_base.specs.declared.value.Value.{Value}
-use Rattle.rel_base.specs.Tables.{Tables, Stamped, ref_cmp, write_ref, set_stamped, set_write, no_tables, tables_at, writes_up_to}
+use Rattle.rel_base.specs.Tables.{Tables, Stamped, ref_cmp, write_ref, set_stamped, set_write, no_tables, seen_at, tables_at, writes_up_to}
 use Rattle.rel_base.proofs.Commutes.{get-set_entry}
 use Rattle.version_index.specs.Chain.{IsLast, is_on, is_seen}
+use Rattle.version_index.specs.Found.{IsVersion, IsVisible}
 use Rattle.version_index.specs.Rows.{seen_of, write_of}
 use Rattle.version_index.proofs.Passing.{take_next}
 
@@ -78,3 +80,15 @@ module _ (ref : ℕ × List Value) where
         let before = take number history in
         ap (λ xs. get (tables_at height xs) ref) (take_next history number stamped there) ∙ get-set_stamped no_tables (writes_up_to height (before ++ stamped ∷ [])) ∙ low_end before stamped (get no_tables ref)
         ∙ ap (cond (is_seen ref height stamped) (seen_of stamped)) (sym (get-set_stamped no_tables (writes_up_to height before)))
+
+-- the last write on a key up to a height is the version there, where it left a row
+pub version_of : (ref : ℕ × List Value) (height : ℕ) (history : List Stamped) (number : ℕ) (stamped : Stamped) → slice_get history number ≡ Some stamped → IsLast (is_seen ref height) history (Some number)
+    → IsVersion ref height history (cond (is_some stamped.1.write.after) (Some number) None)
+version_of ref height history number stamped there last = go stamped.1.write.after refl
+  where
+    left : get (tables_at height history) ref ≡ seen_of stamped
+    left = get_seen ref height history (Some number) last ∙ ap seen_by there
+
+    go : (after : Option (List Value)) → stamped.1.write.after ≡ after → IsVersion ref height history (cond (is_some after) (Some number) None)
+    go None is = left ∙ ap (seen_at stamped.0 stamped.1.pos) is
+    go (Some row) is = (last, subst (λ found. IsSomeAnd found (IsVisible ref height history)) (sym there) (ap is_some is, left))

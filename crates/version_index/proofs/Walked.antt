@@ -1,23 +1,22 @@
 -- Walks back along the writes on a key.
-use Rattle.std.proofs.Common.{◌≡◌, ◌∙◌, ℕ, ◌<◌, ◌≤◌, ◌⊎◌, inl, inr, List, [], ◌∷◌, ◌++◌, Bool, true, false, ◌&&◌, cond, Option, Some, None, IfSome, refl, ap, sym, subst, arith, length, nat_le, slice_get, take}
+use Rattle.std.proofs.Common.{◌≡◌, ◌∙◌, ℕ, ◌<◌, ◌≤◌, ◌⊎◌, inl, inr, List, [], ◌∷◌, ◌++◌, Bool, true, false, cond, Option, Some, None, IfSome, refl, ap, sym, subst, arith, length, nat_le, slice_get, take}
 use Rattle.std.specs.Option.{IsSomeAnd, option_map}
 use Rattle.std.proofs.lemmas.Bool.Decides.{nat_tests}
 use Rattle.std.proofs.lemmas.List.{length-map}
 use Rattle.std.proofs.lemmas.List.Elements.{All-weaker}
 use Rattle.rel_base.specs.Tables.{Stamped}
 use Rattle.rel_base.specs.declared.value.Value.{Value}
-use Rattle.rel_base.proofs.Bits.{both_true}
 use Rattle.row_sets.specs.Log.{history_of, stamped_of}
 use Rattle.row_sets.specs.declared.entry.Entry.{Entry}
-use Rattle.version_index.specs.Chain.{IsFirst, IsLast, IsLastFrom, is_late, is_on, is_seen}
+use Rattle.version_index.specs.Chain.{IsFirst, IsLast, IsLastFrom, is_late, is_on}
 use Rattle.version_index.specs.Log.{InOrder}
 use Rattle.version_index.specs.Numbers.{lesser, passes_at, passing}
 use Rattle.version_index.specs.View.{IsBack, history_in, noted_below}
 use Rattle.version_index.specs.declared.keyed.Back.{Back}
 use Rattle.version_index.specs.declared.view.TableView.{TableView}
 use Rattle.version_index.proofs.Firsts.{LateWalk, late_fail, late_pass, late_stop}
-use Rattle.version_index.proofs.Lasts.{Walk, below_of_get, get_of_part, walk_back, walk_found}
-use Rattle.version_index.proofs.Logged.{all_fail, blocks_before, get_history, late_by_upto, late_within, le_false, le_from, le_true, not_late, seen_within}
+use Rattle.version_index.proofs.Lasts.{below_of_get, get_of_part}
+use Rattle.version_index.proofs.Logged.{blocks_before, get_history, late_by_upto, late_within, le_from, le_true, not_late}
 use Rattle.version_index.proofs.Passing.{IsTop, none_of, top_of}
 use Rattle.version_index.proofs.Points.{below_or, drop_fails, fails_take, last_points, take_at, take_past}
 
@@ -130,26 +129,6 @@ module _ (entries : List Entry) (ref : ℕ × List Value) where
       let below = below_of_get P number (history_of entries) (subst (λ found. IsSomeAnd found P) (get_of_part P part number (history_of entries) last.0) last.0) in
       let same = length-map entries stamped_of in
       omega (arith, below, same)
-
-  module _ (height : ℕ) where
-    -- a walk along the writes on a key for the last up to a height
-    abbrev pub SeenWalk : Option ℕ → Type 0
-    SeenWalk place = Walk (is_on ref) (is_seen ref height) (seen_within ref height) (history_of entries) place
-
-    pub seen_below : (number : ℕ) → SeenWalk (Some number) → number < length entries
-    seen_below number walk = walked_below walk.0 number walk.1
-
-    pub seen_found : (number : ℕ) (entry : Entry) → slice_get entries number ≡ Some entry → entry.block ≤ height → SeenWalk (Some number) → IsLast (is_seen ref height) (history_of entries) (Some number)
-    seen_found number entry there low walk =
-        walk_found (is_on ref) (is_seen ref height) (seen_within ref height) (history_of entries) number walk
-        (subst (λ found. IsSomeAnd found (λ s. is_seen ref height s ≡ true)) (sym (get_history entries number entry there)) (both_true _ _ (walked_on walk.0 number entry there walk.1) (le_true entry.block height low)))
-
-    pub seen_back : (number : ℕ) (entry : Entry) (earlier : Option ℕ) → slice_get entries number ≡ Some entry → height < entry.block → IsLast (is_on ref) (take number (history_of entries)) earlier → SeenWalk (Some number)
-        → SeenWalk earlier
-    seen_back number entry earlier there high link walk =
-        walk_back (is_on ref) (is_seen ref height) (seen_within ref height) (history_of entries) number earlier walk
-        (subst (λ found. IsSomeAnd found (λ s. is_seen ref height s ≡ false)) (sym (get_history entries number entry there))
-        (ap (λ b. is_on ref (stamped_of entry) && b) (le_false entry.block height high) ∙ all_fail (is_on ref (stamped_of entry)))) link
 
   module _ (after upto : ℕ) where
     -- a walk along the writes on a key for the first that is late

@@ -12,3 +12,4 @@ pub mod Heads
 pub mod Rows
 pub mod Hits
 pub mod Kept
+pub mod Found

@@ -1,15 +1,17 @@
 //! The writes on each key of a table.
 
-ghost use Rattle.std.specs.Prelude.{◌≡◌, ◌<◌, ◌++◌, ◌∷◌, [], All, IfOk, IfSome, List, None, OnErr, OnOk, Option, Some, cond, false, is_some, length, map, slice_get, true};
+ghost use Rattle.std.specs.Prelude.{◌≡◌, ◌<◌, ◌+◌, ◌++◌, ◌∷◌, [], All, IfOk, IfSome, List, None, OnErr, OnOk, Option, Some, cond, false, is_some, length, map, slice_get, true};
 ghost use Rattle.std.specs.Vec.{vec_len, vec_capacity};
 ghost use Rattle.rel_base.specs.Value.{key_eq};
 ghost use Rattle.rel_base.specs.declared.value.Value.{Value as Cell};
 ghost use Rattle.version_index.specs.Chains.{AreApart, IsNoted, IsPlaced, IsSame, first_some, lists_of, lives_in, numbers_at, slot_by, slot_in, slot_of};
 
 use crate::lists::{hold_room, list_at, one_number, push_at};
+use crate::steps::Steps;
 use rel_base::{Key, NoMemory, Twin};
 use std::alloc::Global;
 use std::collections::BTreeMap;
+use std::sync::ledger::Ledger;
 
 /// The writes on each key of a table. Each key that was ever written has a slot, numbered from 0 in the order of the first writes.
 #[derive(Drop)]
@@ -169,6 +171,16 @@ impl Chains {
             None => &[],
             Some(slot) => list_at(self.numbers.as_slice(), slot),
         }
+    }
+
+    /// One look at a number of the writes on the key of a slot, in one step.
+    pub fn probe<L: Ledger>(&self, slot: Option<usize>, at: usize, steps: &mut Steps<L>) -> usize
+        requires { at < length (numbers_at (lists_of self.now) slot) }
+        ensures number { slice_get (numbers_at (lists_of self.now) slot) at ≡ Some result }
+        ensures step { steps.new ≡ steps.old + 1 }
+    {
+        steps.tick();
+        self.numbers(slot)[at]
     }
 
     /// Notes the first write on a key. Where memory is wanting, all stays as it was.

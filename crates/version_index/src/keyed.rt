@@ -1,14 +1,18 @@
 //! Walks along the writes on one key, from the last one back.
 
-ghost use Rattle.std.specs.Prelude.{◌≡◌, ◌≤◌, IfSome, Some, cond, length, take};
+ghost use Rattle.std.specs.Prelude.{◌≡◌, ◌≤◌, ◌<◌, IfSome, Some, cond, length, take};
 ghost use Rattle.std.specs.Option.{option_map};
 ghost use Rattle.version_index.specs.Chain.{IsFirst, IsLast, IsLastFrom, is_late, is_on, is_seen};
 ghost use Rattle.version_index.specs.Chains.{slot_of};
 ghost use Rattle.version_index.specs.View.{IsBack, IsView, history_in, noted_below};
 
+use crate::finding::last_seen;
+use crate::steps::Steps;
 use crate::view::TableView;
 use rel_base::Key;
 use row_sets::entry::{entry_at, is_on_key};
+use std::marker::Brand;
+use std::sync::ledger::{Blank, Ledger};
 
 /// A write on a key: its number, and those of the noted writes on the key before it.
 #[derive(Clone, Copy)]
@@ -75,6 +79,25 @@ pub fn last_on<'a>(view: &TableView<'a>, key: &Key, slot: Option<usize>) -> Opti
     last_before(view, key, numbers, view.entries.len())
 }
 
+/// The number of the last write on a key in a block up to a height. Its steps are not counted.
+fn last_uncounted<L: Ledger>(
+    view: &TableView<'_>,
+    key: &Key,
+    slot: Option<usize>,
+    height: u64,
+    blank: Blank,
+) -> Option<usize>
+    requires view { IsView view.now }
+    requires slot { slot ≡ slot_of view.now.index.now.chains key.now }
+    requires name { blank.name ≡ L.name }
+    requires parts { blank.parts ≡ L.parts }
+    requires some { 0 < L.parts }
+    ensures { IsLast (is_seen (view.now.table, key.now) height) (history_in view.now) result }
+{
+    let mut steps = Steps::<L>::new(blank);
+    last_seen(view, key, slot, height, &mut steps)
+}
+
 /// The number of the last write on a key in a block up to a height.
 pub fn last_up_to(
     view: &TableView<'_>,
@@ -86,14 +109,7 @@ pub fn last_up_to(
     requires slot { slot ≡ slot_of view.now.index.now.chains key.now }
     ensures { IsLast (is_seen (view.now.table, key.now) height) (history_in view.now) result }
 {
-    let mut place = last_on(view, key, slot);
-    while let Some(back) = place {
-        if entry_at(view.entries, back.number).block <= height {
-            return Some(back.number);
-        }
-        place = last_before(view, key, back.left, back.number);
-    }
-    None
+    last_uncounted::<Brand>(view, key, slot, height, Blank::new(1))
 }
 
 /// A number where a test passed, and else what was found behind it.

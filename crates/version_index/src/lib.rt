@@ -5,6 +5,7 @@
 pub mod candidates;
 pub mod chains;
 pub mod column;
+pub mod finding;
 pub mod growth;
 pub mod heads;
 pub mod hits;
@@ -15,9 +16,11 @@ pub mod living;
 pub mod reading;
 pub mod rows;
 pub mod span;
+pub mod steps;
 pub mod store;
 pub mod touched;
 pub mod versions;
 pub mod view;
 
+pub use steps::Steps;
 pub use store::IndexVersions;

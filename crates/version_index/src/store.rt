@@ -1,11 +1,17 @@
 //! The store of committed versions.
 
-ghost use Rattle.std.specs.Prelude.{◌≡◌, ◌<◌, All, IfOk, Some, length, map, slice_get};
+ghost use Rattle.std.specs.Prelude.{◌≡◌, ◌<◌, ◌≤◌, ◌+◌, ◌*◌, ◌-◌, ◌^◌, ◌++◌, [], All, IfOk, IsTrue, OnErr, OnOk, Some, length, map, slice_get};
+ghost use Rattle.rel_base.specs.Among.{WriteFitsIn};
+ghost use Rattle.row_sets.specs.Versions.{IsBefore, are_rising, stamped_at};
+ghost use Rattle.version_index.specs.Found.{IsVersion, count_on};
 ghost use Rattle.version_index.specs.Index.{IsEmptyIndex, columns_in, index_columns};
+ghost use Rattle.version_index.specs.Kept.{store_history, store_spare, store_tables, store_tail};
 
+use crate::finding::find_version;
 use crate::growth::note_tail;
 use crate::index::TableIndex;
 use crate::reading::{late_at, rows_at};
+use crate::steps::Steps;
 use crate::versions::{all_back, chain_back, oldest_first};
 use crate::view::{Look, TableView};
 use rel_base::{Key, List, NoMemory, Place, Read, Seen, TableDef, Twin, Write};
@@ -14,6 +20,7 @@ use row_sets::hits::{Watch, def_of};
 use row_sets::{HitRef, Lifespan, Versions};
 use std::alloc::Global;
 use std::marker::Model;
+use std::sync::ledger::Ledger;
 
 /// A store of committed versions with indexes. It keeps the committed writes in one log. For each table it keeps the numbers of the
 /// writes on each key, and for each column by which spans are read the keys that have a row with each value, and the numbers of the
@@ -21,6 +28,8 @@ use std::marker::Model;
 ///
 /// The indexes grow only when room is taken: what was written since then is the tail of the log, which each read looks through
 /// besides.
+///
+/// Contracts see the declarations of its tables, its history, how many writes it has room for, and how many are in the tail.
 #[derive(Drop)]
 pub struct IndexVersions {
     alloc: Global,
@@ -32,7 +41,7 @@ pub struct IndexVersions {
 }
 
 impl Model for IndexVersions {
-    ghost use Rattle.std.specs.Prelude.{ℕ, List};
+    ghost use Rattle.std.specs.Prelude.{◌-◌, ℕ, List, length};
     ghost use Rattle.std.specs.Coded.{coded×, coded_ℕ, coded_list};
     ghost use Rattle.rel_base.specs.declared.schema.TableDef.{TableDef as Def};
     ghost use Rattle.rel_base.specs.contracts.schema.TableDef as def;
@@ -42,11 +51,11 @@ impl Model for IndexVersions {
     ghost use Rattle.row_sets.specs.Log.{room_of};
     ghost use Rattle.version_index.specs.Kept.{WellKept};
 
-    ghost Value = { List Def × (List Stamped × ℕ) };
+    ghost Value = { List Def × (List Stamped × (ℕ × ℕ)) };
 
-    ghost coded = { coded× (coded_list def.the_row.coded) (coded× (coded_list (coded× coded_ℕ placed.the_row.coded)) coded_ℕ) };
+    ghost coded = { coded× (coded_list def.the_row.coded) (coded× (coded_list (coded× coded_ℕ placed.the_row.coded)) (coded× coded_ℕ coded_ℕ)) };
 
-    ghost view = { λ store. (store.tables, (history_of store.log.items, room_of store.log)) };
+    ghost view = { λ store. (store.tables, (history_of store.log.items, (room_of store.log, length store.log.items - store.noted))) };
 
     ghost invariant = { λ store. WellKept store.tables store.log.items store.indexes.items store.noted };
 }
@@ -84,14 +93,49 @@ fn view_of<'a>(
     }
 }
 
+impl IndexVersions {
+    /// The number of the version of a key that is visible at a height: of the last write on the key in a block up to the height, where
+    /// it left a row. Numbers count the writes of the history from 0.
+    ///
+    /// A step is one look at a number of a write on the key, with its entry in the log, or at one entry of the tail. Where `n` writes of
+    /// the history are on the table and the tail is empty, as it is after `reserve`, the `k` steps of a call have `2 ^ k <= 4 n + 2`.
+    /// Each write of the tail may cost one step more. The list of the numbers is looked up by the key in the two `BTreeMap`s of the keys
+    /// first: that is one look-up of the standard library in each, and no step.
+    pub fn find<L: Ledger>(
+        &self,
+        table: u32,
+        key: &Key,
+        height: u64,
+        steps: &mut Steps<L>,
+    ) -> Option<usize>
+        requires declared { table < length (store_tables self.now) }
+        ensures version { IsVersion (table, key.now) height (store_history self.now) result }
+        ensures on { steps.old ≤ steps.new }
+        ensures cost { 2 ^ (steps.new - steps.old - store_tail self.now) ≤ 4 * count_on table (store_history self.now) + 2 }
+        ensures noted { store_tail self.now ≡ 0 → 2 ^ (steps.new - steps.old) ≤ 4 * count_on table (store_history self.now) + 2 }
+    {
+        let view = view_of(
+            self.log.as_slice(),
+            self.indexes.as_slice(),
+            self.noted,
+            table,
+        );
+        find_version(&view, key, height, steps)
+    }
+}
+
 impl Versions for IndexVersions {
     ghost tables = { λ store. store.0 };
 
     ghost history = { λ store. store.1.0 };
 
-    ghost spare = { λ store. store.1.1 };
+    ghost spare = { λ store. store.1.1.0 };
 
-    fn new(alloc: Global, declared: &List<TableDef>) -> Result<Self, NoMemory> {
+    fn new(alloc: Global, declared: &List<TableDef>) -> Result<Self, NoMemory>
+        ensures tables { IfOk result (λ made. store_tables made ≡ declared.now) }
+        ensures empty { IfOk result (λ made. store_history made ≡ []) }
+        ensures noted { IfOk result (λ made. store_tail made ≡ 0) }
+    {
         let tables = declared.copy(alloc)?;
         let indexes = no_indexes(alloc, tables.as_slice())?;
         Ok(IndexVersions {
@@ -133,7 +177,13 @@ impl Versions for IndexVersions {
         )
     }
 
-    fn reserve(&mut self, writes: usize) -> Result<(), NoMemory> {
+    fn reserve(&mut self, writes: usize) -> Result<(), NoMemory>
+        ensures tables { store_tables self.new ≡ store_tables self.old }
+        ensures history { store_history self.new ≡ store_history self.old }
+        ensures room { OnOk result (writes ≤ store_spare self.new) }
+        ensures kept { OnErr result (store_spare self.new ≡ store_spare self.old) }
+        ensures noted { OnOk result (store_tail self.new ≡ 0) }
+    {
         note_tail(
             self.alloc,
             &mut self.indexes,
@@ -144,7 +194,16 @@ impl Versions for IndexVersions {
         Ok(())
     }
 
-    fn apply(&mut self, place: Place, writes: List<Write>) {
+    fn apply(&mut self, place: Place, writes: List<Write>)
+        requires fit { All (WriteFitsIn (store_tables self.old)) writes }
+        requires rise { IsTrue (are_rising writes) }
+        requires later { All (IsBefore place) (store_history self.old) }
+        requires room { length writes ≤ store_spare self.old }
+        ensures tables { store_tables self.new ≡ store_tables self.old }
+        ensures history { store_history self.new ≡ store_history self.old ++ stamped_at place writes }
+        ensures room { store_spare self.new + length writes ≡ store_spare self.old }
+        ensures tail { store_tail self.new ≡ store_tail self.old + length writes }
+    {
         push_all(&mut self.log, place, writes);
     }
 
