@@ -109,6 +109,12 @@ pub fn last_up_to(
     requires slot { slot ≡ slot_of view.now.index.now.chains key.now }
     ensures { IsLast (is_seen (view.now.table, key.now) height) (history_in view.now) result }
 {
+    // The last write is what most reads want, so that the others are searched only where it is above the height.
+    if let Some(back) = last_on(view, key, slot) {
+        if entry_at(view.entries, back.number).block <= height {
+            return Some(back.number);
+        }
+    }
     last_uncounted::<Brand>(view, key, slot, height, Blank::new(1))
 }
 
