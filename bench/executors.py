@@ -2,10 +2,10 @@
 """Times nodes with executors: payments, and sweeps of 100 rows by an indexed owner, all of which arrive before their blocks.
 
 Each call names the height LAG blocks below the one before its block's own, so that executors can run the calls of a block while LAG blocks before it are
-still decided. For 0, 1, 2 and 4 executors and for 1 and 3 nodes the table shows calls a second by the clock, beside those of no executor, the processor
+still decided. For 0, 1, 2 and 4 executors and for 1 and 3 nodes, or those of the options, the table shows calls a second by the clock, beside those of no executor, the processor
 time of the whole run with its accounts, and which part of all runs executors brought to their end. From the calls a second the time that the accounts
 take without executors is taken off, so that few calls tell little. The reports have to be the same.
-Usage: bench/executors.py PROGRAM [--calls COUNT] [--sweeps COUNT] [--lag LAG] [--rounds COUNT]
+Usage: bench/executors.py PROGRAM [--calls COUNT] [--sweeps COUNT] [--lag LAG] [--rounds COUNT] [--executors COUNTS] [--nodes COUNTS]
 """
 import argparse
 import os
@@ -18,8 +18,6 @@ import time
 ACCOUNTS = 10000
 ROWS_OF_AN_OWNER = 100
 PER_BLOCK = 100
-EXECUTORS = [0, 1, 2, 4]
-NODES = [1, 3]
 APP = """table acct (id int, owner text, bal int) key (id) index (owner);
 proc add(i int, o text, b int) { insert acct (i, o, b); }
 proc pay(f int, t int, n int) {
@@ -98,14 +96,14 @@ def measure(program, kind, call, count, given):
     calls = call_blocks(call, count, given.lag, len(accounts))
     write_blocks("accounts", accounts)
     write_blocks("draft", accounts + calls)
-    write_arrivals("arrivals", calls, max(NODES))
+    write_arrivals("arrivals", calls, max(given.nodes))
     rounds = range(given.rounds)
     print(f"{kind}: {count} calls in blocks of {PER_BLOCK}, lag {given.lag}")
     print(f"{'nodes':>5} {'executors':>9} {'a second':>10} {'ratio':>6} {'processors':>10} {'by executors':>12}")
-    for nodes in NODES:
+    for nodes in given.nodes:
         setup = min(timed([program, "run", "--app", "app", "--blocks", "accounts", "--nodes", str(nodes), "--executors", "0"])[0] for _ in rounds)
         plain, report = None, None
-        for executors in EXECUTORS:
+        for executors in given.executors:
             files = ["--app", "app", "--blocks", "draft", "--arrivals", "arrivals"]
             words = ["--nodes", str(nodes), "--executors", str(executors)]
             runs = [timed([program, "run", *files, *words]) for _ in rounds]
@@ -117,6 +115,11 @@ def measure(program, kind, call, count, given):
             print(f"{nodes:>5} {executors:>9} {count / clock:>10.0f} {plain / clock:>6.2f} {work:>9.2f}s {part:>12.0%}")
 
 
+def counts(text):
+    """The numbers of a list as `0,1,2`. The first number of executors is what the others are compared with."""
+    return [int(part) for part in text.split(",")]
+
+
 def main():
     parser = argparse.ArgumentParser()
     parser.add_argument("program")
@@ -124,6 +127,8 @@ def main():
     parser.add_argument("--sweeps", type=int, default=2000)
     parser.add_argument("--lag", type=int, default=1)
     parser.add_argument("--rounds", type=int, default=3)
+    parser.add_argument("--executors", type=counts, default=[0, 1, 2, 4])
+    parser.add_argument("--nodes", type=counts, default=[1, 3])
     given = parser.parse_args()
     program = os.path.abspath(given.program)
     with tempfile.TemporaryDirectory() as folder:
