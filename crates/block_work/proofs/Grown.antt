@@ -2,11 +2,11 @@
 use Rattle.std.proofs.Common.{List, [], ap, length, map, refl, suc, sym, ◌++◌, ◌∙◌, ◌≡◌, ◌∷◌, ℕ}
 use Rattle.std.proofs.lemmas.List.{map-append}
 use Rattle.std.proofs.lemmas.Simd.{map-map}
-use Rattle.node_model.specs.Fold.{block_result, no_digest, results_from, results_of}
+use Rattle.node_model.specs.Fold.{block_result, digest_after, no_digest, results_from, results_of}
 use Rattle.node_model.specs.History.{Sealed, placed_of}
 use Rattle.node_model.specs.declared.result.Committed.{Committed}
 use Rattle.block_work.specs.Chain.{stamps}
-use Rattle.block_work.specs.Results.{digest_after, last_digest}
+use Rattle.block_work.specs.Results.{last_digest}
 use Rattle.rel_base.specs.declared.schema.TableDef.{TableDef}
 
 -- the stamps of committed transactions are those of the definition

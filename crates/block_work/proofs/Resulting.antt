@@ -5,7 +5,7 @@ use Rattle.std.proofs.lemmas.List.{length-append, length-map}
 use Rattle.std.specs.Prelude.{Bool, slice_get, ℤ}
 use Rattle.block_digest.specs.Codable.{AreCodable, IsFewWrite}
 use Rattle.node_model.specs.BlockCode.{digest_of}
-use Rattle.node_model.specs.Fold.{block_result, no_digest}
+use Rattle.node_model.specs.Fold.{block_result, digest_after, no_digest}
 use Rattle.node_model.specs.History.{Sealed}
 use Rattle.node_model.specs.History.{placed_of}
 use Rattle.node_model.specs.Order.{is_free, order, order_from, place, serial_order, take_first}
@@ -15,7 +15,7 @@ use Rattle.node_model.specs.declared.result.Told.{Told}
 use Rattle.block_work.proofs.Few.{fitting_few}
 use Rattle.block_work.proofs.Consistent.{fewer, rising}
 use Rattle.block_work.specs.Block.{IsConsistent, KeepsEdges, StandInOrder}
-use Rattle.block_work.specs.Results.{HasFewWrites, IsWithinLimits, digest_after, placed_at}
+use Rattle.block_work.specs.Results.{HasFewWrites, IsWithinLimits, placed_at}
 use Rattle.block_work.specs.declared.block.BlockInWork.{BlockInWork}
 use Rattle.proc_check.specs.Sizes.{IsSmall}
 use Rattle.rel_base.specs.Among.{WriteFitsIn}

@@ -1,6 +1,6 @@
 -- The result of a block that was decided.
 use Rattle.block_digest.specs.Codable.{HasFewKey, IsFewWrite}
-use Rattle.node_model.specs.Fold.{no_digest}
+use Rattle.node_model.specs.Fold.{digest_after, no_digest}
 use Rattle.node_model.specs.declared.result.BlockResult.{BlockResult}
 use Rattle.node_model.specs.declared.result.Committed.{Committed}
 use Rattle.node_model.specs.declared.result.Told.{Told}
@@ -12,11 +12,6 @@ use Rattle.std.specs.Prelude.{All, List, [], length, ◌≤◌, ◌∷◌, ℕ}
 -- a write at a position
 abbrev pub placed_at : ℕ → Write → Placed
 placed_at pos write = record { pos = pos; write = write }
-
--- the digest of the last of some results, where the block before them has one
-abbrev pub digest_after : List ℕ → List BlockResult → List ℕ
-digest_after previous [] = previous
-digest_after previous (block ∷ rest) = digest_after block.digest rest
 
 -- the digest of the last of some blocks, or the one before the first block
 abbrev pub last_digest : List BlockResult → List ℕ

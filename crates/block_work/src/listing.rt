@@ -7,13 +7,13 @@ ghost use Rattle.rel_base.specs.Tables.{tables_at};
 ghost use Rattle.rel_base.specs.declared.value.Value.{Value};
 
 use node_model::TableRows;
-use rel_base::{List, NoMemory, Read, Row, Seen, TableDef};
+use rel_base::{Key, List, NoMemory, Read, Row, Seen, TableDef};
 use row_sets::Versions;
 use std::alloc::Global;
 
 // A read of the table of a number that covers each of its rows: the span of the first key column without ends, or, in a table without
 // a key column, the point of the empty key.
-fn read_of_all(alloc: Global, number: u32, def: &TableDef) -> Read
+fn read_of_all(number: u32, def: &TableDef) -> Read
     ensures table { read_table result ≡ number }
     ensures fits { ReadFits def.now result }
     ensures covers { (row : List Value) → covers_row def.now result row ≡ true }
@@ -27,7 +27,7 @@ fn read_of_all(alloc: Global, number: u32, def: &TableDef) -> Read
         },
         [] => Read::Point {
             table: number,
-            key: List::new(alloc),
+            key: Key::new(),
         },
     }
 }
@@ -54,7 +54,7 @@ fn list_table<V: Versions>(
     requires { slice_get (V.tables versions.now) number ≡ Some def.now }
     ensures { IfOk result (λ made. made ≡ table_rows (tables_at height (V.history versions.now)) number) }
 {
-    let read = read_of_all(alloc, number, def);
+    let read = read_of_all(number, def);
     let seen = versions.visible(height, &read)?;
     Ok(TableRows {
         table: number,

@@ -81,19 +81,27 @@ fn read_few(alloc: Global, count: u8, bytes: &[u8]) -> Result<(List<Value>, &[u8
     read_values(alloc, count, bytes)
 }
 
-/// Reads the key whose code stands at the front of the bytes, and answers what follows it too.
-pub fn read_key(alloc: Global, bytes: &[u8]) -> Result<(Key, &[u8]), CodeFault>
+/// Reads the values whose number and codes stand at the front of the bytes.
+fn read_counted(alloc: Global, bytes: &[u8]) -> Result<(List<Value>, &[u8]), CodeFault>
     ensures { Reads result (row_at bytes.now) }
 {
     let (count, rest) = read_u8(bytes)?;
     read_few(alloc, count, rest)
 }
 
+/// Reads the key whose code stands at the front of the bytes, and answers what follows it too.
+pub fn read_key(alloc: Global, bytes: &[u8]) -> Result<(Key, &[u8]), CodeFault>
+    ensures { Reads result (row_at bytes.now) }
+{
+    let (values, rest) = read_counted(alloc, bytes)?;
+    Ok((Key::from_list(values), rest))
+}
+
 /// Reads the row whose code stands at the front of the bytes, and answers what follows it too.
 pub fn read_row(alloc: Global, bytes: &[u8]) -> Result<(Row, &[u8]), CodeFault>
     ensures { Reads result (row_at bytes.now) }
 {
-    let (values, rest) = read_key(alloc, bytes)?;
+    let (values, rest) = read_counted(alloc, bytes)?;
     let row = Row::new(values)?;
     Ok((row, rest))
 }

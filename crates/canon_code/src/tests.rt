@@ -1,7 +1,7 @@
 ghost use Rattle.std.specs.Prelude.{◌≡◌, length, IfOk};
 
 use super::{get_row, get_write, put_row, put_value, put_write};
-use rel_base::{Blob, List, Placed, Row, Str, Value, Write};
+use rel_base::{Blob, Key, List, Placed, Row, Str, Value, Write};
 use std::alloc::Global;
 use std::test::Fail;
 
@@ -22,11 +22,9 @@ fn written(alloc: Global, before: Option<Row>, after: Option<Row>) -> Result<Pla
     ensures before { IfOk result (λ placed. placed.write.before ≡ before) }
     ensures after { IfOk result (λ placed. placed.write.after ≡ after) }
 {
-    let mut key = List::new(alloc);
-    key.push(Value::Int(1))?;
     let write = Write {
         table: 0,
-        key,
+        key: Key::of(Value::Int(1)),
         before,
         after,
     };

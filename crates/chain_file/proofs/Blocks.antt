@@ -1,5 +1,5 @@
 -- A block that the code makes is the one that is meant.
-use Rattle.std.proofs.Common.{◌≡◌, ◌≤◌, ◌<◌, ℕ, pos, List, Bool, true, false, Some, None, length, refl, sym, ◌∙◌, ap, subst, arith}
+use Rattle.std.proofs.Common.{◌≡◌, ◌≤◌, ◌<◌, ℕ, pos, List, ◌∷◌, ◌++◌, Bool, true, false, Some, None, length, refl, sym, ◌∙◌, ap, subst, arith}
 use Rattle.std.proofs.Math.Bridge.{le_prop}
 use Rattle.std.proofs.Math.Bool.{Bool-set}
 use Rattle.std.specs.Prelude.{ℤ, nat_le, int_le}
@@ -7,6 +7,7 @@ use Rattle.std.proofs.lemmas.Bool.{le-leb, leb-true, both_ways}
 use Rattle.proc_syntax.specs.declared.call.Tx.{Tx}
 use Rattle.proc_syntax.specs.declared.call.Block.{Block}
 use Rattle.chain_file.specs.Draft.{block_if, block_of}
+use Rattle.chain_file.specs.Chain.{ended_blocks}
 
 abbrev block : (number : ℕ) (time : ℤ) (txs : List Tx) → length txs ≤ 1024 → int_le (pos 0) time ≡ true → Block
 block number time txs few fine = record { number = number; time = time; txs = txs; few = few; not_negative = fine }
@@ -44,3 +45,10 @@ none number txs many false e = refl
 pub no_block : (number : ℕ) (txs : List Tx) → 1024 < length txs → block_of number txs ≡ None
 unfolding block_of
 no_block number txs many = none number txs many (nat_le (length txs) 1024) refl
+
+-- few transactions make a block
+pub some_block : (number : ℕ) (txs : List Tx) → length txs ≤ 1024 → (made : Block) × (block_of number txs ≡ Some made)
+some_block number txs few = (block number (pos 0) txs few refl, made_now number txs few refl)
+
+pub blocks_made : (number : ℕ) (txs : List Tx) (b : Block) (following : List Block) → b.number ≡ number → b.time ≡ pos 0 → b.txs ≡ txs → ended_blocks (block_of number txs) ++ following ≡ b ∷ following
+blocks_made number txs b following n t xs = ap (λ made. ended_blocks made ++ following) (made_block number txs b n t xs)

@@ -7,6 +7,7 @@ pub mod Bounded
 pub mod Near
 pub mod Pieces
 pub mod Walking
+pub mod Resumed
 pub mod Back
 pub mod Drafts
 pub mod Lasting

@@ -1,5 +1,5 @@
 -- No line stands too far from the front of its file.
-use Rattle.std.proofs.Common.{◌≡◌, ◌≤◌, ◌<◌, ◌+◌, ◌*◌, ◌^◌, ℕ, List, [], ◌∷◌, ◌++◌, Bool, true, false, cond, Option, Some, None, length, refl, subst, length-append, arith}
+use Rattle.std.proofs.Common.{◌≡◌, ◌≤◌, ◌<◌, ◌+◌, ◌*◌, ◌^◌, ℕ, List, [], ◌∷◌, ◌++◌, Bool, true, false, cond, Option, Some, None, length, refl, ◌∙◌, ap, subst, length-append, arith}
 use Rattle.std.specs.Prelude.{◌&&◌, nat_le, nat_lt, Result, Ok, Err, codes, decimal}
 use Rattle.std.specs.Str.{bytes_eq}
 use Rattle.std.proofs.lemmas.Bool.{and_parts, and_from, le-leb, leb-true, lt-ltb, ltb-true}
@@ -15,7 +15,7 @@ use Rattle.chain_file.specs.declared.place.Place.{Place}
 use Rattle.chain_file.specs.declared.place.Place.TheVariants as place
 use Rattle.chain_file.specs.declared.place.Taken.{Taken}
 use Rattle.chain_file.specs.Draft.{block_of}
-use Rattle.chain_file.specs.Near.{is_near}
+use Rattle.chain_file.specs.Near.{is_near, is_within_near}
 use Rattle.chain_file.specs.Steps.{goes_on, is_number, has_end, is_next, has_digits, numbered, begun_by, ends, end_block, add_tx, line_step, step, HasRoom}
 use Rattle.tx_text.specs.Parts.{is_long}
 
@@ -112,3 +112,60 @@ pub near_few : (line : ℕ) (at : Place) → is_near line at ≡ true → line �
 near_few line place.Start e = omega (arith, leb-true line 1 e)
 near_few line (place.Between f count) e = let facts = between_facts f line count e in omega (arith, facts.0, facts.1)
 near_few line (place.Within f count txs) e = let facts = within_facts f line count txs e in omega (arith, facts.0, facts.1, facts.2)
+
+-- ---- a block that goes on in a piece
+
+going_from : (line count txs : ℕ) → count < 1000000 → txs ≤ 1024 → line ≤ count * 1026 + txs + 3 → is_within_near line count txs ≡ true
+going_from line count txs room few low =
+    and_from (nat_lt count 1000000 && nat_le txs 1024) (nat_le line (count * 1026 + txs + 3))
+    (and_from (nat_lt count 1000000) (nat_le txs 1024) (lt-ltb count 1000000 room) (le-leb txs 1024 few)) (le-leb line (count * 1026 + txs + 3) low)
+
+pub going_parts : (line count txs : ℕ) → is_within_near line count txs ≡ true → (count < 1000000) × (txs ≤ 1024) × (line ≤ count * 1026 + txs + 3)
+going_parts line count txs e =
+    let parts = and_parts (nat_lt count 1000000 && nat_le txs 1024) (nat_le line (count * 1026 + txs + 3)) e in
+    let more = and_parts (nat_lt count 1000000) (nat_le txs 1024) parts.0 in
+    (ltb-true count 1000000 more.0, leb-true txs 1024 more.1, leb-true line (count * 1026 + txs + 3) parts.1)
+
+-- its numbers have 64 bits
+pub going_low : (line count txs : ℕ) → is_within_near line count txs ≡ true → line + 1 < 2 ^ 64
+going_low line count txs e = let facts = going_parts line count txs e in omega (arith, facts.0, facts.1, facts.2)
+
+pub going_count : (line count txs : ℕ) → is_within_near line count txs ≡ true → count + 1 < 2 ^ 64
+going_count line count txs e = let facts = going_parts line count txs e in omega (arith, facts.0)
+
+pub going_len : (line count before txs : ℕ) → is_within_near line count (before + txs) ≡ true → before + txs < 2 ^ 64
+going_len line count before txs e = let facts = going_parts line count (before + txs) e in omega (arith, facts.1)
+
+-- with a line more that is a transaction
+pub going_more : (line count before : ℕ) (txs more : List Tx) (tx : Tx) → is_within_near line count (before + length txs) ≡ true → before + length txs < 1024 → more ≡ txs ++ (tx ∷ [])
+    → is_within_near (line + 1) count (before + length more) ≡ true
+going_more line count before txs more tx e few same =
+    let facts = going_parts line count (before + length txs) e in
+    let longer : length more ≡ length txs + 1 = ap length same ∙ length-append txs (tx ∷ []) in
+    going_from (line + 1) count (before + length more) facts.0 (omega (arith, few, longer)) (omega (arith, facts.2, longer))
+
+-- behind the line that ends it
+pub going_ended : (f : FileForm) (line count txs : ℕ) → is_within_near line count txs ≡ true → is_near (line + 1) (place.Between f (count + 1)) ≡ true
+going_ended f line count txs e =
+    let facts = going_parts line count txs e in
+    between_near f (line + 1) (count + 1) (omega (arith, facts.0)) (omega (arith, facts.1, facts.2))
+
+-- with its transactions before the piece
+pub going_few : (line count before : ℕ) (kept txs : List Tx) → is_within_near line count (before + length txs) ≡ true → before ≡ length kept → length (kept ++ txs) ≤ 1024
+going_few line count before kept txs e same =
+    let facts = going_parts line count (before + length txs) e in
+    let both : length (kept ++ txs) ≡ length kept + length txs = length-append kept txs in
+    omega (arith, facts.1, same, both)
+
+pub going_near : (line count before : ℕ) (kept txs all : List Tx) → is_within_near line count (before + length txs) ≡ true → before ≡ length kept → all ≡ kept ++ txs
+    → is_within_near line count (length all) ≡ true
+going_near line count before kept txs all e same is =
+    let both : before + length txs ≡ length all = omega (arith, same, ap length is ∙ length-append kept txs) in
+    subst (λ n. is_within_near line count n ≡ true) both e
+
+-- where a piece begins within it
+pub going_begun : (f : FileForm) (line count : ℕ) (p : Place) (txs more : List Tx) → is_near line p ≡ true → p ≡ place.Within f count txs → more ≡ [] → is_within_near line count (length txs + length more) ≡ true
+going_begun f line count p txs more near is none =
+    let at : is_within_near line count (length txs) ≡ true = subst (λ (q : Place). is_near line q ≡ true) is near in
+    let same : length txs ≡ length txs + length more = omega (arith, ap length none) in
+    subst (λ n. is_within_near line count n ≡ true) same at

@@ -5,6 +5,8 @@ pub mod Steps
 pub mod Near
 pub mod Chain
 pub mod Following
+pub mod Onward
+pub mod Resumed
 pub mod ChainText
 pub mod Agree
 pub mod Files

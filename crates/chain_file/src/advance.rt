@@ -1,6 +1,6 @@
 //! The lines of a block file, one after another.
 
-ghost use Rattle.std.specs.Prelude.{◌≡◌, ◌<◌, ◌^◌, ◌+◌, ◌++◌, ℕ, List, [], IfOk, Ok, Err, true};
+ghost use Rattle.std.specs.Prelude.{◌≡◌, ◌<◌, ◌^◌, ◌+◌, ◌++◌, ℕ, List, [], Ok, Err, true};
 ghost use Rattle.sha2.specs.Hashers.{Holds256};
 ghost use Rattle.chain_file.specs.Near.{is_near};
 ghost use Rattle.tx_text.specs.Parts.{line_text};
@@ -12,7 +12,6 @@ use crate::place::{Place, Taken};
 use crate::standing::Standing;
 use crate::step::{StepFault, step};
 use proc_syntax::{Block, ChainFault};
-use rel_base::{NoMemory, Twin};
 use sha2::{Digest, Sha256};
 use std::alloc::Global;
 
@@ -27,18 +26,6 @@ impl Standing {
             digits: NO_DIGITS,
             hash: Sha256::new(),
         }
-    }
-
-    /// The same again.
-    pub fn copy(&self, alloc: Global) -> Result<Standing, NoMemory>
-        ensures { IfOk result (λ twin. (at : Position) → StandsAt self.now at → StandsAt twin at) }
-    {
-        Ok(Standing {
-            line: self.line,
-            place: self.place.copy(alloc)?,
-            digits: self.digits,
-            hash: self.hash.clone()?,
-        })
     }
 }
 
@@ -69,7 +56,7 @@ fn behind_line(line: u64, place: Place, digits: [u8; 64], hash: Sha256) -> Stand
 }
 
 /// Behind the last line of a block.
-fn behind_block(line: u64, place: Place, hash: Sha256) -> Standing
+pub fn behind_block(line: u64, place: Place, hash: Sha256) -> Standing
     requires { is_near line place ≡ true }
     ensures { (bytes : List ℕ) → Holds256 hash bytes → StandsAt result (record { line = line; place = place; digits = hash_digits bytes; bytes = [] }) }
 {

@@ -5,10 +5,12 @@ pub mod advance;
 #[cfg(test)]
 mod chain_tests;
 pub mod draft;
+pub mod going;
 pub mod hash;
 pub mod laws;
 pub mod place;
 pub mod reader;
+pub mod resume;
 pub mod sealing;
 pub mod standing;
 pub mod step;

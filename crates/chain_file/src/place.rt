@@ -1,8 +1,7 @@
 //! Where the lines of a block file stand.
 
 use proc_syntax::{Block, Tx};
-use rel_base::{List, NoMemory, Twin};
-use std::alloc::Global;
+use rel_base::List;
 
 /// The two forms of a block file.
 #[derive(Clone, Copy, Debug, PartialEq, Eq)]
@@ -36,21 +35,4 @@ pub enum Place {
 pub struct Taken {
     pub place: Place,
     pub ended: Option<Block>,
-}
-
-impl Twin for Place {
-    fn copy(&self, alloc: Global) -> Result<Self, NoMemory> {
-        Ok(match self {
-            Place::Start => Place::Start,
-            Place::Between { form, count } => Place::Between {
-                form: *form,
-                count: *count,
-            },
-            Place::Within { form, count, txs } => Place::Within {
-                form: *form,
-                count: *count,
-                txs: txs.copy(alloc)?,
-            },
-        })
-    }
 }

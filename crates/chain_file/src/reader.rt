@@ -9,6 +9,7 @@ ghost use Rattle.chain_file.specs.Following.{Answers, EndsAs, Follows, Keeps, Re
 
 use crate::advance::{LineStop, take_line};
 use crate::place::Place;
+use crate::resume::{Before, before_piece, finish, read_more};
 use crate::standing::Standing;
 use proc_syntax::{Block, ChainFault, ChainKind};
 use rel_base::{List, NoMemory};
@@ -65,7 +66,7 @@ fn last_part(alloc: Global, standing: Standing, rest: &[u8]) -> Result<State, No
 }
 
 /// Reads lines, and what stands behind the last of them.
-fn read_lines(alloc: Global, standing: Standing, bytes: &[u8]) -> Result<Read, NoMemory>
+pub fn read_lines(alloc: Global, standing: Standing, bytes: &[u8]) -> Result<Read, NoMemory>
     ensures { (at : Position) → StandsAt standing at → IfOk result (λ read. Reads read (walk at (parts_of bytes.now))) }
 {
     let mut given = List::new(alloc);
@@ -94,21 +95,36 @@ fn read_lines(alloc: Global, standing: Standing, bytes: &[u8]) -> Result<Read, N
     })
 }
 
-/// Reads a piece that follows bytes after the last newline.
+/// Reads bytes that stand behind the last newline. Where memory is wanting, all is as before.
+fn read_on(alloc: Global, standing: &mut Standing, bytes: &[u8]) -> Result<Read, NoMemory>
+    ensures reads { (at : Position) → StandsAt standing.old at → IfOk result (λ read. Reads read (walk at (parts_of bytes.now))) }
+    ensures err { OnErr result (standing.new ≡ standing.old) }
+{
+    let before = before_piece(alloc, standing)?;
+    match before {
+        Before::Between(twin) => read_lines(alloc, twin, bytes),
+        Before::Within(going) => {
+            let more = read_more(alloc, going, bytes)?;
+            finish(alloc, standing, more)
+        }
+    }
+}
+
+/// Reads a piece that follows bytes after the last newline. Where memory is wanting, all is as before.
 fn read_piece(
     alloc: Global,
-    standing: &Standing,
+    standing: &mut Standing,
     held: &[u8],
     piece: &[u8],
 ) -> Result<Read, NoMemory>
-    ensures { (at : Position) → StandsAt standing.now at → IfOk result (λ read. Reads read (walk at (parts_of (held.now ++ piece.now)))) }
+    ensures reads { (at : Position) → StandsAt standing.old at → IfOk result (λ read. Reads read (walk at (parts_of (held.now ++ piece.now)))) }
+    ensures err { OnErr result (standing.new ≡ standing.old) }
 {
-    let before = standing.copy(alloc)?;
     if held.is_empty() {
-        return read_lines(alloc, before, piece);
+        return read_on(alloc, standing, piece);
     }
     let bytes = joined(alloc, held, piece)?;
-    read_lines(alloc, before, &bytes)
+    read_on(alloc, standing, &bytes)
 }
 
 /// The fault that was met.
@@ -185,7 +201,7 @@ impl Reader {
         ensures stopped { (found : ChainFault) → fault_met self.old.state ≡ Some found → (self.new ≡ self.old) × (result ≡ Ok (record { blocks = []; fault = Some found })) }
         ensures err { OnErr result (self.new ≡ self.old) }
     {
-        match &self.state {
+        match &mut self.state {
             State::Stopped(fault) => Ok(Fed {
                 blocks: List::new(self.alloc),
                 fault: Some(*fault),

@@ -1,6 +1,7 @@
 //! The lines of a block file, one at a time.
 
-ghost use Rattle.std.specs.Prelude.{◌≡◌, ◌<◌, ◌&&◌, ◌≤◌, length, Some, None, Ok, Err, cond};
+ghost use Rattle.std.specs.Prelude.{◌≡◌, ◌<◌, ◌&&◌, ◌≤◌, length, Some, None, Ok, Err, IfOk, IfSome, cond};
+ghost use Rattle.chain_file.specs.Onward.{GivesTold, next_tx, told_within};
 ghost use Rattle.chain_file.specs.Steps.{GivesStep, add_tx, begin, end_block, has_digits, has_end, header, is_hash_field, is_hex, is_next, is_number, HasRoom, line_step, numbered, step, within};
 ghost use Rattle.std.specs.Char.{is_ascii_digit};
 ghost use Rattle.std.specs.List.{list_all};
@@ -191,6 +192,36 @@ fn end_block(form: FileForm, count: u64, txs: List<Tx>) -> Result<Taken, StepFau
         }),
         Err(_) => Err(StepFault::Kind(ChainKind::TooManyTx)),
     }
+}
+
+/// A line that is no end, in a block that has so many transactions before it.
+fn added_tx(alloc: Global, before: usize, line: &[u8]) -> Result<Option<Tx>, StepFault>
+    ensures told { GivesTold result (next_tx before (tx_of line.now)) }
+    ensures few { IfOk result (λ tx. before < 1024) }
+{
+    let tx = match read_tx(alloc, line) {
+        Ok(tx) => tx,
+        Err(LineFault::NoMemory) => return Err(StepFault::NoMemory),
+        Err(LineFault::Bad) => return Err(StepFault::Kind(ChainKind::BadLine)),
+    };
+    if before >= MOST_TRANSACTIONS {
+        return Err(StepFault::Kind(ChainKind::TooManyTx));
+    }
+    Ok(Some(tx))
+}
+
+/// What a line says in a block that has so many transactions before it: one more, or nothing where it ends the block.
+pub fn told_within(alloc: Global, before: usize, line: &[u8]) -> Result<Option<Tx>, StepFault>
+    ensures told { GivesTold result (told_within before line.now) }
+    ensures few { IfOk result (λ told. IfSome told (λ tx. before < 1024)) }
+{
+    if line.len() > MOST_LINE_BYTES {
+        return Err(StepFault::Kind(ChainKind::LineTooLong));
+    }
+    if line == b"end".as_slice() {
+        return Ok(None);
+    }
+    added_tx(alloc, before, line)
 }
 
 /// Another line in a block.

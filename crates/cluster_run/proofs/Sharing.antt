@@ -13,6 +13,7 @@ use Rattle.node_core.specs.contracts.jobs.Jobs as Jobs
 use Rattle.node_core.specs.contracts.jobs.Row as Row
 use Rattle.node_core.specs.contracts.node.NodeCore as NodeCore
 use Rattle.node_core.specs.contracts.node.NodeCoreStoried.TheImpl as storied
+use Rattle.node_core.proofs.working.IndexedBlock.TheSendSync as indexed
 use Rattle.node_core.specs.contracts.working.Working as Working
 use Rattle.node_model.proofs.journal.Entry.TheSendSync as entry
 use Rattle.node_model.proofs.result.BlockResult.TheSendSync as result
@@ -21,6 +22,7 @@ use Rattle.node_shared.specs.contracts.shared.SharedNode as SharedNode
 use Rattle.proc_syntax.proofs.call.Block.TheSendSync as block
 use Rattle.proc_syntax.proofs.call.Tx.TheSendSync as tx
 use Rattle.proc_syntax.specs.contracts.tree.App as App
+use Rattle.rel_base.proofs.key.Key.TheSendSync as table_key
 use Rattle.rel_base.proofs.list.List.TheSendSync as list
 use Rattle.rel_base.proofs.row.Row.TheSendSync as table_row
 use Rattle.row_sets.specs.declared.versions.Versions.{Ghosts}
@@ -35,7 +37,7 @@ index_send : IsSend JobIndex.the_field.row
 index_send = search (sends, maps.crosses, crosses, sendable) depth 60 fits 20000
 
 row_field_send : IsSend Row.the_field.row
-row_field_send = search (sends, table_row.the_send, tx.the_send, tx.the_sync, crosses, sendable) depth 60 fits 20000
+row_field_send = search (sends, table_row.the_send, table_key.the_send, tx.the_send, tx.the_sync, crosses, sendable) depth 60 fits 20000
 
 row_send : IsSend Row.the_row
 row_send = search (row_field_send, sendable) depth 60 fits 20000
@@ -44,10 +46,10 @@ jobs_send : IsSend Jobs.the_field.row
 jobs_send = search (row_send, index_send, crosses, sendable) depth 60 fits 20000
 
 done_send : IsSend BlockInWork.the_field.row
-done_send = search (sends, table_row.the_send, crosses, sendable) depth 60 fits 20000
+done_send = search (sends, table_row.the_send, table_key.the_send, crosses, sendable) depth 60 fits 20000
 
 working_field_send : IsSend Working.the_field.row
-working_field_send = search (done_send, block.the_send, block.the_sync, crosses, sendable) depth 60 fits 20000
+working_field_send = search (done_send, indexed.the_send, crosses, sendable) depth 60 fits 20000
 
 working_send : IsSend Working.the_row
 working_send = search (working_field_send, sendable) depth 60 fits 20000

@@ -6,60 +6,13 @@ ghost use Rattle.turn_lock.specs.Passes.{HoldsNoTurn, IsPassOf, IsSamePass, pass
 
 use crate::crew::Crew;
 use crate::gate::Gate;
-use crate::working::{run_work, take_work};
+use crate::working::run_one;
 use node_core::Decided;
 use node_model::Pick;
 use node_shared::{NodePass, SharedNode};
 use rel_base::NoMemory;
 use row_sets::Versions;
 use std::sync::Wait;
-
-// The first job that can be claimed, if there is one, is run. Answers whether there was one.
-fn run_other<V: Versions, G: Gate, R: Wait>(
-    rt: &R,
-    node: &SharedNode<V>,
-    crew: &Crew<'_, G>,
-    pass: &mut NodePass<V>,
-) -> Result<bool, NoMemory>
-    requires lock { IsPassOf node.now.lock pass.old }
-    requires no_turn { HoldsNoTurn pass.old }
-    requires hand { HasNone pass.old }
-    ensures same { IsSamePass pass.old pass.new }
-    ensures no_turn { HoldsNoTurn pass.new }
-    ensures hand { HasNone pass.new }
-    ensures blocks { pass_number pass.old ≡ 0 → SameBlocks pass.old pass.new }
-{
-    match take_work(rt, node, pass, Pick::Nth(0)) {
-        Ok(None) => Ok(false),
-        Ok(Some(work)) => {
-            run_work(rt, node, crew, pass, work)?;
-            Ok(true)
-        }
-        Err(refused) => Err(refused),
-    }
-}
-
-// The job that is due, if it waits, is claimed and run.
-fn run_due<V: Versions, G: Gate, R: Wait>(
-    rt: &R,
-    node: &SharedNode<V>,
-    crew: &Crew<'_, G>,
-    pass: &mut NodePass<V>,
-) -> Result<(), NoMemory>
-    requires lock { IsPassOf node.now.lock pass.old }
-    requires no_turn { HoldsNoTurn pass.old }
-    requires hand { HasNone pass.old }
-    ensures same { IsSamePass pass.old pass.new }
-    ensures no_turn { HoldsNoTurn pass.new }
-    ensures hand { HasNone pass.new }
-    ensures blocks { pass_number pass.old ≡ 0 → SameBlocks pass.old pass.new }
-{
-    match take_work(rt, node, pass, Pick::Due) {
-        Ok(None) => Ok(()),
-        Ok(Some(work)) => run_work(rt, node, crew, pass, work),
-        Err(refused) => Err(refused),
-    }
-}
 
 // The first undecided transaction of the block in work is decided, if it is ready.
 fn commit_next<V: Versions, R: Wait>(
@@ -101,7 +54,7 @@ fn decide_next<V: Versions, G: Gate, R: Wait>(
     match commit_next(rt, node, pass) {
         Ok(Decided::Outcome { .. }) => Ok(false),
         Ok(Decided::NotReady { holder: None, .. }) => {
-            run_due(rt, node, crew, pass)?;
+            run_one(rt, node, crew, pass, Pick::Due)?;
             Ok(false)
         }
         Ok(
@@ -110,7 +63,7 @@ fn decide_next<V: Versions, G: Gate, R: Wait>(
                 ..
             },
         ) => {
-            if !run_other(rt, node, crew, pass)? {
+            if !run_one(rt, node, crew, pass, Pick::Nth(0))? {
                 crew.ended.wait(rt, heard);
             }
             Ok(false)

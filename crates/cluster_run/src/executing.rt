@@ -6,7 +6,7 @@ ghost use Rattle.turn_lock.specs.Passes.{HoldsNoTurn, IsPassOf, IsSamePass};
 
 use crate::crew::Crew;
 use crate::gate::Gate;
-use crate::working::{run_work, take_work};
+use crate::working::run_one;
 use node_model::Pick;
 use node_shared::{NodePass, SharedNode};
 use rel_base::NoMemory;
@@ -17,7 +17,7 @@ use std::sync::atomic::{AtomicBool, Ordering};
 // After so many arrivals the bell is rung: each ring wakes all idle executors.
 const ARRIVALS_A_RING: u32 = 32;
 
-// The first job that can be claimed is run. Answers whether there was one.
+// The first job that can be claimed is run, and who waits for its end is told. Answers whether there was one.
 fn run_first<V: Versions, G: Gate, R: Wait>(
     rt: &R,
     node: &SharedNode<V>,
@@ -31,16 +31,11 @@ fn run_first<V: Versions, G: Gate, R: Wait>(
     ensures no_turn { HoldsNoTurn pass.new }
     ensures hand { HasNone pass.new }
 {
-    match take_work(rt, node, pass, Pick::Nth(0)) {
-        Ok(None) => Ok(false),
-        Ok(Some(work)) => {
-            let ended = run_work(rt, node, crew, pass, work);
-            crew.ended.ring();
-            ended?;
-            Ok(true)
-        }
-        Err(refused) => Err(refused),
+    let ran = run_one(rt, node, crew, pass, Pick::Nth(0));
+    if !matches!(ran, Ok(false)) {
+        crew.ended.ring();
     }
+    ran
 }
 
 /// Claims jobs and runs them, until the executor's flag is set or memory runs out. It holds none afterwards.

@@ -180,3 +180,29 @@ pub fn run_work<V: Versions, G: Gate, R: Wait>(
     }
     unreachable!()
 }
+
+/// A pass that holds no job takes one, if there is one to take, and runs it to its end. Answers whether there was one.
+pub fn run_one<V: Versions, G: Gate, R: Wait>(
+    rt: &R,
+    node: &SharedNode<V>,
+    crew: &Crew<'_, G>,
+    pass: &mut NodePass<V>,
+    pick: Pick,
+) -> Result<bool, NoMemory>
+    requires lock { IsPassOf node.now.lock pass.old }
+    requires no_turn { HoldsNoTurn pass.old }
+    requires hand { HasNone pass.old }
+    ensures same { IsSamePass pass.old pass.new }
+    ensures no_turn { HoldsNoTurn pass.new }
+    ensures hand { HasNone pass.new }
+    ensures blocks { pass_number pass.old ≡ 0 → SameBlocks pass.old pass.new }
+{
+    match take_work(rt, node, pass, pick) {
+        Ok(None) => Ok(false),
+        Ok(Some(work)) => {
+            run_work(rt, node, crew, pass, work)?;
+            Ok(true)
+        }
+        Err(refused) => Err(refused),
+    }
+}

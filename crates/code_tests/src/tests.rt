@@ -18,25 +18,32 @@ fn drawn_value(alloc: Global, rng: &mut SmallRng) -> Result<Value, Fail> {
     }
 }
 
+/// At most 31 values.
+fn drawn_values(alloc: Global, rng: &mut SmallRng) -> Result<List<Value>, Fail>
+    ensures { IfOk result (λ values. length values ≤ 32) }
+{
+    let mut values = List::new(alloc);
+    for _ in 0..rng.next_u32() % 32 {
+        values.push(drawn_value(alloc, rng)?)?;
+    }
+    if values.len() > 32 {
+        return Err("too many values".into());
+    }
+    Ok(values)
+}
+
 /// A key of at most 31 values.
 fn drawn_key(alloc: Global, rng: &mut SmallRng) -> Result<Key, Fail>
     ensures { IfOk result (λ key. length key ≤ 32) }
 {
-    let mut key = List::new(alloc);
-    for _ in 0..rng.next_u32() % 32 {
-        key.push(drawn_value(alloc, rng)?)?;
-    }
-    if key.len() > 32 {
-        return Err("a key of too many values".into());
-    }
-    Ok(key)
+    Ok(Key::from_list(drawn_values(alloc, rng)?))
 }
 
 /// A row of at most 31 values.
 fn drawn_row(alloc: Global, rng: &mut SmallRng) -> Result<Row, Fail>
     ensures { IfOk result (λ row. length row ≤ 32) }
 {
-    let values = drawn_key(alloc, rng)?;
+    let values = drawn_values(alloc, rng)?;
     Ok(Row::new(values)?)
 }
 

@@ -82,6 +82,19 @@ fn listed_reads_fail(rt: HostRuntime) -> Result<(), Fail> {
 }
 
 #[test]
+fn a_slow_shelf_gives_some_bytes_a_call(rt: HostRuntime) -> Result<(), Fail> {
+    let alloc = rt.alloc();
+    let mut shelf = MemShelf::slow(files(alloc)?, numbers(alloc, &[3])?, 2);
+    let mut buf = [0; 3];
+    assert_eq!(rt; shelf.read_at("app", 1, &mut buf), Ok(2));
+    assert_eq!(rt; shelf.read_at("app", 4, &mut buf), Ok(1));
+    assert_eq!(rt; shelf.read_at("app", 0, &mut buf), Err(ShelfFailed));
+    assert_eq!(rt; shelf.read_at("app", 5, &mut buf), Ok(0));
+    assert!(rt; is_read(alloc, &mut shelf, "app", b"hello"));
+    Ok(())
+}
+
+#[test]
 fn sure_shelf_and_null_sink(rt: HostRuntime) -> Result<(), Fail> {
     let alloc = rt.alloc();
     let mut shelf = SureShelf::new(files(alloc)?);
@@ -101,6 +114,17 @@ fn listed_writes_and_a_full_sink_fail(rt: HostRuntime) -> Result<(), Fail> {
     assert_eq!(rt; sink.write(b"defg"), Ok(2));
     assert_eq!(rt; sink.write(b"f"), Err(SinkFailed));
     assert_eq!(rt; sink.bytes(), b"abcde".as_slice());
+    Ok(())
+}
+
+#[test]
+fn a_slow_sink_takes_some_bytes_a_call(rt: HostRuntime) -> Result<(), Fail> {
+    let alloc = rt.alloc();
+    let mut sink = MemSink::slow(alloc, 9, numbers(alloc, &[2])?, 4)?;
+    assert_eq!(rt; sink.write(b"abcdef"), Ok(4));
+    assert_eq!(rt; write_whole(&mut sink, b"e"), Err(SinkFailed));
+    assert_eq!(rt; write_whole(&mut sink, b"efghi"), Ok(()));
+    assert_eq!(rt; sink.bytes(), b"abcdefghi".as_slice());
     Ok(())
 }
 

@@ -16,7 +16,7 @@ use Rattle.literals.specs.Bytes.{hex_value, with_pair, pairs, where_short, bytes
 use Rattle.literals.specs.Number.{digits_len, is_canonical, number_after, number_of, where_u64, u64_at}
 
 -- the last of three choices
-third : {A : Type 0} (p q : Bool) (x y z : A) → (p || q) ≡ false → cond p x (cond q y z) ≡ z
+pub third : {A : Type 0} (p q : Bool) (x y z : A) → (p || q) ≡ false → cond p x (cond q y z) ≡ z
 third true q x y z e = cc
 third false true x y z e = cc
 third false false x y z e = refl

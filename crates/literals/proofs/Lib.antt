@@ -1,4 +1,5 @@
 pub mod Parts
+pub mod Plain
 pub mod Numbers
 pub mod Shrinks
 pub mod Numerals

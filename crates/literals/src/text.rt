@@ -1,7 +1,7 @@
 //! Texts in quotes.
 
-ghost use Rattle.std.specs.Prelude.{◌≡◌, ◌∷◌, ◌++◌, ◌<◌, [], length, take, OnOk, OnErr};
-ghost use Rattle.std.specs.List.{flat_map};
+ghost use Rattle.std.specs.Prelude.{◌≡◌, ◌∷◌, ◌++◌, ◌<◌, ◌≤◌, [], length, take, Some, IfSome, OnOk, OnErr};
+ghost use Rattle.std.specs.List.{flat_map, position_or_len};
 ghost use Rattle.std.specs.Option.{option_and_then};
 ghost use Rattle.literals.specs.Reads.{Reads, items_of};
 ghost use Rattle.literals.specs.Text.{quoted, is_escaped, where_text, text_at, text_literal, quoted_byte};
@@ -60,8 +60,46 @@ pub fn read_text(alloc: Global, bytes: &[u8]) -> Result<(Str, &[u8]), LiteralFau
     }
 }
 
-/// The same after the opening quote.
+/// Where the first quote or backslash stands, or the length where there is none.
+fn escaped_at(bytes: &[u8]) -> usize
+    ensures value { result ≡ position_or_len is_escaped bytes.now }
+    ensures bound { result ≤ length bytes.now }
+{
+    for (at, byte) in bytes.iter().enumerate() {
+        if is_escaped(*byte) {
+            return at;
+        }
+    }
+    bytes.len()
+}
+
+/// The bytes before the closing quote and those behind it, where no backslash stands before it.
+#[tactic(auto, using(crate::proofs::Plain::plain_found))]
+fn plain_front(bytes: &[u8]) -> Option<(&[u8], &[u8])>
+    ensures { IfSome result (λ found. quoted bytes.now ≡ Some (found.0.now, found.1.now)) }
+{
+    let at = escaped_at(bytes);
+    if at == bytes.len() || bytes[at] != b'"' {
+        return None;
+    }
+    Some((&bytes[..at], &bytes[at + 1..]))
+}
+
+/// The same after the opening quote. Where no byte is escaped, the text is made of the bytes as they stand.
 fn read_quoted(alloc: Global, bytes: &[u8]) -> Result<(Str, &[u8]), LiteralFault>
+    ensures { Reads result (option_and_then where_text (quoted bytes.now)) }
+{
+    match plain_front(bytes) {
+        Some((value, rest)) => {
+            let text = text_of(alloc, value)?;
+            Ok((text, rest))
+        }
+        None => read_escaped(alloc, bytes),
+    }
+}
+
+/// The same where bytes are escaped.
+fn read_escaped(alloc: Global, bytes: &[u8]) -> Result<(Str, &[u8]), LiteralFault>
     ensures { Reads result (option_and_then where_text (quoted bytes.now)) }
 {
     let (value, rest) = unquote(alloc, bytes)?;

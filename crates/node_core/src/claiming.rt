@@ -25,7 +25,7 @@ use std::sync::Arc;
 pub fn due_tx(working: &Working) -> Option<&Tx>
     ensures { option_copied result ≡ due (shown_work working.now) }
 {
-    working.block.txs.get(working.done.outcomes.len())
+    working.block.get().txs.get(working.done.outcomes.len())
 }
 
 // The number of a transaction's job, where that waits.

@@ -203,7 +203,7 @@ impl<V: Versions> NodeCore<V> {
                 let pos = next_pos(working);
                 match due_by(&self.chain.app, &self.ids, working, &self.jobs) {
                     Due::Nothing => Ok(Decided::AllDecided {
-                        number: working.block.number,
+                        number: working.block.get().number,
                     }),
                     Due::Waits(holder) => Ok(Decided::NotReady { pos, holder }),
                     Due::Early(cause) => {

@@ -13,7 +13,7 @@ use crate::arriving::share_tx;
 use crate::jobs::Jobs;
 use crate::node::NodeCore;
 use crate::room::make_room;
-use crate::working::Working;
+use crate::working::{IndexedBlock, Working};
 use block_work::{BlockInWork, IdIndex, early_cause};
 use node_model::{BlockResult, Entry, Event};
 use proc_check::Checked;
@@ -76,7 +76,7 @@ fn needs_none(app: &Checked, jobs: &Jobs, number: u64, known: bool, tx: &Tx) -> 
     early_cause(app, known, number, tx).is_some() || jobs.find(tx).is_some()
 }
 
-// Of the transactions of a block, which are shared one by one, those that need a job.
+// Of the transactions of a block, which are shared one by one, those that need a job, and the ids of all.
 fn fresh_txs(
     alloc: Global,
     app: &Checked,
@@ -84,9 +84,10 @@ fn fresh_txs(
     jobs: &Jobs,
     block: &Block,
     shared: &[Arc<Tx>],
-) -> Result<Vec<Arc<Tx>>, NoMemory>
+) -> Result<(Vec<Arc<Tx>>, BTreeSet<Id>), NoMemory>
     requires { map (λ tx. tx.value) shared.now ≡ block.now.txs }
-    ensures { IfOk result (λ made. map (λ tx. tx.value) made.items ≡ fresh_in app.now.app ids.now jobs.now block.now.number block.now.txs 0 block.now.txs) }
+    ensures fresh { IfOk result (λ made. map (λ tx. tx.value) made.0.items ≡ fresh_in app.now.app ids.now jobs.now block.now.number block.now.txs 0 block.now.txs) }
+    ensures ids { IfOk result (λ made. HasIds made.1 block.now.txs) }
 {
     let txs = block.txs.as_slice();
     let mut made = Vec::new(alloc);
@@ -99,7 +100,7 @@ fn fresh_txs(
             made.push(shared[i].clone()?)?;
         }
     }
-    Ok(made)
+    Ok((made, before))
 }
 
 impl<V: Versions> NodeCore<V> {
@@ -134,7 +135,7 @@ impl<V: Versions> NodeCore<V> {
     {
         if let Some(working) = &self.work {
             return Ok(Delivered::InWork {
-                number: working.block.number,
+                number: working.block.get().number,
             });
         }
         let expected = next_number(self.chain.blocks.as_slice());
@@ -143,7 +144,7 @@ impl<V: Versions> NodeCore<V> {
         }
         let shared = block.clone()?;
         let noted = block.clone()?;
-        let fresh = fresh_txs(
+        let (fresh, ids) = fresh_txs(
             self.alloc,
             &self.chain.app,
             &self.ids,
@@ -155,7 +156,7 @@ impl<V: Versions> NodeCore<V> {
         self.jobs.add_all(fresh)?;
         self.work = Some(Working {
             done: BlockInWork::new(self.alloc, block),
-            block: shared,
+            block: IndexedBlock::new(shared, ids),
         });
         self.journal.push_reserved(Entry {
             actor,

@@ -1,9 +1,7 @@
 //! What the node finds of ids and transactions.
 
-ghost use Rattle.std.specs.Prelude.{◌≡◌, ◌||◌, cond, length, map};
-ghost use Rattle.std.specs.List.{list_any};
+ghost use Rattle.std.specs.Prelude.{◌≡◌, ◌||◌, cond, length};
 ghost use Rattle.std.specs.Option.{is_some};
-ghost use Rattle.std.specs.Str.{bytes_eq};
 ghost use Rattle.block_work.specs.Ids.{place_of};
 ghost use Rattle.node_core.specs.Kept.{up_to};
 ghost use Rattle.node_core.specs.Known.{arrival, is_in_block};
@@ -33,25 +31,13 @@ pub fn settled_in(ids: &IdIndex, height: u64, id: &Id) -> Option<u64>
     }
 }
 
-// Whether one of some transactions has the id.
-fn has_id(txs: &[Tx], id: &Id) -> bool
-    ensures { result ≡ list_any (bytes_eq id.now) (map (λ tx. tx.id) txs.now) }
-{
-    for tx in txs {
-        if *id == tx.id {
-            return true;
-        }
-    }
-    false
-}
-
 /// Whether an id stands in the block in work.
 pub fn is_in_block(work: &Option<Working>, id: &Id) -> bool
     ensures { result ≡ is_in_block id.now work.now }
 {
     match work {
         None => false,
-        Some(working) => has_id(working.block.txs.as_slice(), id),
+        Some(working) => working.block.has_id(id),
     }
 }
 

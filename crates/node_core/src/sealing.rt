@@ -12,14 +12,12 @@ use crate::answers::Sealed;
 use crate::claiming::due_tx;
 use crate::node::NodeCore;
 use crate::room::make_room;
-use crate::working::Working;
+use crate::working::{IndexedBlock, Working};
 use block_work::Chain;
 use block_work::result::last_digest;
 use node_model::{Entry, Event};
-use proc_syntax::Block;
 use rel_base::NoMemory;
 use row_sets::Versions;
-use std::sync::Arc;
 
 // Why no block is sealed, behind so many that are: none is in work, or a transaction of it is not decided, of which the first is named.
 fn not_sealed(sealed: u64, work: &Option<Working>) -> Option<Sealed>
@@ -40,7 +38,7 @@ fn not_sealed(sealed: u64, work: &Option<Working>) -> Option<Sealed>
 fn seal_work<V: Versions>(
     chain: &mut Chain<V>,
     work: &mut Option<Working>,
-) -> Result<Arc<Block>, NoMemory>
+) -> Result<IndexedBlock, NoMemory>
     requires store { StoreFits chain.old.app.value.app (V.tables chain.old.versions) (V.history chain.old.versions) chain.old.blocks }
     requires can { IsSomeAnd work.old (CanJoin (tables_of chain.old.app.value.app) (length chain.old.blocks)) }
     ensures app { chain.new.app.value ≡ chain.old.app.value }
@@ -88,9 +86,9 @@ impl<V: Versions> NodeCore<V> {
         }
         make_room(&mut self.journal, 1, self.jobs.held())?;
         let block = seal_work(&mut self.chain, &mut self.work)?;
-        let number = block.number;
+        let number = block.get().number;
         // No waiting or done job had an id of an earlier block.
-        self.jobs.drop_ids(block.txs.as_slice());
+        self.jobs.drop_ids(block.get().txs.as_slice());
         self.journal.push_reserved(Entry {
             actor,
             event: Event::Seal { number },

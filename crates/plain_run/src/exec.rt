@@ -15,7 +15,7 @@ ghost use Rattle.plain_run.specs.State.{state, Ends, Chooses, IsReady, Keeps, Ke
 use crate::ask::{ask, ask_key};
 use crate::run::Run;
 use proc_eval::Halt;
-use proc_eval::eval::{eval, eval_all, eval_changes, eval_row};
+use proc_eval::eval::{eval, eval_changes, eval_key, eval_row};
 use proc_eval::fit::{fits_key, is_under, key_for, span_read, with_columns};
 use proc_eval::scope::{bind, table_named};
 use proc_syntax::{Binding, Change, Expr, Fault, Stop};
@@ -222,15 +222,15 @@ pub fn run_update<S: Snapshot>(
     ensures found { Keeps tables.now (S.tables snapshot.now) run.old.own run.new.own }
 {
     let (number, def) = find_table(tables, table)?;
-    let values = eval_all(alloc, tables, run.variables.as_slice(), key)?;
+    let key = eval_key(alloc, tables, run.variables.as_slice(), key)?;
     let settings = eval_changes(alloc, tables, run.variables.as_slice(), def, changes)?;
-    let read = point_read(def, number, values.copy(alloc)?)?;
+    let read = point_read(def, number, key.copy(alloc)?)?;
     let found = ask_key(alloc, tables, snapshot, def, read, run)?;
     put_changed(
         alloc,
         def,
         number,
-        values,
+        key,
         found.before,
         settings.as_slice(),
         found.seen.as_slice(),
@@ -273,10 +273,10 @@ pub fn run_delete<S: Snapshot>(
     ensures found { Keeps tables.now (S.tables snapshot.now) run.old.own run.new.own }
 {
     let (number, def) = find_table(tables, table)?;
-    let values = eval_all(alloc, tables, run.variables.as_slice(), key)?;
-    let read = point_read(def, number, values.copy(alloc)?)?;
+    let key = eval_key(alloc, tables, run.variables.as_slice(), key)?;
+    let read = point_read(def, number, key.copy(alloc)?)?;
     let found = ask_key(alloc, tables, snapshot, def, read, run)?;
-    put_none(number, values, found.before, found.seen.as_slice(), run)
+    put_none(number, key, found.before, found.seen.as_slice(), run)
 }
 
 /// The row that a name then stands for, where there is one.
@@ -315,8 +315,8 @@ pub fn run_get<S: Snapshot>(
     ensures own { run.new.own ≡ run.old.own }
 {
     let (number, def) = find_table(tables, table)?;
-    let values = eval_all(alloc, tables, run.variables.as_slice(), key)?;
-    let read = point_read(def, number, values)?;
+    let key = eval_key(alloc, tables, run.variables.as_slice(), key)?;
+    let read = point_read(def, number, key)?;
     let seen = ask(alloc, tables, snapshot, def, read, run)?;
     bind_first(alloc, number, name, seen.as_slice(), run)
 }

@@ -2,17 +2,19 @@
 
 ghost use Rattle.std.specs.Prelude.{◌≡◌, ◌++◌, ◌∷◌, [], map, OnOk};
 ghost use Rattle.std.specs.Option.{option_map, option_to_list};
+ghost use Rattle.proc_check.specs.declared.scope.Sort.TheVariants as sort;
 ghost use Rattle.proc_check.specs.Gives.{Gives};
 ghost use Rattle.proc_check.specs.Kinds.{need, type_of};
+ghost use Rattle.proc_check.specs.Scope.{variable_of};
 ghost use Rattle.proc_check.specs.Statements.{block, maybe_block, walk_stmt};
 
 use crate::expressions::{need, type_of};
 use crate::fault::CheckFault;
 use crate::scope::{Scope, Sort, Variable, variable_of};
 use crate::statements::{
-    check_assign, check_for, check_get, check_insert, check_let, check_update, keyed,
+    Span, check_assign, check_for, check_get, check_insert, check_let, check_update, keyed,
 };
-use proc_syntax::{Stmt, TableText};
+use proc_syntax::{Named, Stmt, TableText};
 use rel_base::{Kind, List, NoMemory};
 use std::alloc::Global;
 
@@ -24,6 +26,26 @@ fn enter_maybe(alloc: Global, scope: &mut Scope, brought: Option<Variable>) -> R
         Some(variable) => scope.enter(alloc, variable),
         None => Ok(()),
     }
+}
+
+/// Checks a block in which a name stands for a row of the table of a number. The scope is then as before.
+#[cycle(walks)]
+fn check_held(
+    alloc: Global,
+    tables: &[TableText],
+    scope: &mut Scope,
+    name: &Named,
+    table: usize,
+    stmts: &[Stmt],
+) -> Result<(), CheckFault>
+    ensures gives { Gives result (block (map (walk_stmt tables.now) stmts.now) (scope.old ++ variable_of name.now (sort.Row table) ∷ [])) }
+    ensures same { OnOk result (scope.new ≡ scope.old) }
+{
+    let outside = scope.len();
+    scope.enter(alloc, variable_of(alloc, name, Sort::Row(table))?)?;
+    check_block(alloc, tables, scope, stmts)?;
+    scope.leave(outside);
+    Ok(())
 }
 
 /// Checks a statement, and answers the variable that it brings into scope. The scope is then as before.
@@ -65,10 +87,7 @@ fn check_stmt(
             absent,
         } => {
             let number = check_get(tables, scope, name, table, key.as_slice())?;
-            let outside = scope.len();
-            scope.enter(alloc, variable_of(alloc, name, Sort::Row(number))?)?;
-            check_block(alloc, tables, scope, found.as_slice())?;
-            scope.leave(outside);
+            check_held(alloc, tables, scope, name, number, found.as_slice())?;
             check_block(alloc, tables, scope, absent.as_slice())?;
             Ok(None)
         }
@@ -80,11 +99,9 @@ fn check_stmt(
             high,
             body,
         } => {
-            let number = check_for(tables, scope, name, table, column, low, high)?;
-            let outside = scope.len();
-            scope.enter(alloc, variable_of(alloc, name, Sort::Row(number))?)?;
-            check_block(alloc, tables, scope, body.as_slice())?;
-            scope.leave(outside);
+            let span = Span { column, low, high };
+            let number = check_for(tables, scope, name, table, &span)?;
+            check_held(alloc, tables, scope, name, number, body.as_slice())?;
             Ok(None)
         }
         Stmt::Insert { table, values } => {

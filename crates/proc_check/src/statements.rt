@@ -152,25 +152,27 @@ fn end_fits(tables: &[TableText], scope: &Scope, kind: Kind, end: &Option<Expr>)
     }
 }
 
-/// Checks `span on column from low to high` of the table of a number.
-fn check_span(
-    tables: &[TableText],
-    scope: &Scope,
-    table: usize,
-    column: &Named,
-    low: &Option<Expr>,
-    high: &Option<Expr>,
-) -> Result<(), Bad>
-    ensures { result ≡ walk_span tables.now scope.now table column.now low.now high.now }
+/// `span on column from low to high`.
+#[derive(Clone, Copy)]
+pub struct Span<'a> {
+    pub column: &'a Named,
+    pub low: &'a Option<Expr>,
+    pub high: &'a Option<Expr>,
+}
+
+/// Checks a span of the table of a number.
+fn check_span(tables: &[TableText], scope: &Scope, table: usize, span: &Span<'_>) -> Result<(), Bad>
+    ensures { result ≡ walk_span tables.now scope.now table span.now.column.now span.now.low.now span.now.high.now }
 {
+    let column = span.column;
     let kind = known_column(tables, table, column)?;
     refuse(
         !is_spanned(tables, table, &column.name),
         column.line,
         BadKind::NoIndex,
     )?;
-    end_fits(tables, scope, kind, low)?;
-    end_fits(tables, scope, kind, high)
+    end_fits(tables, scope, kind, span.low)?;
+    end_fits(tables, scope, kind, span.high)
 }
 
 /// Checks `for name in table span on column from low to high`, and answers the number of the table.
@@ -179,15 +181,13 @@ pub fn check_for(
     scope: &Scope,
     name: &Named,
     table: &Named,
-    column: &Named,
-    low: &Option<Expr>,
-    high: &Option<Expr>,
+    span: &Span<'_>,
 ) -> Result<usize, Bad>
-    ensures { result ≡ walk_for tables.now scope.now name.now table.now column.now low.now high.now }
+    ensures { result ≡ walk_for tables.now scope.now name.now table.now span.now.column.now span.now.low.now span.now.high.now }
 {
     scope.new_name(name)?;
     let number = known_table(tables, table)?;
-    check_span(tables, scope, number, column, low, high)?;
+    check_span(tables, scope, number, span)?;
     Ok(number)
 }
 

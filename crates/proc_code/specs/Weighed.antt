@@ -1,5 +1,6 @@
 -- Values that are computed or lent.
 use Rattle.std.specs.Prelude.{◌≡◌, Result, Ok, Err}
+use Rattle.std.specs.Borrow.{Bor}
 use Rattle.rel_base.specs.declared.value.Value.{Value}
 use Rattle.proc_syntax.specs.declared.run.Stop.{Stop}
 use Rattle.proc_eval.specs.declared.halt.Halt.{Halt}
@@ -11,6 +12,11 @@ use Rattle.proc_code.specs.declared.values.Worth.TheVariants as worth
 abbrev pub weight : Worth → Value
 weight (worth.Made v) = v
 weight (worth.Lent v) = v.now
+
+-- the value that is lent
+abbrev pub lent : Result (Bor Value) Stop → Result Value Stop
+lent (Ok v) = Ok v.now
+lent (Err why) = Err why
 
 -- what was computed is what is meant, but for want of memory
 abbrev pub Weighs : Result Worth Halt → Result Value Stop → Type 0

@@ -6,14 +6,14 @@ ghost use Rattle.proc_syntax.specs.Scope.{plain_of};
 ghost use Rattle.proc_syntax.specs.Values.{apply, found};
 ghost use Rattle.proc_eval.specs.Gives.{Gives};
 ghost use Rattle.proc_code.specs.Coded.{in_slot, column_at, cell_of, worth_of, worths_of, end_worth, set_worth, sets_worth};
-ghost use Rattle.proc_code.specs.Weighed.{Weighs, weight};
+ghost use Rattle.proc_code.specs.Weighed.{Weighs, lent, weight};
 
 use crate::tree::{Setting, Term};
 use proc_eval::Halt;
 use proc_eval::arith::negation;
 use proc_eval::compare::{flag, negated, two};
 use proc_syntax::{Binding, Op, Stop};
-use rel_base::{List, Row, Twin, Value};
+use rel_base::{Key, List, Row, Twin, Value};
 use std::alloc::Global;
 
 /// A value that was computed, or one that stands in the code, in a variable or in a row that a variable holds, and is not copied.
@@ -82,12 +82,12 @@ fn cell_of<'a>(
 }
 
 /// The value of what a variable stands for.
-fn plain_value<'a>(slots: &'a [Option<Binding>], slot: usize) -> Result<Worth<'a>, Halt>
-    ensures { Weighs result (found (option_and_then plain_of (in_slot slots.now slot))) }
+fn plain_value<'a>(slots: &'a [Option<Binding>], slot: usize) -> Result<&'a Value, Stop>
+    ensures { lent result ≡ found (option_and_then plain_of (in_slot slots.now slot)) }
 {
     match in_slot(slots, slot) {
-        Some(Binding::Plain(value)) => Ok(Worth::Lent(value)),
-        _ => Err(Halt::Stop(Stop::IllTyped)),
+        Some(Binding::Plain(value)) => Ok(value),
+        _ => Err(Stop::IllTyped),
     }
 }
 
@@ -97,15 +97,12 @@ fn field_value<'a>(
     slots: &'a [Option<Binding>],
     slot: usize,
     name: usize,
-) -> Result<Worth<'a>, Halt>
-    ensures { Weighs result (found (option_and_then (cell_of columns.now name) (in_slot slots.now slot))) }
+) -> Result<&'a Value, Stop>
+    ensures { lent result ≡ found (option_and_then (cell_of columns.now name) (in_slot slots.now slot)) }
 {
     match in_slot(slots, slot) {
-        None => Err(Halt::Stop(Stop::IllTyped)),
-        Some(binding) => match cell_of(columns, name, binding) {
-            None => Err(Halt::Stop(Stop::IllTyped)),
-            Some(value) => Ok(Worth::Lent(value)),
-        },
+        None => Err(Stop::IllTyped),
+        Some(binding) => cell_of(columns, name, binding).ok_or(Stop::IllTyped),
     }
 }
 
@@ -158,8 +155,14 @@ pub fn weigh<'a>(
 {
     match term {
         Term::Value(value) => Ok(Worth::Lent(value)),
-        Term::Var(slot) => plain_value(slots, *slot),
-        Term::Field { slot, column } => field_value(columns, slots, *slot, *column),
+        Term::Var(slot) => {
+            let value = plain_value(slots, *slot)?;
+            Ok(Worth::Lent(value))
+        }
+        Term::Field { slot, column } => {
+            let value = field_value(columns, slots, *slot, *column)?;
+            Ok(Worth::Lent(value))
+        }
         Term::Not(inner) => {
             let value = weigh(alloc, columns, slots, inner.get())?;
             Ok(Worth::Made(negated(value.get())?))
@@ -218,6 +221,23 @@ pub fn eval_row(
     let values = eval_all(alloc, columns, slots, terms)?;
     let row = Row::new(values)?;
     Ok(row)
+}
+
+/// The key of the values of expressions, from the left.
+pub fn eval_key(
+    alloc: Global,
+    columns: &List<List<Option<usize>>>,
+    slots: &[Option<Binding>],
+    terms: &[Term],
+) -> Result<Key, Halt>
+    ensures { Gives result (worths_of columns.now terms.now slots.now) }
+{
+    let mut key = Key::new();
+    for term in terms {
+        let value = eval(alloc, columns, slots, term)?;
+        key = key.with(alloc, value)?;
+    }
+    Ok(key)
 }
 
 /// The value of an end of a span, where it is given.

@@ -9,7 +9,7 @@ use crate::compare::{flag, negated, two};
 use crate::halt::Halt;
 use crate::scope::{column_in, value_of_field, value_of_name};
 use proc_syntax::{Change, Expr, Op, Stop, Variable};
-use rel_base::{List, Row, TableDef, Twin, Value};
+use rel_base::{Key, List, Row, TableDef, Twin, Value};
 use std::alloc::Global;
 
 /// What an operator gives of a value and of an expression, which has its turn only where the value does not decide.
@@ -113,6 +113,23 @@ pub fn eval_row(
     let values = eval_all(alloc, tables, variables, exprs)?;
     let row = Row::new(values)?;
     Ok(row)
+}
+
+/// The key of the values of expressions, from the left.
+pub fn eval_key(
+    alloc: Global,
+    tables: &List<TableDef>,
+    variables: &[Variable],
+    exprs: &[Expr],
+) -> Result<Key, Halt>
+    ensures { Gives result (values_of tables.now exprs.now variables.now) }
+{
+    let mut key = Key::new();
+    for expr in exprs {
+        let value = eval(alloc, tables, variables, expr)?;
+        key = key.with(alloc, value)?;
+    }
+    Ok(key)
 }
 
 /// The value of an end of a span, where it is given.

@@ -13,6 +13,7 @@ use Rattle.proc_code.specs.declared.tree.Action.TheOpen as action
 use Rattle.proc_code.specs.declared.tree.Setting.{Setting}
 use Rattle.proc_code.specs.declared.tree.Term.{Term}
 use Rattle.proc_code.specs.Coded.{Slots, worth_of, worths_of, end_worth, sets_worth}
+use Rattle.proc_run.specs.declared.plan.Pending.{Pending}
 use Rattle.proc_run.specs.declared.plan.Pending.TheVariants.{Insert, Update, Delete, Get, For}
 use Rattle.proc_run.specs.declared.plan.Plan.{Plan}
 use Rattle.proc_run.specs.declared.plan.Plan.TheVariants.{Set, Enter, Ask}
@@ -27,10 +28,10 @@ module _ (columns : List (List (Option ℕ))) where
   plan_if test slots = worth_of columns test slots >>= λ v. flag_of v >>= λ holds. Ok (Enter holds)
 
 module _ (declared : List TableDef) (columns : List (List (Option ℕ))) where
-  -- the point read of a key, and then one block or the other
-  abbrev pub plan_get : ℕ → ℕ → List Term → Slots → Result Plan Stop
-  plan_get slot table key slots =
-      found (slice_get declared table) >>= λ def. worths_of columns key slots >>= λ key. found (point_of def table key) >>= λ read. Ok (Ask read (Get slot))
+  -- the point read of a key, and then what is pending
+  abbrev pub plan_key : ℕ → List Term → Pending → Slots → Result Plan Stop
+  plan_key table key pending slots =
+      found (slice_get declared table) >>= λ def. worths_of columns key slots >>= λ key. found (point_of def table key) >>= λ read. Ok (Ask read pending)
 
   -- the span read on a column, and then a block for each row
   abbrev pub plan_for : ℕ → ℕ → Option ℕ → Option Term → Option Term → Slots → Result Plan Stop
@@ -47,19 +48,14 @@ module _ (declared : List TableDef) (columns : List (List (Option ℕ))) where
   plan_update table key settings slots =
       found (slice_get declared table) >>= λ def. worths_of columns key slots >>= λ key. sets_worth columns settings slots >>= λ changes. found (point_of def table key) >>= λ read. Ok (Ask read (Update changes))
 
-  -- the point read of a key, and then its row is deleted
-  abbrev pub plan_delete : ℕ → List Term → Slots → Result Plan Stop
-  plan_delete table key slots =
-      found (slice_get declared table) >>= λ def. worths_of columns key slots >>= λ key. found (point_of def table key) >>= λ read. Ok (Ask read Delete)
-
   abbrev pub plan_step : Action-F (Slots → Result Plan Stop) → Slots → Result Plan Stop
   plan_step (action.Set slot e) slots = plan_set columns slot e slots
   plan_step (action.If test body other) slots = plan_if columns test slots
-  plan_step (action.Get slot table key found absent) slots = plan_get slot table key slots
+  plan_step (action.Get slot table key found absent) slots = plan_key table key (Get slot) slots
   plan_step (action.For slot table column low high body) slots = plan_for slot table column low high slots
   plan_step (action.Insert table values) slots = plan_insert table values slots
   plan_step (action.Update table key settings) slots = plan_update table key settings slots
-  plan_step (action.Delete table key) slots = plan_delete table key slots
+  plan_step (action.Delete table key) slots = plan_key table key Delete slots
   plan_step (action.Fail text) slots = Err (stop.Fault (fault.Failed text))
 
   -- what a statement comes to, or why a run stops there

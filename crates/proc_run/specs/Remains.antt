@@ -1,5 +1,5 @@
 -- What remains of a run, from where it stands, on any tables.
-use Rattle.std.specs.Prelude.{◌≡◌, ℕ, cond, Bool, true, false, T, List, [], ◌∷◌, Option, Some, None, IfSome, Result, Ok, Err, slice_get}
+use Rattle.std.specs.Prelude.{◌≡◌, ◌+◌, ◌++◌, ℕ, cond, Bool, true, false, T, List, [], ◌∷◌, Option, Some, None, IfSome, Result, Ok, Err, slice_get}
 use Rattle.std.specs.FinMap.Entries.{is_sorted}
 use Rattle.rel_base.specs.declared.access.Read.{Read}
 use Rattle.rel_base.specs.declared.access.Read.TheVariants.{Point, Span}
@@ -19,8 +19,10 @@ use Rattle.proc_eval.specs.declared.halt.Halt.{Halt}
 use Rattle.proc_eval.specs.declared.halt.Halt.TheVariants as halt
 use Rattle.proc_code.specs.declared.tree.Action.{Action}
 use Rattle.proc_code.specs.Coded.{State, Outcome, put, hold, do_all}
+use Rattle.proc_run.specs.declared.place.Branch.{Branch}
 use Rattle.proc_run.specs.declared.place.Branch.TheVariants.{First, Second}
 use Rattle.proc_run.specs.declared.place.Spot.{Spot}
+use Rattle.proc_run.specs.declared.place.Spot.TheVariants.{Block}
 use Rattle.proc_run.specs.declared.plan.Pending.{Pending}
 use Rattle.proc_run.specs.declared.plan.Pending.TheVariants.{Insert, Update, Delete, Get, For}
 use Rattle.proc_run.specs.declared.plan.Plan.{Plan}
@@ -74,6 +76,12 @@ module _ (declared : List TableDef) (columns : List (List (Option ℕ))) (tables
   abbrev pub run_frames : List Frame → State → Outcome
   run_frames [] state = Going state
   run_frames (frame ∷ frames) state = then_do (run_frames frames state) (run_frame frame)
+
+  -- what remains once the step of the next statement of a block is counted: what the statement's plan comes to, and the rest of the block
+  abbrev pub goes_past : List Action → List Spot → ℕ → Branch → ℕ → Plan → State → Outcome
+  goes_past root spots at branch next plan state =
+      let path = spots ++ Block at branch (next + 1) ∷ [] in
+      then_do (do_plan (part_of (block_of root path) next First) (part_of (block_of root path) next Second) plan (record state { steps = state.steps + 1 })) (run_frames (frames_of root path))
 
   -- what remains of a run
   abbrev pub remains : List Action → Phase → List Spot → State → Outcome

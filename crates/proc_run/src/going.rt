@@ -13,12 +13,11 @@ ghost use Rattle.proc_run.specs.declared.place.Spot.{Spot as Place};
 ghost use Rattle.proc_run.specs.Remains.{state, remains, waits, has_rows, PhaseFits};
 ghost use Rattle.proc_run.specs.Told.{Agrees, GivenInOrder, IsResumed, IsSound, given_of, held_of, read_of, want_of};
 
-use crate::place::{Spot, body_at};
-use crate::resume::resume;
+use crate::place::{Program, Spot, body_at};
+use crate::resume::{Answer, resume};
 use crate::state::{Phase, Run, Want};
 use crate::turn::advance;
 use proc_check::Checked;
-use proc_code::Action;
 use proc_eval::Halt;
 use proc_syntax::{Ending, Ran, Stop};
 use rel_base::{List, Made, NoMemory, TableDef, Twin};
@@ -61,7 +60,12 @@ fn resumed(
     let Phase::Answered { at, made, pending } = phase else {
         return Ok(None);
     };
-    match resume(alloc, tables, spots, run, *at, made, pending) {
+    let answer = Answer {
+        at: *at,
+        made,
+        pending,
+    };
+    match resume(alloc, tables, spots, run, &answer) {
         Ok(()) => Ok(Some(Phase::Running)),
         Err(Halt::Stop(why)) => Ok(Some(Phase::Stopped(why))),
         Err(Halt::NoMemory) => Err(NoMemory),
@@ -101,9 +105,7 @@ pub fn settle(
 /// Goes on to the next read or to the end, where the run is at neither. Where memory is wanting, what remains of it is as before.
 pub fn go_on(
     alloc: Global,
-    tables: &List<TableDef>,
-    columns: &List<List<Option<usize>>>,
-    root: &[Action],
+    program: &Program<'_>,
     spots: &mut Vec<Spot>,
     run: &mut Run,
     phase: &mut Phase,
@@ -111,19 +113,19 @@ pub fn go_on(
     requires settled { has_rows phase.old ≡ false }
     requires steps { run.old.steps ≤ 100000 }
     requires list { vec_len run.old.made + 1 ≤ vec_capacity run.old.made }
-    requires fits { PhaseFits tables.now phase.old }
-    ensures remains { (S : Tables) → remains tables.now columns.now S root.now phase.new spots.new.items (state run.new) ≡ remains tables.now columns.now S root.now phase.old spots.old.items (state run.old) }
+    requires fits { PhaseFits program.now.tables.now phase.old }
+    ensures remains { (S : Tables) → remains program.now.tables.now program.now.columns.now S program.now.root.now phase.new spots.new.items (state run.new) ≡ remains program.now.tables.now program.now.columns.now S program.now.root.now phase.old spots.old.items (state run.old) }
     ensures own { run.new.own ≡ run.old.own }
     ensures made { run.new.made ≡ run.old.made }
     ensures steps { run.new.steps ≤ 100000 }
-    ensures fits { PhaseFits tables.now phase.new }
+    ensures fits { PhaseFits program.now.tables.now phase.new }
     ensures waits { OnOk result (waits phase.new ≡ true) }
     ensures settled { has_rows phase.new ≡ false }
     ensures list { vec_len run.new.made + held_of phase.new ≤ vec_capacity run.new.made }
 {
     match phase {
         Phase::Running => {
-            *phase = advance(alloc, tables, columns, root, spots, run)?;
+            *phase = advance(alloc, program, spots, run)?;
             Ok(())
         }
         _ => Ok(()),
@@ -152,15 +154,12 @@ pub fn go_to_read(
     let tables = app.tables();
     let code = app.code();
     settle(alloc, tables, spots, run, phase)?;
-    go_on(
-        alloc,
+    let program = Program {
         tables,
-        &code.columns,
-        body_at(code, number),
-        spots,
-        run,
-        phase,
-    )
+        columns: &code.columns,
+        root: body_at(code, number),
+    };
+    go_on(alloc, &program, spots, run, phase)
 }
 
 /// What a run needs that is at a read or at its end.

@@ -4,7 +4,7 @@ ghost use Rattle.std.specs.Prelude.{◌≡◌};
 ghost use Rattle.proc_run.specs.Place.{block_of, body_at, part_of};
 
 use proc_code::{Action, AppCode};
-use rel_base::{List, Row};
+use rel_base::{List, Row, TableDef};
 
 /// A block of a statement, or the block itself in which the statement stands.
 #[derive(Clone, Copy, Debug, PartialEq, Eq)]
@@ -33,6 +33,30 @@ pub enum Spot {
         rows: List<Row>,
         next: usize,
     },
+}
+
+/// The statements of a procedure, with the tables that are declared and the columns that are named.
+#[derive(Clone, Copy)]
+pub struct Program<'a> {
+    pub tables: &'a List<TableDef>,
+    pub columns: &'a List<List<Option<usize>>>,
+    pub root: &'a [Action],
+}
+
+/// Where a run stands in a block: that of the statement of a number, and the number of its own statement that is next.
+#[derive(Clone, Copy)]
+pub struct Cursor {
+    pub at: usize,
+    pub branch: Branch,
+    pub next: usize,
+}
+
+/// The statement of a number, whose variable holds a row of a table.
+#[derive(Clone, Copy)]
+pub struct Holder {
+    pub at: usize,
+    pub slot: usize,
+    pub table: u32,
 }
 
 /// The statements of a procedure, by its number.

@@ -6,9 +6,9 @@ ghost use Rattle.proc_syntax.specs.Steps.{point_of, span_of, key_for};
 ghost use Rattle.proc_syntax.specs.Values.{found};
 ghost use Rattle.proc_eval.specs.Gives.{Gives};
 ghost use Rattle.proc_eval.specs.declared.halt.Halt.TheVariants as halt;
-ghost use Rattle.proc_run.specs.Planned.{plan_of, plan_set, plan_if, plan_get, plan_for, plan_insert, plan_update, plan_delete};
+ghost use Rattle.proc_run.specs.Planned.{plan_of, plan_set, plan_if, plan_key, plan_for, plan_insert, plan_update};
 
-use proc_code::values::{eval, eval_all, eval_end, eval_row, eval_settings};
+use proc_code::values::{eval, eval_end, eval_key, eval_row, eval_settings};
 use proc_code::{Action, Setting, Term};
 use proc_eval::Halt;
 use proc_eval::compare::flag;
@@ -94,132 +94,124 @@ fn key_of_fit(alloc: Global, def: &TableDef, row: &Row) -> Result<Key, Halt>
     }
 }
 
-fn plan_set(
+/// What the expressions of a statement stand on: the declared tables, the columns that the application names, and what the variables
+/// stand for.
+#[derive(Clone, Copy)]
+struct Scene<'a> {
     alloc: Global,
-    columns: &List<List<Option<usize>>>,
-    slots: &[Option<Binding>],
-    slot: usize,
-    value: &Term,
-) -> Result<Plan, Halt>
-    ensures { Gives result (plan_set columns.now slot value.now slots.now) }
-{
-    let value = eval(alloc, columns, slots, value)?;
-    Ok(Plan::Set { slot, value })
+    tables: &'a List<TableDef>,
+    columns: &'a List<List<Option<usize>>>,
+    slots: &'a [Option<Binding>],
 }
 
-fn plan_if(
-    alloc: Global,
-    columns: &List<List<Option<usize>>>,
-    slots: &[Option<Binding>],
-    test: &Term,
-) -> Result<Plan, Halt>
-    ensures { Gives result (plan_if columns.now test.now slots.now) }
-{
-    let value = eval(alloc, columns, slots, test)?;
-    let first = flag(&value)?;
-    Ok(Plan::Enter { first })
-}
+impl Scene<'_> {
+    /// A variable gets the value of an expression.
+    fn set(&self, slot: usize, value: &Term) -> Result<Plan, Halt>
+        ensures { Gives result (plan_set self.now.columns.now slot value.now self.now.slots.now) }
+    {
+        let value = eval(self.alloc, self.columns, self.slots, value)?;
+        Ok(Plan::Set { slot, value })
+    }
 
-fn plan_get(
-    alloc: Global,
-    tables: &List<TableDef>,
-    columns: &List<List<Option<usize>>>,
-    slots: &[Option<Binding>],
-    slot: usize,
-    table: u32,
-    key: &[Term],
-) -> Result<Plan, Halt>
-    ensures { Gives result (plan_get tables.now columns.now slot table key.now slots.now) }
-{
-    let def = find_table(tables, table)?;
-    let key = eval_all(alloc, columns, slots, key)?;
-    let read = point_read(def, table, key)?;
-    Ok(Plan::Ask {
-        read,
-        pending: Pending::Get { slot },
-    })
-}
+    /// One block where a test holds, and another where it does not.
+    fn test(&self, test: &Term) -> Result<Plan, Halt>
+        ensures { Gives result (plan_if self.now.columns.now test.now self.now.slots.now) }
+    {
+        let value = eval(self.alloc, self.columns, self.slots, test)?;
+        let first = flag(&value)?;
+        Ok(Plan::Enter { first })
+    }
 
-fn plan_for(
-    alloc: Global,
-    tables: &List<TableDef>,
-    columns: &List<List<Option<usize>>>,
-    slots: &[Option<Binding>],
-    slot: usize,
-    table: u32,
-    column: Option<usize>,
-    low: &Option<Term>,
-    high: &Option<Term>,
-) -> Result<Plan, Halt>
-    ensures { Gives result (plan_for tables.now columns.now slot table column low.now high.now slots.now) }
-{
-    let def = find_table(tables, table)?;
-    let low = eval_end(alloc, columns, slots, low)?;
-    let high = eval_end(alloc, columns, slots, high)?;
-    let read = span_read(def, table, column, low, high)?;
-    Ok(Plan::Ask {
-        read,
-        pending: Pending::For { slot },
-    })
-}
+    /// The point read of a key.
+    fn ask_key(&self, table: u32, key: &[Term], pending: Pending) -> Result<Plan, Halt>
+        ensures { Gives result (plan_key self.now.tables.now self.now.columns.now table key.now pending self.now.slots.now) }
+    {
+        let def = find_table(self.tables, table)?;
+        let key = eval_key(self.alloc, self.columns, self.slots, key)?;
+        let read = point_read(def, table, key)?;
+        Ok(Plan::Ask { read, pending })
+    }
 
-fn plan_insert(
-    alloc: Global,
-    tables: &List<TableDef>,
-    columns: &List<List<Option<usize>>>,
-    slots: &[Option<Binding>],
-    table: u32,
-    values: &[Term],
-) -> Result<Plan, Halt>
-    ensures { Gives result (plan_insert tables.now columns.now table values.now slots.now) }
-{
-    let def = find_table(tables, table)?;
-    let row = eval_row(alloc, columns, slots, values)?;
-    let key = key_of_fit(alloc, def, &row)?;
-    Ok(Plan::Ask {
-        read: Read::Point { table, key },
-        pending: Pending::Insert { row },
-    })
-}
+    /// The span read on a column, whose rows each go into a variable.
+    fn ask_span(
+        &self,
+        slot: usize,
+        table: u32,
+        column: Option<usize>,
+        low: &Option<Term>,
+        high: &Option<Term>,
+    ) -> Result<Plan, Halt>
+        ensures { Gives result (plan_for self.now.tables.now self.now.columns.now slot table column low.now high.now self.now.slots.now) }
+    {
+        let def = find_table(self.tables, table)?;
+        let low = eval_end(self.alloc, self.columns, self.slots, low)?;
+        let high = eval_end(self.alloc, self.columns, self.slots, high)?;
+        let read = span_read(def, table, column, low, high)?;
+        Ok(Plan::Ask {
+            read,
+            pending: Pending::For { slot },
+        })
+    }
 
-fn plan_update(
-    alloc: Global,
-    tables: &List<TableDef>,
-    columns: &List<List<Option<usize>>>,
-    slots: &[Option<Binding>],
-    table: u32,
-    key: &[Term],
-    settings: &[Setting],
-) -> Result<Plan, Halt>
-    ensures { Gives result (plan_update tables.now columns.now table key.now settings.now slots.now) }
-{
-    let def = find_table(tables, table)?;
-    let key = eval_all(alloc, columns, slots, key)?;
-    let changes = eval_settings(alloc, columns, slots, settings)?;
-    let read = point_read(def, table, key)?;
-    Ok(Plan::Ask {
-        read,
-        pending: Pending::Update { changes },
-    })
-}
+    /// The point read of a new row's key.
+    fn insert(&self, table: u32, values: &[Term]) -> Result<Plan, Halt>
+        ensures { Gives result (plan_insert self.now.tables.now self.now.columns.now table values.now self.now.slots.now) }
+    {
+        let def = find_table(self.tables, table)?;
+        let row = eval_row(self.alloc, self.columns, self.slots, values)?;
+        let key = key_of_fit(self.alloc, def, &row)?;
+        Ok(Plan::Ask {
+            read: Read::Point { table, key },
+            pending: Pending::Insert { row },
+        })
+    }
 
-fn plan_delete(
-    alloc: Global,
-    tables: &List<TableDef>,
-    columns: &List<List<Option<usize>>>,
-    slots: &[Option<Binding>],
-    table: u32,
-    key: &[Term],
-) -> Result<Plan, Halt>
-    ensures { Gives result (plan_delete tables.now columns.now table key.now slots.now) }
-{
-    let def = find_table(tables, table)?;
-    let key = eval_all(alloc, columns, slots, key)?;
-    let read = point_read(def, table, key)?;
-    Ok(Plan::Ask {
-        read,
-        pending: Pending::Delete,
-    })
+    /// The point read of a key whose row gets values in columns.
+    fn update(&self, table: u32, key: &[Term], settings: &[Setting]) -> Result<Plan, Halt>
+        ensures { Gives result (plan_update self.now.tables.now self.now.columns.now table key.now settings.now self.now.slots.now) }
+    {
+        let def = find_table(self.tables, table)?;
+        let key = eval_key(self.alloc, self.columns, self.slots, key)?;
+        let changes = eval_settings(self.alloc, self.columns, self.slots, settings)?;
+        let read = point_read(def, table, key)?;
+        Ok(Plan::Ask {
+            read,
+            pending: Pending::Update { changes },
+        })
+    }
+    /// What a statement comes to, or why the run stops there.
+    fn plan(&self, action: &Action) -> Result<Plan, Halt>
+        ensures { Gives result (plan_of self.now.tables.now self.now.columns.now action.now self.now.slots.now) }
+    {
+        match action {
+            Action::Set { slot, value } => self.set(*slot, value),
+            Action::If { test, .. } => self.test(test),
+            Action::Get {
+                slot,
+                table,
+                key,
+                ..
+            } => self.ask_key(*table, key.as_slice(), Pending::Get { slot: *slot }),
+            Action::For {
+                slot,
+                table,
+                column,
+                low,
+                high,
+                ..
+            } => self.ask_span(*slot, *table, *column, low, high),
+            Action::Insert { table, values } => self.insert(*table, values.as_slice()),
+            Action::Update {
+                table,
+                key,
+                settings,
+            } => self.update(*table, key.as_slice(), settings.as_slice()),
+            Action::Delete { table, key } => self.ask_key(*table, key.as_slice(), Pending::Delete),
+            Action::Fail { text } => Err(Halt::Stop(Stop::Fault(Fault::Failed(text.copy(
+                self.alloc,
+            )?)))),
+        }
+    }
 }
 
 /// What a statement comes to, where the slots say what the variables stand for, or why the run stops there.
@@ -232,54 +224,11 @@ pub fn plan_action(
 ) -> Result<Plan, Halt>
     ensures { Gives result (plan_of tables.now columns.now action.now slots.now) }
 {
-    match action {
-        Action::Set { slot, value } => plan_set(alloc, columns, slots, *slot, value),
-        Action::If { test, .. } => plan_if(alloc, columns, slots, test),
-        Action::Get {
-            slot,
-            table,
-            key,
-            ..
-        } => plan_get(alloc, tables, columns, slots, *slot, *table, key.as_slice()),
-        Action::For {
-            slot,
-            table,
-            column,
-            low,
-            high,
-            ..
-        } => plan_for(
-            alloc, tables, columns, slots, *slot, *table, *column, low, high,
-        ),
-        Action::Insert { table, values } => plan_insert(
-            alloc,
-            tables,
-            columns,
-            slots,
-            *table,
-            values.as_slice(),
-        ),
-        Action::Update {
-            table,
-            key,
-            settings,
-        } => plan_update(
-            alloc,
-            tables,
-            columns,
-            slots,
-            *table,
-            key.as_slice(),
-            settings.as_slice(),
-        ),
-        Action::Delete { table, key } => plan_delete(
-            alloc,
-            tables,
-            columns,
-            slots,
-            *table,
-            key.as_slice(),
-        ),
-        Action::Fail { text } => Err(Halt::Stop(Stop::Fault(Fault::Failed(text.copy(alloc)?)))),
-    }
+    let scene = Scene {
+        alloc,
+        tables,
+        columns,
+        slots,
+    };
+    scene.plan(action)
 }

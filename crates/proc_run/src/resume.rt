@@ -18,13 +18,13 @@ ghost use Rattle.proc_run.specs.declared.place.Branch.TheVariants.{First, Second
 ghost use Rattle.proc_run.specs.Place.{part_of, block_of, frames_of};
 ghost use Rattle.proc_run.specs.Remains.{state, seen_in, StandInOrder, at_key, answered, run_frames, Ends, Comes, KeepsFound};
 
-use crate::place::{Branch, Spot};
+use crate::place::{Branch, Holder, Spot};
 use crate::plan::{Pending, find_table};
 use crate::state::Run;
-use crate::turn::{push, put};
+use crate::turn::{hold, push_block, push_rows};
 use proc_eval::Halt;
 use proc_eval::fit::{is_under, with_columns};
-use proc_syntax::{Binding, Fault, Stop};
+use proc_syntax::{Fault, Stop};
 use rel_base::{Key, List, Made, NoMemory, Read, Row, Seen, TableDef, Twin, Value};
 use row_sets::Overlay;
 use std::alloc::Global;
@@ -169,14 +169,12 @@ fn enter(
     alloc: Global,
     spots: &mut Vec<Spot>,
     run: &mut Run,
-    at: usize,
-    slot: usize,
-    table: u32,
+    holder: Holder,
     seen: &[Row],
 ) -> Result<(), NoMemory>
     requires { vec_len spots.old < vec_capacity spots.old }
     ensures goes { OnOk result ((tables : List Def) (columns : List (List (Option ℕ))) (S : Tables) (root : List Act) (read : Asked) (rows : List SeenRow) → run_frames tables columns S (frames_of root spots.new.items) (asked (state run.new) read rows)
-        ≡ then_do (held_or (hold slot table) (do_all tables columns S (part_of (block_of root spots.old.items) at First)) (do_all tables columns S (part_of (block_of root spots.old.items) at Second)) seen.now (asked (state run.old) read rows)) (run_frames tables columns S (frames_of root spots.old.items))) }
+        ≡ then_do (held_or (hold holder.slot holder.table) (do_all tables columns S (part_of (block_of root spots.old.items) holder.at First)) (do_all tables columns S (part_of (block_of root spots.old.items) holder.at Second)) seen.now (asked (state run.old) read rows)) (run_frames tables columns S (frames_of root spots.old.items))) }
     ensures own { run.new.own ≡ run.old.own }
     ensures made { run.new.made ≡ run.old.made }
     ensures steps { run.new.steps ≡ run.old.steps }
@@ -184,26 +182,24 @@ fn enter(
 {
     match seen.first() {
         None => {
-            let spot = Spot::Block {
-                at,
-                branch: Branch::Second,
-                next: 0,
-            };
-            push(spots, spot);
+            push_block(spots, holder.at, Branch::Second, 0);
             Ok(())
         }
         Some(row) => {
             let row = row.copy(alloc)?;
-            put(&mut run.slots, slot, Binding::Held { table, row });
-            let spot = Spot::Block {
-                at,
-                branch: Branch::First,
-                next: 0,
-            };
-            push(spots, spot);
+            hold(&mut run.slots, holder, row);
+            push_block(spots, holder.at, Branch::First, 0);
             Ok(())
         }
     }
+}
+
+/// The rows that a read of the statement of a number got of the tables, and what is done with them.
+#[derive(Clone, Copy)]
+pub struct Answer<'a> {
+    pub at: usize,
+    pub made: &'a Made,
+    pub pending: &'a Pending,
 }
 
 /// Goes on with the rows that a read got of the tables. There is room for a spot. Where memory is wanting, all is as before.
@@ -212,55 +208,37 @@ pub fn resume(
     tables: &List<TableDef>,
     spots: &mut Vec<Spot>,
     run: &mut Run,
-    at: usize,
-    made: &Made,
-    pending: &Pending,
+    answer: &Answer<'_>,
 ) -> Result<(), Halt>
     requires room { vec_len spots.old < vec_capacity spots.old }
-    requires order { StandInOrder tables.now made.now.read made.now.rows }
-    ensures comes { (columns : List (List (Option ℕ))) (S : Tables) (root : List Act) → Comes result (run_frames tables.now columns S (frames_of root spots.new.items) (asked (state run.new) made.now.read made.now.rows))
-        (asked (state run.new) made.now.read made.now.rows)
-        (then_do (answered tables.now columns S (part_of (block_of root spots.old.items) at First) (part_of (block_of root spots.old.items) at Second) made.now.read pending.now made.now.rows (state run.old)) (run_frames tables.now columns S (frames_of root spots.old.items))) }
-    ensures found { KeepsFound made.now.read made.now.rows run.old.own run.new.own }
+    requires order { StandInOrder tables.now answer.now.made.now.read answer.now.made.now.rows }
+    ensures comes { (columns : List (List (Option ℕ))) (S : Tables) (root : List Act) → Comes result (run_frames tables.now columns S (frames_of root spots.new.items) (asked (state run.new) answer.now.made.now.read answer.now.made.now.rows))
+        (asked (state run.new) answer.now.made.now.read answer.now.made.now.rows)
+        (then_do (answered tables.now columns S (part_of (block_of root spots.old.items) answer.now.at First) (part_of (block_of root spots.old.items) answer.now.at Second) answer.now.made.now.read answer.now.pending.now answer.now.made.now.rows (state run.old)) (run_frames tables.now columns S (frames_of root spots.old.items))) }
+    ensures found { KeepsFound answer.now.made.now.read answer.now.made.now.rows run.old.own run.new.own }
     ensures made { run.new.made ≡ run.old.made }
     ensures steps { run.new.steps ≡ run.old.steps }
     ensures err { result ≡ Err halt.NoMemory → (spots.new.items ≡ spots.old.items) × (run.new ≡ run.old) }
 {
+    let Answer { at, made, pending } = *answer;
     let seen = seen_rows(alloc, tables, &run.own, made)?;
+    let table = made.read.table();
     match pending {
         Pending::Insert { row } => put_new(alloc, made, row, seen.as_slice(), run),
-        Pending::Update { changes } => put_changed(
-            alloc,
-            tables,
-            made,
-            changes.as_slice(),
-            seen.as_slice(),
-            run,
-        ),
+        Pending::Update { changes } => {
+            let changes = changes.as_slice();
+            put_changed(alloc, tables, made, changes, seen.as_slice(), run)
+        }
         Pending::Delete => put_none(alloc, made, seen.as_slice(), run),
         Pending::Get { slot } => {
-            enter(
-                alloc,
-                spots,
-                run,
-                at,
-                *slot,
-                made.read.table(),
-                seen.as_slice(),
-            )?;
+            let slot = *slot;
+            let holder = Holder { at, slot, table };
+            enter(alloc, spots, run, holder, seen.as_slice())?;
             Ok(())
         }
         Pending::For { slot } => {
-            push(
-                spots,
-                Spot::Loop {
-                    at,
-                    slot: *slot,
-                    table: made.read.table(),
-                    rows: seen,
-                    next: 0,
-                },
-            );
+            let slot = *slot;
+            push_rows(spots, Holder { at, slot, table }, seen, 0);
             Ok(())
         }
     }

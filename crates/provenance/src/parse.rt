@@ -28,8 +28,8 @@ fn read_history(alloc: Global, bytes: &[u8]) -> Result<Query, LiteralFault>
     ensures { Gives result (history_form bytes.now) }
 {
     let (table, rest) = read_name(alloc, bytes)?;
-    let key = read_args(alloc, rest)?;
-    keyed(table, key)
+    let values = read_args(alloc, rest)?;
+    keyed(table, Key::from_list(values))
 }
 
 /// Reads a space and a number.

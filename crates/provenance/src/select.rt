@@ -108,13 +108,13 @@ fn chain<V: Versions>(
     tables: &List<TableDef>,
     versions: &V,
     table: u32,
-    key: &Key,
+    key: Key,
 ) -> Result<List<Lifespan>, NoMemory>
     requires tables { V.tables versions.now ≡ tables.now }
-    ensures { IfOk result (λ spans. spans ≡ declared_spans tables.now (V.history versions.now) (table, key.now)) }
+    ensures { IfOk result (λ spans. spans ≡ declared_spans tables.now (V.history versions.now) (table, key)) }
 {
     if (table as usize) < tables.len() {
-        versions.chain_of(table, key)
+        versions.chain_of(table, &key)
     } else {
         Ok(List::new(alloc))
     }
@@ -136,7 +136,7 @@ fn written<V: Versions>(
     let keys = keys_by(alloc, blocks.as_slice(), id)?;
     let mut told = List::new(alloc);
     for (table, key) in keys {
-        let spans = chain(alloc, tables, versions, table, &key)?;
+        let spans = chain(alloc, tables, versions, table, key)?;
         push_chosen(
             alloc,
             blocks.as_slice(),

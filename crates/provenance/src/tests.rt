@@ -1,9 +1,9 @@
 use super::{Query, QueryFault, parse_query};
-use rel_base::{List, Str, Value};
+use rel_base::{Key, Str, Value};
 use std::alloc::Global;
 use std::test::Fail;
 
-fn is_history(alloc: Global, text: &str, wanted_table: &str, wanted_key: &List<Value>) -> bool {
+fn is_history(alloc: Global, text: &str, wanted_table: &str, wanted_key: &Key) -> bool {
     match parse_query(alloc, text) {
         Ok(Query::History { table, key }) => table.as_str() == wanted_table && key == *wanted_key,
         _ => false,
@@ -33,7 +33,7 @@ fn is_bad(alloc: Global, text: &str) -> bool {
 fn queries(rt: HostRuntime) -> Result<(), Fail> {
     let alloc = rt.alloc();
     let city = Value::Text(Str::new(alloc, "new york")?);
-    let key = List::from_vec(vec![in alloc; city, Value::Int(-2)]?);
+    let key = Key::of(city).with(alloc, Value::Int(-2))?;
     assert!(rt; is_history(alloc, "history lots \"new york\" -2", "lots", &key));
     assert!(rt;
         is_between(

@@ -3,6 +3,7 @@ ghost use Rattle.rel_base.specs.Value.{kind_of};
 ghost use Rattle.rel_base.specs.declared.value.Kind.TheVariants as kind;
 
 use super::blob::{Blob, BlobFault};
+use super::key::Key;
 use super::list::List;
 use super::memory::Twin;
 use super::name::{Id, Name, NameFault};
@@ -99,6 +100,26 @@ fn rows_with_several_owners(rt: HostRuntime) -> Result<(), Fail> {
     assert_eq!(rt; longer.len(), 3);
     assert_eq!(rt; ann.len(), 2);
     assert!(rt; longer != ann);
+    Ok(())
+}
+
+#[test]
+fn keys_of_one_value_and_of_more(rt: HostRuntime) -> Result<(), Fail> {
+    let alloc = rt.alloc();
+    let one = Key::of(Value::Int(1));
+    let two = one.copy(alloc)?.with(alloc, Value::Int(-5))?;
+    let three = two.copy(alloc)?.with(alloc, Value::Bool(true))?;
+    assert!(rt; Key::new() < one);
+    assert!(rt; one < two);
+    assert!(rt; two < three);
+    assert!(rt; three < Key::of(Value::Int(2)));
+    assert!(rt; Key::new().with(alloc, Value::Int(1))? == one);
+    assert!(rt;
+        matches!(
+            three.as_slice(),
+            [Value::Int(1), Value::Int(-5), Value::Bool(true)]
+        )
+    );
     Ok(())
 }
 

@@ -6,7 +6,7 @@ ghost use Rattle.rel_base.specs.Access.{covers_row};
 ghost use Rattle.rel_base.specs.Schema.{key_of_row};
 
 use rel_base::access::is_between;
-use rel_base::{Key, List, NoMemory, Read, Row, TableDef, Twin, Value};
+use rel_base::{Key, NoMemory, Read, Row, TableDef, Twin, Value};
 use std::alloc::Global;
 
 /// The value of a row in a column, where it has one, and else 0.
@@ -23,10 +23,10 @@ fn value_or_zero(alloc: Global, row: &Row, column: u32) -> Result<Value, NoMemor
 pub fn key_by(alloc: Global, def: &TableDef, row: &Row) -> Result<Key, NoMemory>
     ensures { IfOk result (λ key. key ≡ key_of_row def.now row.now) }
 {
-    let mut key = List::new(alloc);
+    let mut key = Key::new();
     for column in def.key.as_slice() {
         let value = value_or_zero(alloc, row, *column)?;
-        key.push(value)?;
+        key = key.with(alloc, value)?;
     }
     Ok(key)
 }

@@ -15,8 +15,8 @@ fn one<T: Drop>(alloc: Global, item: T) -> Result<List<T>, Fail>
     Ok(list)
 }
 
-fn key(alloc: Global, id: i64) -> Result<Key, Fail> {
-    one(alloc, Value::Int(id))
+fn key(id: i64) -> Key {
+    Key::of(Value::Int(id))
 }
 
 fn account(alloc: Global, id: i64, amount: i64) -> Result<Row, Fail> {
@@ -44,7 +44,7 @@ fn put(
 ) -> Result<(), Fail> {
     let before = maybe(alloc, id, before)?;
     let after = maybe(alloc, id, after)?;
-    overlay.put(table, key(alloc, id)?, before, after)?;
+    overlay.put(table, key(id), before, after)?;
     Ok(())
 }
 

@@ -8,7 +8,7 @@ use plain_run::RowTables;
 use proc_check::{Checked, check};
 use proc_parse::parse;
 use proc_syntax::{Ending, Fault, Tx};
-use rel_base::{Blob, Id, List, Name, Place, Row, Str, Value, Write};
+use rel_base::{Blob, Id, Key, List, Name, Place, Row, Str, Value, Write};
 use std::alloc::Global;
 use std::sync::Arc;
 use std::test::Fail;
@@ -135,9 +135,9 @@ fn add_row(
     in_key: usize,
     row: &[Arg<'_>],
 ) -> Result<(), Fail> {
-    let mut key = List::new(alloc);
+    let mut key = Key::new();
     for arg in row.iter().take(in_key) {
-        key.push(value(alloc, *arg)?)?;
+        key = key.with(alloc, value(alloc, *arg)?)?;
     }
     writes.push(Write {
         table: 0,

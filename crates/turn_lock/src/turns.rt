@@ -38,7 +38,7 @@ const AWAITED: u32 = 2;
 const LENGTH: usize = 1;
 
 // How often a pass looks whether the turn is over before its thread sleeps. A turn takes a few of these looks.
-const LOOKS_BEFORE_SLEEP: u32 = 104;
+const LOOKS_BEFORE_SLEEP: u32 = 2004;
 
 // Before so many of the last looks the thread lets others run, since the one that has the turn may wait for a processor.
 const YIELDS_BEFORE_SLEEP: u32 = 4;
@@ -91,7 +91,7 @@ impl<S: Storied> TurnLock<S> {
     }
 
     /// Begins a turn: the value, whose story begins with all that the pass had seen. It waits while another pass has the
-    /// turn, asleep after a few looks.
+    /// turn, asleep after some looks.
     pub fn take<R: Wait>(&self, rt: &R, pass: &mut Pass<S>) -> S
         requires lock { IsPassOf self.now pass.old }
         requires no_turn { HoldsNoTurn pass.old }
@@ -122,6 +122,8 @@ impl<S: Storied> TurnLock<S> {
                 if shared.compare_exchange::<Mark>(&mut pass.seat, TURN, TAKEN, taken) != FREE {
                     shared.park(rt, TURN, AWAITED);
                 }
+                // who was woken looks again, since to fall asleep at once would cost the next turn's end another call of the system
+                looks = LOOKS_BEFORE_SLEEP;
             }
         }
         unreachable!()

@@ -27,6 +27,7 @@ pub mod Story
 pub mod Wanted
 pub mod Watching
 pub mod Answered
+pub mod Sought
 pub mod Ordered
 pub mod Behind
 pub mod Keeping

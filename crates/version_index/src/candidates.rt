@@ -9,7 +9,7 @@ ghost use Rattle.version_index.specs.View.{IsView, history_in};
 use crate::column::Column;
 use crate::living::{Living, Marks};
 use crate::view::TableView;
-use rel_base::{Key, List, NoMemory, Twin, Value};
+use rel_base::{Key, NoMemory, Twin, Value};
 use row_sets::entry::entry_at;
 use std::alloc::Global;
 use std::ops::Bound;
@@ -81,6 +81,19 @@ fn add_marked<'a>(
     Ok(())
 }
 
+/// Adds the keys of the slots that are marked. Room for all of them is taken at once.
+fn add_all_marked<'a>(
+    view: &TableView<'a>,
+    found: &mut Vec<Candidate<'a>>,
+    marks: &Marks,
+) -> Result<(), NoMemory>
+    requires { IsView view.now }
+    ensures { OnOk result (Adds view.now.index.now.chains found.old.items found.new.items (IsMarked view.now marks.now)) }
+{
+    found.reserve(marks.len())?;
+    add_marked(view, found, marks)
+}
+
 /// The end of a span that may be there.
 fn end(value: &Option<Value>) -> Bound<&Value>
     ensures { bound_map (λ v. v.now) result ≡ end_of value.now }
@@ -114,7 +127,7 @@ fn add_range<'a>(
     ensures { OnOk result (Adds view.now.index.now.chains found.old.items found.new.items (IsMarkedBetween view.now living.now.entries low.now high.now)) }
 {
     for (_, marks) in living.range((end(low), end(high))) {
-        add_marked(view, found, marks)?;
+        add_all_marked(view, found, marks)?;
     }
     Ok(())
 }
@@ -141,9 +154,8 @@ pub fn add_living<'a>(
 fn key_of_value(alloc: Global, value: &Value) -> Result<Key, NoMemory>
     ensures { IfOk result (λ key. key ≡ value.now ∷ []) }
 {
-    let mut key = List::new(alloc);
-    key.push(value.copy(alloc)?)?;
-    Ok(key)
+    let value = value.copy(alloc)?;
+    Ok(Key::of(value))
 }
 
 /// The end of a span that may be there, as one of keys of one value.

@@ -11,14 +11,14 @@ ghost use Rattle.row_sets.specs.Log.{history_of};
 ghost use Rattle.version_index.specs.Candidates.{Adds, IsCandidate, has_key, only_value};
 ghost use Rattle.version_index.specs.Columns.{IsColumn};
 ghost use Rattle.version_index.specs.Log.{InOrder};
-ghost use Rattle.version_index.specs.Rows.{rows_of_keys};
+ghost use Rattle.version_index.specs.Rows.{IsValueOf, rows_of_keys};
 ghost use Rattle.version_index.specs.Span.{HasCellAt, HasKeyAt, IsChangedAbove, IsChangedBetween, IsTouchedSince, IsWantedBy, distinct, is_again, keys_in};
 ghost use Rattle.version_index.specs.View.{IsAsked, IsView, history_in};
 
 use crate::candidates::{Candidate, add_from, add_keys, add_living, add_touched};
 use crate::column::Column;
 use crate::index::TableIndex;
-use crate::rows::add_key;
+use crate::rows::add_key_with;
 use crate::view::{Look, TableView};
 use rel_base::{Key, List, NoMemory, Seen, Value};
 use row_sets::entry::{Entry, entry_at};
@@ -156,23 +156,26 @@ fn is_last(last: Option<&Key>, key: &Key) -> bool
     }
 }
 
-/// The rows of keys after the block of a height that a read covers, in the order of the keys. Some keys may stand there more than once.
+/// The rows of keys after the block of a height that a read covers, in the order of the keys. Some keys may stand there more than once,
+/// and the one value of the read may be given.
 fn rows_of_found(
     alloc: Global,
     view: &TableView<'_>,
     look: &Look<'_>,
+    value: Option<&Value>,
     found: &[Candidate<'_>],
 ) -> Result<List<Seen>, NoMemory>
     requires view { IsView view.now }
     requires look { IsAsked look.now.def.now look.now.read.now view.now }
+    requires value { IsValueOf look.now.read.now (option_copied value) }
     requires found { All (IsCandidate view.now.index.now.chains) found.now }
     ensures { IfOk result (λ rows. rows ≡ rows_of_keys look.now.def.now look.now.read.now (tables_at look.now.height (history_in view.now)) view.now.table (distinct None (keys_in found.now))) }
 {
-    let mut rows = List::new(alloc);
+    let mut rows = List::from_vec(Vec::with_capacity(alloc, found.len())?);
     let mut last = None;
     for (key, slot) in found {
         if !is_last(last, *key) {
-            add_key(alloc, &mut rows, view, look, *key, *slot)?;
+            add_key_with(alloc, &mut rows, view, look, value, *key, *slot)?;
             last = Some(*key);
         }
     }
@@ -217,5 +220,5 @@ pub fn rows_of_span(
     ensures { IfOk result (λ seen. seen ≡ rows look.now.def.now look.now.read.now (tables_at look.now.height (history_in view.now))) }
 {
     let found = keys_of_span(alloc, view, column, low, high, look.height)?;
-    rows_of_found(alloc, view, look, found.as_slice())
+    rows_of_found(alloc, view, look, one_value(low, high), found.as_slice())
 }

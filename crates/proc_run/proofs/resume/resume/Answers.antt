@@ -4,4 +4,4 @@ use Rattle.proc_run.proofs.resume.resume.Goals as goal
 
 pub returns-in-For-clause-comes : goal.returns-in-For-clause-comes
 returns-in-For-clause-comes c = λ columns S root.
-    rw (c.push.ensures.items, path_push, c.in-For.is, c.table-in-For.ensures, c.in_ok-seen.ensures) refl
+    rw (c.push_rows.ensures.items, path_push, c.in-For.is, c.table-table.ensures, c.in_ok-seen.ensures) refl

@@ -8,7 +8,7 @@ use Rattle.proc_run.proofs.turn.advance.Given as goal
 abbrev pub invariant-loop-spots : goal.invariant-loop-spots
 invariant-loop-spots l =
     (l.run.steps ≤ 100000) × (l.run.made ≡ l.fn.run.made) × (l.run.own ≡ l.fn.run.own)
-    × ((S : Tables) → run_frames l.tables l.columns S (frames_of l.root l.spots.items) (state l.run) ≡ run_frames l.tables l.columns S (frames_of l.root l.fn.spots.items) (state l.fn.run))
+    × ((S : Tables) → run_frames l.program.tables.now l.program.columns.now S (frames_of l.program.root.now l.spots.items) (state l.run) ≡ run_frames l.program.tables.now l.program.columns.now S (frames_of l.program.root.now l.fn.spots.items) (state l.fn.run))
 
 -- each turn counts a step, or takes a spot off the path
 abbrev pub decreases-loop-spots : goal.decreases-loop-spots

@@ -10,31 +10,32 @@ use Rattle.proc_run.proofs.turn.turn_block.Goals as goal
 
 pub returns-then-next-block-clause-remains : goal.returns-then-next-block-clause-remains
 returns-then-next-block-clause-remains c = λ S.
-    let b = c.part-block.ensures ∙ ap (λ z. part_of z c.args.at c.args.branch) (c.block_at.ensures ∙ ap (block_of c.args.root.now) c.deref.ensures.value) in
-    block_over c.args.tables.now c.args.columns.now S c.args.root.now c.args.spots.now.items c.args.at c.args.next c.args.branch c.part-block.result.now (state c.args.run.now) b c.if-next-block.true
+    let b = c.part-block.ensures ∙ ap (λ z. part_of z c.args.cursor.at c.args.cursor.branch) (c.block_at.ensures ∙ ap (block_of c.args.program.now.root.now) c.deref.ensures.value) in
+    block_over c.args.program.now.tables.now c.args.program.now.columns.now S c.args.program.now.root.now c.args.spots.now.items c.args.cursor.at c.args.cursor.next c.args.cursor.branch c.part-block.result.now (state c.args.run.now) b c.if-next-block.true
 
 pub returns-then-run-ge-MOST_STEPS-clause-remains : goal.returns-then-run-ge-MOST_STEPS-clause-remains
 returns-then-run-ge-MOST_STEPS-clause-remains c = λ S.
-    let b = c.part-block.ensures ∙ ap (λ z. part_of z c.args.at c.args.branch) (c.block_at.ensures ∙ ap (block_of c.args.root.now) c.deref.ensures.value) in
-    let a = some_left c.part-block.result.now c.args.next c.if-next-block.false in
-    block_late c.args.tables.now c.args.columns.now S c.args.root.now c.args.spots.now.items c.args.at c.args.next c.args.branch c.part-block.result.now (state c.args.run.now) b a.0 a.1 c.if-run-ge-MOST_STEPS.true
+    let b = c.part-block.ensures ∙ ap (λ z. part_of z c.args.cursor.at c.args.cursor.branch) (c.block_at.ensures ∙ ap (block_of c.args.program.now.root.now) c.deref.ensures.value) in
+    let a = some_left c.part-block.result.now c.args.cursor.next c.if-next-block.false in
+    block_late c.args.program.now.tables.now c.args.program.now.columns.now S c.args.program.now.root.now c.args.spots.now.items c.args.cursor.at c.args.cursor.next c.args.cursor.branch c.part-block.result.now (state c.args.run.now) b a.0 a.1 c.if-run-ge-MOST_STEPS.true
 
 pub returns-in-Err-Stop-clause-remains : goal.returns-in-Err-Stop-clause-remains
 returns-in-Err-Stop-clause-remains c = λ S.
-    let b = c.part-block.ensures ∙ ap (λ z. part_of z c.args.at c.args.branch) (c.block_at.ensures ∙ ap (block_of c.args.root.now) c.deref.ensures.value) in
-    let here : slice_get c.part-block.result.now c.args.next ≡ Some c.index-block-next.result = slice_get-get_or c.part-block.result.now c.args.next c.index-block-next.result c.if-next-block.false ∙ ap Some (sym c.index-block-next.is) in
-    let why : plan_of c.args.tables.now c.args.columns.now c.index-block-next.result c.as_slice.result.now ≡ Err c.in-Err-Stop.why = rw c.in-Err-Stop.field-0-is at c.in-Err-Stop.ensures in
-    let stops = ap (plan_of c.args.tables.now c.args.columns.now c.index-block-next.result) (sym c.as_slice.ensures) ∙ why in
-    block_stops c.args.tables.now c.args.columns.now S c.args.root.now c.args.spots.now.items c.args.at c.args.next c.args.branch c.part-block.result.now (state c.args.run.now) b c.index-block-next.result here c.in-Err-Stop.why c.if-run-ge-MOST_STEPS.false stops
+    let b = c.part-block.ensures ∙ ap (λ z. part_of z c.args.cursor.at c.args.cursor.branch) (c.block_at.ensures ∙ ap (block_of c.args.program.now.root.now) c.deref.ensures.value) in
+    let here : slice_get c.part-block.result.now c.args.cursor.next ≡ Some c.index-block-next.result = slice_get-get_or c.part-block.result.now c.args.cursor.next c.index-block-next.result c.if-next-block.false ∙ ap Some (sym c.index-block-next.is) in
+    let why : plan_of c.args.program.now.tables.now c.args.program.now.columns.now c.index-block-next.result c.as_slice-slots.result.now ≡ Err c.in-Err-Stop.why = rw c.in-Err-Stop.field-0-is at c.in-Err-Stop.ensures in
+    let stops = ap (plan_of c.args.program.now.tables.now c.args.program.now.columns.now c.index-block-next.result) (sym c.as_slice-slots.ensures) ∙ why in
+    rw c.in-Err-Stop.field-0-is
+    (block_stops c.args.program.now.tables.now c.args.program.now.columns.now S c.args.program.now.root.now c.args.spots.now.items c.args.cursor.at c.args.cursor.next c.args.cursor.branch c.part-block.result.now (state c.args.run.now) b c.index-block-next.result here c.in-Err-Stop.why c.if-run-ge-MOST_STEPS.false stops)
 
 pub returns-in-Ok-clause-remains : goal.returns-in-Ok-clause-remains
 returns-in-Ok-clause-remains c = λ S.
-    let b = c.part-block.ensures ∙ ap (λ z. part_of z c.args.at c.args.branch) (c.block_at.ensures ∙ ap (block_of c.args.root.now) c.deref.ensures.value) in
-    let here : slice_get c.part-block.result.now c.args.next ≡ Some c.index-block-next.result = slice_get-get_or c.part-block.result.now c.args.next c.index-block-next.result c.if-next-block.false ∙ ap Some (sym c.index-block-next.is) in
-    let goes = ap (plan_of c.args.tables.now c.args.columns.now c.index-block-next.result) (sym c.as_slice.ensures) ∙ c.in-Ok.ensures in
-    rw (c.perform.ensures.remains c.args.tables.now c.args.columns.now S c.args.root.now, c.push-in-Ok.ensures.items)
-    (block_goes c.args.tables.now c.args.columns.now S c.args.root.now c.args.spots.now.items c.args.at c.args.next c.args.branch c.part-block.result.now (state c.args.run.now) b c.index-block-next.result here c.in-Ok.plan c.if-run-ge-MOST_STEPS.false goes)
+    let b = c.part-block.ensures ∙ ap (λ z. part_of z c.args.cursor.at c.args.cursor.branch) (c.block_at.ensures ∙ ap (block_of c.args.program.now.root.now) c.deref.ensures.value) in
+    let here : slice_get c.part-block.result.now c.args.cursor.next ≡ Some c.index-block-next.result = slice_get-get_or c.part-block.result.now c.args.cursor.next c.index-block-next.result c.if-next-block.false ∙ ap Some (sym c.index-block-next.is) in
+    let goes = ap (plan_of c.args.program.now.tables.now c.args.program.now.columns.now c.index-block-next.result) (sym c.as_slice-slots.ensures) ∙ c.in-Ok.ensures in
+    rw (c.perform.ensures.remains c.args.program.now.tables.now c.args.program.now.columns.now S c.args.program.now.root.now)
+    (block_goes c.args.program.now.tables.now c.args.program.now.columns.now S c.args.program.now.root.now c.args.spots.now.items c.args.cursor.at c.args.cursor.next c.args.cursor.branch c.part-block.result.now (state c.args.run.now) b c.index-block-next.result here c.in-Ok.plan c.if-run-ge-MOST_STEPS.false goes)
 
 pub returns-in-Ok-clause-fits : goal.returns-in-Ok-clause-fits
 returns-in-Ok-clause-fits c =
-    c.perform.ensures.fits c.args.tables.now (subst (λ r. IfOk r (PlanFits c.args.tables.now)) c.in-Ok.ensures (plan_fits c.args.tables.now c.args.columns.now c.index-block-next.result c.as_slice.result.now))
+    c.perform.ensures.fits c.args.program.now.tables.now (subst (λ r. IfOk r (PlanFits c.args.program.now.tables.now)) c.in-Ok.ensures (plan_fits c.args.program.now.tables.now c.args.program.now.columns.now c.index-block-next.result c.as_slice-slots.result.now))

@@ -18,7 +18,7 @@ loop-marks-preserved c =
     let done = c.loop-marks.invariant in (
       done.0 ++ e ∷ [],
       one_over done.0 c.loop-marks.marks-iterator c.next.new.self c.into_iter-marks-iterator.result e done.1 c.in-Some.ensures.steps,
-      each_next c.args.view.now.index.now.chains (λ e key. IsMarked c.args.view.now e.1 key) done.0 e c.args.found.now.items c.loop-marks.found.items c.add_marked.new.found.items done.2 c.in_ok-add_marked.ensures,
+      each_next c.args.view.now.index.now.chains (λ e key. IsMarked c.args.view.now e.1 key) done.0 e c.args.found.now.items c.loop-marks.found.items c.add_all_marked.new.found.items done.2 c.in_ok-add_all_marked.ensures,
     )
 
 pub returns : goal.returns

@@ -1,11 +1,17 @@
 use Rattle.std.proofs.Common.{◌≡◌, IfOk, None, subst, sym, true, List}
 use Rattle.std.specs.List.Sorted.{IsStrictlySortedBy}
+use Rattle.std.specs.Option.{option_copied}
 use Rattle.rel_base.specs.Value.{key_cmp}
 use Rattle.rel_base.specs.declared.value.Value.{Value}
 use Rattle.version_index.specs.Candidates.{has_key}
 use Rattle.version_index.specs.Span.{IsWantedBy, distinct, keys_in}
 use Rattle.version_index.proofs.Answered.{span_rows}
+use Rattle.version_index.proofs.Sought.{value_given}
 use Rattle.version_index.proofs.span.rows_of_span.Goals as goal
+
+-- the value that is given is the one of the span
+pub rows_of_found-requires-clause-value : goal.rows_of_found-requires-clause-value
+rows_of_found-requires-clause-value c = value_given c.args.look.now.read.now (option_copied c.one_value.result) c.requires.span c.one_value.ensures
 
 -- among the keys are all that the span wants
 pub returns : goal.returns

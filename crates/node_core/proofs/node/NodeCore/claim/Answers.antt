@@ -1,6 +1,6 @@
-use Rattle.std.proofs.Common.{Some, [], ap, rules, subst, sym, ◌+◌, ◌++◌, ◌∙◌, ◌≡◌, ◌≤◌, ◌∷◌, false, None}
+use Rattle.std.proofs.Common.{List, Some, [], ap, rules, subst, sym, ◌+◌, ◌++◌, ◌∙◌, ◌≡◌, ◌≤◌, ◌∷◌, false, None}
 use Rattle.std.specs.Option.{option_map}
-use Rattle.std.specs.Prelude.{vec_capacity, vec_len}
+use Rattle.std.specs.Prelude.{Err, Ok, OnErr, Result, vec_capacity, vec_len}
 use Rattle.node_core.proofs.Claims.{claim_held, claim_kept, claim_room, claim_there, claim_waits}
 use Rattle.node_core.specs.Core.{Core, MayAsk, world_of}
 use Rattle.node_core.specs.Rows.{count_held, put_row, row_at}
@@ -8,6 +8,7 @@ use Rattle.node_core.specs.declared.jobs.Stage.TheVariants.{Held}
 use Rattle.node_model.specs.History.{time_at}
 use Rattle.node_model.specs.Journals.{world}
 use Rattle.node_model.specs.Steps.{ToClaim, chosen}
+use Rattle.node_model.specs.declared.journal.Entry.{Entry}
 use Rattle.node_model.specs.declared.journal.Event.TheVariants.{Claim}
 use Rattle.proc_syntax.specs.declared.call.Tx.{Tx}
 use Rattle.node_core.proofs.node.NodeCore.claim.Goals as goal
@@ -59,3 +60,16 @@ returns-in_ok-make_room-in-Some-clause-held g c =
     let sealed = (world s.chain.app.value.app s.journal.items).sealed in
     let time : c.time_of-time.result ≡ time_at tx.height sealed = c.time_of-time.ensures sealed c.self.invariant.0.holds ∙ ap (λ (t : Tx). time_at t.height sealed) c.deref.ensures in
     claim_held _ c.self.invariant.0 c.args.actor c.in-Some.job c.args.pick may is c.push_reserved.new.self.items more c.new.result c.in_ok-machine-in-Some.machine tx c.time_of-time.result work told shares time
+
+-- what holds whatever a result is holds where it is a failure
+on_err : {A E P : Type 0} (result : Result A E) → P → OnErr result P
+on_err (Ok value) holds = tt
+on_err (Err error) holds = holds
+
+-- room alone was asked for
+pub returns-in_err-make_room-in-Some-clause-err : goal.returns-in_err-make_room-in-Some-clause-err
+returns-in_err-make_room-in-Some-clause-err g c =
+    let s = c.self.inside in
+    let core : List Entry → Core = λ items. record { app = s.chain.app.value.app; journal = items } in
+    let same : c.make_room.new.journal.items ≡ s.journal.items = search rules in
+    on_err c.from_residual-in_err-make_room-in-Some.result (ap core same ∙ c.self.view_is ∙ c.choose.ensures.same)

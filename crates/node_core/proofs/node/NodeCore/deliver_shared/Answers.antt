@@ -7,7 +7,7 @@ use Rattle.node_core.specs.Core.{Core, Delivers}
 use Rattle.node_core.specs.Fresh.{fresh_in}
 use Rattle.node_core.specs.Rows.{count_held, new_row}
 use Rattle.node_model.specs.Fold.{no_work}
-use Rattle.node_model.specs.Steps.{InWork, NotNext, Taken}
+use Rattle.node_model.specs.Steps.{InWork, NotNext, Shared, Taken}
 use Rattle.node_model.specs.declared.journal.Event.TheVariants.{Deliver}
 use Rattle.proc_syntax.specs.Declaring.{tables_of}
 use Rattle.proc_syntax.specs.declared.call.Block.{Block}
@@ -17,7 +17,7 @@ pub returns-in-Some-clause-step : goal.returns-in-Some-clause-step
 returns-in-Some-clause-step g c =
     let s = c.self.inside in
     let here : s.work ≡ Some c.in-Some.working = search rules in
-    subst (λ (b : Block). Delivers c.args.self.now c.args.actor c.args.block.now.value (InWork b.number) c.args.self.now) (sym c.deref.ensures)
+    subst (λ (b : Block). Delivers c.args.self.now c.args.actor c.args.block.now.value (InWork b.number) c.args.self.now) (sym c.get.ensures)
     (subst (λ (core : Core). Delivers core c.args.actor c.args.block.now.value (InWork c.in-Some.working.block.value.number) core) c.self.view_is
     (deliver_in_work _ c.self.invariant.0 c.args.actor c.in-Some.working (record { ptr = s.chain.app.ptr; value = c.args.block.now.value }) here))
 
@@ -43,11 +43,12 @@ invariant_of-self-2 g c =
     let begun : work_of c.new.result ≡ no_work = search rules in
     let number : c.new.result.number ≡ c.args.block.now.value.number = search rules in
     let time : c.new.result.time ≡ c.args.block.now.value.time = search rules in
+    let indexed : c.new-2.result.value ≡ c.args.block.now.value = ap (λ (b : Shared Block). b.value) c.new-2.ensures ∙ shared in
     let fits : vec_len c.push_reserved.new.self + count_held s.jobs ≤ vec_capacity c.push_reserved.new.self = search rules in
     let counted : count_held c.add_all.new.self ≡ count_held s.jobs = ap count_held rows ∙ count_many s.jobs c.in_ok-fresh.fresh.items in (
       deliver_kept _ c.self.invariant.0 c.args.actor none c.requires.processor c.in_ok-shared.shared c.in_ok-noted.noted (shared ∙ sym noted) (ap (λ (b : Block). b.number) noted ∙ next) c.push_reserved.new.self.items more
-          (record { block = c.in_ok-shared.shared; done = c.new.result }) c.in_ok-fresh.fresh.items c.add_all.new.self (shared ∙ sym noted) begun
-          (record { number = number ∙ sym (ap (λ (b : Block). b.number) shared); time = time ∙ sym (ap (λ (b : Block). b.time) shared); consistent = c.new.ensures.consistent (tables_of s.chain.app.value.app) })
+          (record { block = c.new-2.result; done = c.new.result }) c.in_ok-fresh.fresh.items c.add_all.new.self (indexed ∙ sym noted) begun
+          (record { number = number ∙ sym (ap (λ (b : Block). b.number) indexed); time = time ∙ sym (ap (λ (b : Block). b.time) indexed); consistent = c.new.ensures.consistent (tables_of s.chain.app.value.app) })
           (made ∙ ap (λ (b : Block). fresh_in s.chain.app.value.app s.ids s.jobs b.number b.txs 0 b.txs) (sym noted)) rows,
       omega (arith, fits, counted),
     )

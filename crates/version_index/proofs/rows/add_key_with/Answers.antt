@@ -5,7 +5,7 @@ use Rattle.version_index.specs.Rows.{covered_row}
 use Rattle.version_index.specs.View.{history_in}
 use Rattle.version_index.proofs.Visible.{get_seen, seen_by}
 use Rattle.version_index.proofs.Logged.{get_history}
-use Rattle.version_index.proofs.rows.add_key.Goals as goal
+use Rattle.version_index.proofs.rows.add_key_with.Goals as goal
 
 -- no write on the key is so low, so it has no row
 pub returns-in-None : goal.returns-in-None

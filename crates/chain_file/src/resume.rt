@@ -1,0 +1,308 @@
+//! Pieces of a block file that go on with a block which began before them.
+//!
+//! The transactions that the block had before stay where they are kept until nothing can fail any more.
+
+ghost use Rattle.std.specs.Prelude.{◌≡◌, ◌≤◌, ◌<◌, ◌+◌, ◌∷◌, ◌++◌, ℕ, List, [], length, Ok, IfOk, OnErr};
+ghost use Rattle.sha2.specs.Hashers.{Holds256};
+ghost use Rattle.tx_text.specs.Parts.{line_text, parts_of};
+ghost use Rattle.chain_file.specs.Draft.{block_of};
+ghost use Rattle.chain_file.specs.Chain.{Position, Walked, ended_blocks, walk, with_blocks};
+ghost use Rattle.chain_file.specs.Following.{Reads, StandsAt};
+ghost use Rattle.chain_file.specs.Resumed.{Begins, Counts, Fits, Resumes, behind_end, going_at, txs_in};
+
+use crate::advance::behind_block;
+use crate::going::Going;
+use crate::hash::with_line;
+use crate::place::{FileForm, Place};
+use crate::reader::{Read, State, read_lines};
+use crate::standing::Standing;
+use crate::step::{StepFault, told_within};
+use proc_syntax::{Block, ChainFault, ChainKind, Tx};
+use rel_base::{List, NoMemory};
+use std::alloc::Global;
+use tx_text::held::copy_of;
+use tx_text::{MOST_LINE_BYTES, split_line};
+
+/// What the lines of a piece go on with: a place outside of blocks, or a block that has begun, whose transactions stay where they
+/// are.
+#[derive(Drop)]
+pub enum Before {
+    Between(Standing),
+    Within(Going),
+}
+
+/// What the lines of a piece give that go on with a block.
+#[derive(Drop)]
+pub enum More {
+    /// The block goes on behind the piece, which ends in these bytes of a line.
+    Goes {
+        going: Going,
+        held: List<u8>,
+    },
+    /// The block of this number ended, with these transactions of the piece. The blocks that follow it stand behind a place for it.
+    Ends {
+        number: u64,
+        txs: List<Tx>,
+        blocks: List<Block>,
+        state: State,
+    },
+    /// The first fault, met in the block.
+    Stopped(ChainFault),
+}
+
+/// The same standing again, outside of blocks.
+fn outside(standing: &Standing, place: Place) -> Result<Standing, NoMemory>
+    requires { place ≡ standing.now.place }
+    ensures { (at : Position) → StandsAt standing.now at → IfOk result (λ twin. StandsAt twin at) }
+{
+    Ok(Standing {
+        line: standing.line,
+        place,
+        digits: standing.digits,
+        hash: standing.hash.clone()?,
+    })
+}
+
+/// The block that has begun, without its transactions.
+#[tactic(auto, using(crate::proofs::Near::going_begun, crate::proofs::Resumed::at_begun, crate::proofs::Resumed::count_begun))]
+fn begun(
+    alloc: Global,
+    standing: &Standing,
+    form: FileForm,
+    count: u64,
+    txs: &List<Tx>,
+) -> Result<Going, NoMemory>
+    requires { standing.now.place ≡ Place.Within form count txs.now }
+    ensures begins { (at : Position) → StandsAt standing.now at → IfOk result (λ going. (at ≡ going_at (txs_in standing.now.place) going at.bytes) × Holds256 going.hash at.bytes) }
+    ensures before { IfOk result (λ going. going.before ≡ length (txs_in standing.now.place)) }
+{
+    Ok(Going {
+        form,
+        count,
+        before: txs.len(),
+        line: standing.line,
+        digits: standing.digits,
+        hash: standing.hash.clone()?,
+        txs: List::new(alloc),
+    })
+}
+
+/// What the lines of a piece go on with.
+pub fn before_piece(alloc: Global, standing: &Standing) -> Result<Before, NoMemory>
+    ensures begins { (at : Position) → StandsAt standing.now at → IfOk result (λ before. Begins (txs_in standing.now.place) before at) }
+    ensures counts { IfOk result (λ before. Counts (txs_in standing.now.place) before) }
+{
+    match &standing.place {
+        Place::Start => {
+            let twin = outside(standing, Place::Start)?;
+            Ok(Before::Between(twin))
+        }
+        Place::Between { form, count } => {
+            let (form, count) = (*form, *count);
+            let twin = outside(standing, Place::Between { form, count })?;
+            Ok(Before::Between(twin))
+        }
+        Place::Within { form, count, txs } => {
+            let going = begun(alloc, standing, *form, *count, txs)?;
+            Ok(Before::Within(going))
+        }
+    }
+}
+
+/// A block without transactions, in the place of one.
+fn blank_block(alloc: Global, number: u64) -> Block {
+    match Block::new(number, 0, List::new(alloc)) {
+        Ok(block) => block,
+        Err(_) => unreachable!(),
+    }
+}
+
+/// The blocks behind another.
+fn behind(alloc: Global, first: Block, following: List<Block>) -> Result<List<Block>, NoMemory>
+    ensures { IfOk result (λ blocks. blocks ≡ first ∷ following) }
+{
+    let mut blocks = List::new(alloc);
+    blocks.push(first)?;
+    blocks.append(following)?;
+    Ok(blocks)
+}
+
+/// Reads what follows the line that ends the block.
+#[tactic(auto, using(crate::proofs::Near::going_low, crate::proofs::Near::going_count, crate::proofs::Near::going_ended, crate::proofs::Near::going_few))]
+fn end_going(alloc: Global, going: Going, line: &[u8], after: &[u8]) -> Result<More, NoMemory>
+    ensures fits { (kept : List Tx) → going.before ≡ length kept → IfOk result (λ more. Fits kept more) }
+    ensures resumes { (kept : List Tx) (bytes : List ℕ) → Holds256 going.hash bytes → IfOk result (λ more. Resumes kept more (with_blocks (ended_blocks (block_of (going.count + 1) (kept ++ going.txs))) (walk (behind_end going (bytes ++ line_text line.now)) (parts_of after.now)))) }
+{
+    let Going {
+        form,
+        count,
+        line: number,
+        hash,
+        txs,
+        ..
+    } = going;
+    let place = Place::Between {
+        form,
+        count: count + 1,
+    };
+    let standing = behind_block(number + 1, place, with_line(hash, line));
+    let read = read_lines(alloc, standing, after)?;
+    let Read {
+        blocks: following,
+        state,
+    } = read;
+    let blocks = behind(alloc, blank_block(alloc, count + 1), following)?;
+    Ok(More::Ends {
+        number: count + 1,
+        txs,
+        blocks,
+        state,
+    })
+}
+
+/// What the bytes after the last newline leave.
+fn hold_going(alloc: Global, going: Going, rest: &[u8]) -> Result<More, NoMemory>
+    requires { parts_of rest.now ≡ rest.now ∷ [] }
+    ensures fits { (kept : List Tx) → going.before ≡ length kept → IfOk result (λ more. Fits kept more) }
+    ensures resumes { (kept : List Tx) (bytes : List ℕ) → Holds256 going.hash bytes → IfOk result (λ more. Resumes kept more (walk (going_at kept going bytes) (rest.now ∷ []))) }
+{
+    if rest.len() > MOST_LINE_BYTES {
+        return Ok(More::Stopped(ChainFault {
+            line: going.line,
+            kind: ChainKind::LineTooLong,
+        }));
+    }
+    let held = copy_of(alloc, rest)?;
+    Ok(More::Goes { going, held })
+}
+
+/// Reads lines that go on with a block.
+pub fn read_more(alloc: Global, going: Going, bytes: &[u8]) -> Result<More, NoMemory>
+    ensures fits { (kept : List Tx) → going.before ≡ length kept → IfOk result (λ more. Fits kept more) }
+    ensures resumes { (kept : List Tx) (known : List ℕ) → going.before ≡ length kept → Holds256 going.hash known → IfOk result (λ more. Resumes kept more (walk (going_at kept going known) (parts_of bytes.now))) }
+{
+    let mut block = going;
+    let mut rest = bytes;
+    while let Some((line, after)) = split_line(rest) {
+        match told_within(alloc, block.len(), line) {
+            Ok(Some(tx)) => block = block.with_tx(tx, line)?,
+            Ok(None) => return end_going(alloc, block, line, after),
+            Err(StepFault::NoMemory) => return Err(NoMemory),
+            Err(StepFault::Kind(kind)) => {
+                return Ok(More::Stopped(ChainFault {
+                    line: block.line,
+                    kind,
+                }));
+            }
+        }
+        rest = after;
+    }
+    hold_going(alloc, block, rest)
+}
+
+/// Takes out the transactions of the block that has begun, with more behind them. Where memory is wanting, all is as before.
+fn take_txs(standing: &mut Standing, more: List<Tx>) -> Result<List<Tx>, NoMemory>
+    ensures all { IfOk result (λ all. all ≡ txs_in standing.old.place ++ more) }
+    ensures err { OnErr result (standing.new ≡ standing.old) }
+{
+    let Standing {
+        line,
+        place,
+        digits,
+        hash,
+    } = std::mem::replace(standing, Standing::front());
+    match place {
+        Place::Start | Place::Between { .. } => Ok(more),
+        Place::Within {
+            form,
+            count,
+            mut txs,
+        } => {
+            let appended = txs.append(more);
+            if appended.is_ok() {
+                return Ok(txs);
+            }
+            *standing = Standing {
+                line,
+                place: Place::Within { form, count, txs },
+                digits,
+                hash,
+            };
+            Err(NoMemory)
+        }
+    }
+}
+
+/// The block goes on: it keeps its transactions of the piece too.
+#[tactic(auto, using(crate::proofs::Near::going_near))]
+fn keep_going(
+    alloc: Global,
+    standing: &mut Standing,
+    going: Going,
+    held: List<u8>,
+) -> Result<Read, NoMemory>
+    requires { going.before ≡ length (txs_in standing.old.place) }
+    ensures reads { (bytes : List ℕ) → Holds256 going.hash bytes → parts_of held ≡ held ∷ [] → IfOk result (λ read. Reads read ([], Ok (going_at (txs_in standing.old.place) going bytes, held))) }
+    ensures err { OnErr result (standing.new ≡ standing.old) }
+{
+    let Going {
+        form,
+        count,
+        line,
+        digits,
+        hash,
+        txs,
+        ..
+    } = going;
+    let txs = take_txs(standing, txs)?;
+    let standing = Standing {
+        line,
+        place: Place::Within { form, count, txs },
+        digits,
+        hash,
+    };
+    Ok(Read {
+        blocks: List::new(alloc),
+        state: State::Open { standing, held },
+    })
+}
+
+/// Puts a block of these transactions into the first place.
+fn put_block(blocks: &mut List<Block>, number: u64, txs: List<Tx>)
+    requires few { length txs ≤ 1024 }
+    requires place { 0 < length blocks.old }
+    ensures { (blank : Block) (following : List Block) → blocks.old ≡ blank ∷ following → blocks.new ≡ ended_blocks (block_of number txs) ++ following }
+{
+    match Block::new(number, 0, txs) {
+        Ok(block) => {
+            let _blank = blocks.replace(0, block);
+        }
+        Err(_) => unreachable!(),
+    }
+}
+
+/// Moves the transactions that the block had before, where it goes on, or to those of the piece, where it ended. Where memory is
+/// wanting, all is as before.
+pub fn finish(alloc: Global, standing: &mut Standing, more: More) -> Result<Read, NoMemory>
+    requires { Fits (txs_in standing.old.place) more }
+    ensures reads { (meant : Walked) → Resumes (txs_in standing.old.place) more meant → IfOk result (λ read. Reads read meant) }
+    ensures err { OnErr result (standing.new ≡ standing.old) }
+{
+    match more {
+        More::Stopped(fault) => Ok(Read {
+            blocks: List::new(alloc),
+            state: State::Stopped(fault),
+        }),
+        More::Goes { going, held } => keep_going(alloc, standing, going, held),
+        More::Ends {
+            number,
+            txs,
+            mut blocks,
+            state,
+        } => {
+            let all = take_txs(standing, txs)?;
+            put_block(&mut blocks, number, all);
+            Ok(Read { blocks, state })
+        }
+    }
+}
