@@ -169,12 +169,22 @@ fn is_ann(looked: Option<&Looked>) -> bool {
 fn what_a_stale_payment_leaves(rt: HostRuntime) -> Result<(), Fail> {
     let alloc = rt.alloc();
     let (node, mut pass) = open_node::<IndexVersions>(alloc, &accounts(alloc)?)?;
-    let (mut bringer, mut other) = (split_off(&node, &mut pass), split_off(&node, &mut pass));
     let (gate, blocks) = (NoGate, stale_pay(alloc)?);
     let crew = Crew::new(1, 1, &blocks, &[], &gate);
     process_all(&rt, &node, &crew, &mut pass, &blocks)?;
     let told = node.outcome(&rt, alloc, &mut pass, &Id::new(alloc, "p2")?)?;
     assert!(rt; is_late(told.as_ref()));
+    Ok(())
+}
+
+#[test]
+fn a_look_at_what_a_payment_reads(rt: HostRuntime) -> Result<(), Fail> {
+    let alloc = rt.alloc();
+    let (node, mut pass) = open_node::<IndexVersions>(alloc, &accounts(alloc)?)?;
+    let (mut bringer, mut other) = (split_off(&node, &mut pass), split_off(&node, &mut pass));
+    let (gate, blocks) = (NoGate, stale_pay(alloc)?);
+    let crew = Crew::new(1, 1, &blocks, &[], &gate);
+    process_all(&rt, &node, &crew, &mut pass, &blocks)?;
     node.arrive(&rt, &mut bringer, &pay(alloc, "p3", [1, 2, 5])?)?;
     let Ok(Some(mut work)) = take_work(&rt, &node, &mut other, Pick::Nth(0)) else {
         return Err("no job waits".into());
