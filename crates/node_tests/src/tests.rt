@@ -1,20 +1,23 @@
 ghost use Rattle.std.specs.Prelude.{◌≡◌, IfOk};
+ghost use Rattle.serial_laws.specs.Chained.{AreNumbered};
 
 use crate::bringing::{bring_all, bring_at_once};
 use crate::crews::{join_crew, split_crew};
 use crate::folding::{fold_plainly, process_beside};
+use crate::looking::look_ahead;
 use crate::opening::open_node;
 use crate::wandering::Walk;
 use block_work::result::last_digest;
 use cluster_run::forking::{split_off, take_back};
+use cluster_run::processing::process_all;
 use cluster_run::working::{step_work, take_work};
 use cluster_run::{Crew, NoGate};
-use node_core::{Decided, Sealed};
-use node_model::{Entry, Event, NodeResult, Outcome, Pick};
+use node_core::{Decided, Looked, Sealed};
+use node_model::{Entry, Event, Late, NodeResult, Outcome, Pick};
 use proc_check::{Checked, check};
 use proc_parse::parse;
 use proc_syntax::{Block, Tx};
-use rel_base::{Id, List, Name, Str, Value};
+use rel_base::{Id, List, Name, Place, Read, Str, Value};
 use std::alloc::Global;
 use std::sync::Arc;
 use std::test::Fail;
@@ -127,6 +130,68 @@ fn an_insert_by_two_passes(rt: HostRuntime) -> Result<(), Fail> {
         (0, "seal", 1),
     ];
     assert!(rt; journal.as_slice().iter().map(said).eq(wanted));
+    Ok(())
+}
+
+// The blocks of a run with two payments between two accounts, of which the second is stale.
+fn stale_pay(alloc: Global) -> Result<[Block; 3], Fail>
+    ensures { IfOk result (λ blocks. AreNumbered 1 blocks) }
+{
+    let (mut first, mut second, mut third) = (List::new(alloc), List::new(alloc), List::new(alloc));
+    first.push(add(alloc, "a1", 1, "ann", 50)?)?;
+    first.push(add(alloc, "a2", 2, "bob", 20)?)?;
+    second.push(pay(alloc, "p1", [1, 2, 10])?)?;
+    third.push(pay(alloc, "p2", [1, 2, 5])?)?;
+    Ok([block(1, first)?, block(2, second)?, block(3, third)?])
+}
+
+// Whether an outcome is stale: the first read was that of the first account, which the first transaction of block 2 had written since.
+fn is_late(told: Option<&Outcome>) -> bool {
+    matches!(told, Some(Outcome::Late(Late { stale: true, read: 1, place: Place { block: 2, pos: 1 }, table: 0, key }))
+        if matches!(key.as_slice(), [Value::Int(1)]))
+}
+
+// Whether a read is that of the first account.
+fn is_of_first(read: Option<&Read>) -> bool {
+    matches!(read, Some(Read::Point { table: 0, key }) if matches!(key.as_slice(), [Value::Int(1)]))
+}
+
+// Whether a look found one row, that of the first account after the first block.
+fn is_ann(looked: Option<&Looked>) -> bool {
+    let Some(Looked::Rows(rows)) = looked else {
+        return false;
+    };
+    matches!(rows.as_slice(), [seen] if seen.place.block == 1 && seen.place.pos == 1
+        && matches!(seen.row.as_slice(), [Value::Int(1), Value::Text(owner), Value::Int(50)] if owner.as_str() == "ann"))
+}
+
+#[test]
+fn what_a_stale_payment_leaves(rt: HostRuntime) -> Result<(), Fail> {
+    let alloc = rt.alloc();
+    let (node, mut pass) = open_node::<IndexVersions>(alloc, &accounts(alloc)?)?;
+    let (gate, blocks) = (NoGate, stale_pay(alloc)?);
+    let crew = Crew::new(1, 1, &blocks, &[], &gate);
+    process_all(&rt, &node, &crew, &mut pass, &blocks)?;
+    let told = node.outcome(&rt, alloc, &mut pass, &Id::new(alloc, "p2")?)?;
+    assert!(rt; is_late(told.as_ref()));
+    Ok(())
+}
+
+#[test]
+fn a_look_at_what_a_payment_reads(rt: HostRuntime) -> Result<(), Fail> {
+    let alloc = rt.alloc();
+    let (node, mut pass) = open_node::<IndexVersions>(alloc, &accounts(alloc)?)?;
+    let (mut bringer, mut other) = (split_off(&node, &mut pass), split_off(&node, &mut pass));
+    let (gate, blocks) = (NoGate, stale_pay(alloc)?);
+    let crew = Crew::new(1, 1, &blocks, &[], &gate);
+    process_all(&rt, &node, &crew, &mut pass, &blocks)?;
+    node.arrive(&rt, &mut bringer, &pay(alloc, "p3", [1, 2, 5])?)?;
+    let Ok(Some(mut work)) = take_work(&rt, &node, &mut other, Pick::Nth(0)) else {
+        return Err("no job waits".into());
+    };
+    let looked = look_ahead(&rt, &node, &mut other, 1, &mut work)?;
+    assert!(rt; is_of_first(work.wanted()));
+    assert!(rt; is_ann(looked.as_ref()));
     Ok(())
 }
 
