@@ -1,69 +1,16 @@
 ghost use Rattle.std.specs.Prelude.{◌≡◌, IfOk};
 ghost use Rattle.serial_laws.specs.Chained.{AreNumbered};
 
+use crate::calls::{accounts, add, block, pay};
 use crate::gating::SideBySide;
 use crate::journals::{arrival_of, finisher_of, keep_step, tell_the_same};
 use cluster_run::{Crew, NoGate, run_cluster, run_node};
 use node_model::{Entry, Event, NodeResult, Outcome};
-use proc_check::{Checked, check};
-use proc_parse::parse;
 use proc_syntax::{Block, Tx};
-use rel_base::{Id, List, Name, Str, Value};
+use rel_base::List;
 use std::alloc::Global;
-use std::sync::Arc;
 use std::test::Fail;
 use version_index::IndexVersions;
-
-const ACCOUNTS: &str = r#"
-table acct (id int, owner text, bal int) key (id) index (owner);
-proc add(i int, o text, b int) { insert acct (i, o, b); }
-proc pay(f int, t int, n int) {
-  get a from acct key (f) {
-    get b from acct key (t) {
-      if a.bal < n { fail "funds"; }
-      update acct key (f) set bal = a.bal - n;
-      update acct key (t) set bal = b.bal + n;
-    } else { fail "no payee"; }
-  } else { fail "no payer"; }
-}
-"#;
-
-// The application of accounts.
-fn accounts(alloc: Global) -> Result<Arc<Checked>, Fail> {
-    let text = ACCOUNTS.as_bytes();
-    if text.len() > 10_000 {
-        return Err("a text that is too long".into());
-    }
-    Ok(Arc::new(alloc, check(alloc, parse(alloc, text)?)?)?)
-}
-
-// A call that adds an account with 50.
-fn add(alloc: Global, id: &str, number: i64) -> Result<Tx, Fail> {
-    let mut args = List::new(alloc);
-    args.push(Value::Int(number))?;
-    args.push(Value::Text(Str::new(alloc, "ann")?))?;
-    args.push(Value::Int(50))?;
-    Ok(Tx {
-        id: Id::new(alloc, id)?,
-        height: 0,
-        procedure: Name::new(alloc, "add")?,
-        args,
-    })
-}
-
-// A call that pays from one account to another, on the tables after the first block.
-fn pay(alloc: Global, id: &str, numbers: [i64; 3]) -> Result<Tx, Fail> {
-    let mut args = List::new(alloc);
-    for number in numbers {
-        args.push(Value::Int(number))?;
-    }
-    Ok(Tx {
-        id: Id::new(alloc, id)?,
-        height: 1,
-        procedure: Name::new(alloc, "pay")?,
-        args,
-    })
-}
 
 // Two payments between different accounts.
 fn payments(alloc: Global) -> Result<List<Tx>, Fail> {
@@ -73,25 +20,15 @@ fn payments(alloc: Global) -> Result<List<Tx>, Fail> {
     Ok(txs)
 }
 
-// A block of a number.
-fn block(number: u64, txs: List<Tx>) -> Result<Block, Fail>
-    ensures { IfOk result (λ block. block.number ≡ number) }
-{
-    match Block::new(number, 0, txs) {
-        Ok(block) => Ok(block),
-        Err(_) => Err("a block that is too large".into()),
-    }
-}
-
 // A block that adds four accounts, and one of the two payments.
 fn two_blocks(alloc: Global) -> Result<[Block; 2], Fail>
     ensures { IfOk result (λ blocks. AreNumbered 1 blocks) }
 {
     let mut first = List::new(alloc);
-    first.push(add(alloc, "a1", 1)?)?;
-    first.push(add(alloc, "a2", 2)?)?;
-    first.push(add(alloc, "a3", 3)?)?;
-    first.push(add(alloc, "a4", 4)?)?;
+    first.push(add(alloc, "a1", 1, "ann", 50)?)?;
+    first.push(add(alloc, "a2", 2, "ann", 50)?)?;
+    first.push(add(alloc, "a3", 3, "ann", 50)?)?;
+    first.push(add(alloc, "a4", 4, "ann", 50)?)?;
     Ok([block(1, first)?, block(2, payments(alloc)?)?])
 }
 

@@ -7,7 +7,7 @@ use rel_base::{List, NoMemory};
 use std::alloc::Global;
 
 /// Accounts with their owners and what they hold, and the procedures over them.
-const APPLICATION: &str = "table acct (id int, owner text, bal int) key (id) index (owner);
+pub const APPLICATION: &str = "table acct (id int, owner text, bal int) key (id) index (owner);
 proc add(i int, o text, b int) { insert acct (i, o, b); }
 proc remove(i int) { delete acct key (i); }
 proc pay(f int, t int, n int) {

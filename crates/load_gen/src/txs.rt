@@ -9,7 +9,7 @@ ghost use Rattle.rel_base.specs.Text.{has_id_form, has_name_form};
 use crate::calls::{CallKind, amount, arguments, owner};
 use crate::draws::Draws;
 use proc_syntax::Tx;
-use rel_base::{Id, List, Name, NameFault, NoMemory};
+use rel_base::{Id, List, Name, NameFault, NoMemory, Row};
 use std::alloc::Global;
 
 /// The number of the first transaction that is drawn.
@@ -58,7 +58,7 @@ pub fn opening_tx(alloc: Global, number: u32) -> Result<Tx, NoMemory>
         id: id_of(alloc, u64::from(number))?,
         height: 0,
         procedure: name_from(alloc, "add")?,
-        args: List::from_vec(values),
+        args: Row::new(List::from_vec(values))?,
     })
 }
 
@@ -94,7 +94,7 @@ fn drawn_tx(alloc: Global, number: u64, draws: &mut Draws) -> Result<Tx, NoMemor
         id: id_of(alloc, number)?,
         height: height_at(block_at(number), back),
         procedure: name_from(alloc, kind.procedure())?,
-        args,
+        args: Row::new(args)?,
     })
 }
 

@@ -10,7 +10,7 @@ use node_shared::{NodePass, SharedNode};
 use proc_check::{Checked, check};
 use proc_parse::parse;
 use proc_syntax::Tx;
-use rel_base::{Id, List, Name, Value};
+use rel_base::{Id, List, Name, Row, Value};
 use std::alloc::{AllocError, Global};
 use std::io;
 use std::sync::{Arc, Wait};
@@ -54,7 +54,7 @@ fn call(alloc: Global) -> Option<Tx> {
         id: Id::new(alloc, "a").ok()?,
         height: 0,
         procedure: Name::new(alloc, "add").ok()?,
-        args,
+        args: Row::new(args).ok()?,
     })
 }
 

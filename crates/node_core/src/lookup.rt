@@ -17,7 +17,8 @@ pub fn same_tx(one: &Tx, two: &Tx) -> bool
 {
     one.id == two.id
         && (one.height == two.height
-            && (one.procedure == two.procedure && one.args.cmp(&two.args).is_eq()))
+            && (one.procedure == two.procedure
+                && one.args.as_slice().cmp(&two.args.as_slice()).is_eq()))
 }
 
 // Whether a job is that of a transaction.

@@ -12,77 +12,14 @@ use cluster_run::forking::{split_off, take_back};
 use cluster_run::processing::process_all;
 use cluster_run::working::{step_work, take_work};
 use cluster_run::{Crew, NoGate};
+use cluster_tests::calls::{accounts, add, block, pay};
 use node_core::{Decided, Looked, Sealed};
 use node_model::{Entry, Event, Late, NodeResult, Outcome, Pick};
-use proc_check::{Checked, check};
-use proc_parse::parse;
 use proc_syntax::{Block, Tx};
-use rel_base::{Id, List, Name, Place, Read, Str, Value};
+use rel_base::{Id, List, Place, Read, Value};
 use std::alloc::Global;
-use std::sync::Arc;
 use std::test::Fail;
 use version_index::IndexVersions;
-
-const ACCOUNTS: &str = r#"
-table acct (id int, owner text, bal int) key (id) index (owner);
-proc add(i int, o text, b int) { insert acct (i, o, b); }
-proc pay(f int, t int, n int) {
-  get a from acct key (f) {
-    get b from acct key (t) {
-      if a.bal < n { fail "funds"; }
-      update acct key (f) set bal = a.bal - n;
-      update acct key (t) set bal = b.bal + n;
-    } else { fail "no payee"; }
-  } else { fail "no payer"; }
-}
-"#;
-
-// The application of accounts.
-fn accounts(alloc: Global) -> Result<Arc<Checked>, Fail> {
-    let text = ACCOUNTS.as_bytes();
-    if text.len() > 10_000 {
-        return Err("a text that is too long".into());
-    }
-    Ok(Arc::new(alloc, check(alloc, parse(alloc, text)?)?)?)
-}
-
-// A call that adds an account.
-fn add(alloc: Global, id: &str, number: i64, owner: &str, balance: i64) -> Result<Tx, Fail> {
-    let mut args = List::new(alloc);
-    args.push(Value::Int(number))?;
-    args.push(Value::Text(Str::new(alloc, owner)?))?;
-    args.push(Value::Int(balance))?;
-    Ok(Tx {
-        id: Id::new(alloc, id)?,
-        height: 0,
-        procedure: Name::new(alloc, "add")?,
-        args,
-    })
-}
-
-// A call that pays from one account to another, on the tables after the first block.
-fn pay(alloc: Global, id: &str, numbers: [i64; 3]) -> Result<Tx, Fail> {
-    let mut args = List::new(alloc);
-    for number in numbers {
-        args.push(Value::Int(number))?;
-    }
-    Ok(Tx {
-        id: Id::new(alloc, id)?,
-        height: 1,
-        procedure: Name::new(alloc, "pay")?,
-        args,
-    })
-}
-
-// A block of a number.
-fn block(number: u64, txs: List<Tx>) -> Result<Block, Fail>
-    ensures { IfOk result (λ block. block.number ≡ number) }
-{
-    match Block::new(number, 0, txs) {
-        Ok(block) => Ok(block),
-        Err(_) => Err("a block that is too large".into()),
-    }
-}
 
 // What an entry says: who did what, with the number of its job, its block or its position.
 fn said(entry: &Entry) -> (u32, &'static str, u64) {

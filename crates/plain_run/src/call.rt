@@ -105,7 +105,7 @@ pub fn run_call<S: Snapshot>(
     match procedure_named(app, &tx.procedure) {
         None => Ok(no_run(alloc)),
         Some(procedure) => {
-            if takes(procedure, &tx.args) {
+            if takes(procedure, tx.args.as_slice()) {
                 run_procedure(alloc, tables, snapshot, procedure, tx.args.as_slice())
             } else {
                 Ok(no_run(alloc))

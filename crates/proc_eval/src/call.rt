@@ -37,10 +37,10 @@ pub fn fit_params(params: &[ColumnText], values: &[Value]) -> bool
 }
 
 /// Whether a procedure takes some arguments.
-pub fn takes(procedure: &ProcDef, values: &List<Value>) -> bool
+pub fn takes(procedure: &ProcDef, values: &[Value]) -> bool
     ensures { result ≡ takes procedure.now values.now }
 {
-    fit_params(procedure.params.as_slice(), values.as_slice())
+    fit_params(procedure.params.as_slice(), values)
 }
 
 /// Why a transaction's call can not begin: no procedure has its name, or the first one that has it does not take its arguments.
@@ -50,7 +50,7 @@ pub fn call_fault(app: &App, tx: &Tx) -> Option<CallFault>
     match procedure_named(app, &tx.procedure) {
         None => Some(CallFault::UnknownProcedure),
         Some(procedure) => {
-            if takes(procedure, &tx.args) {
+            if takes(procedure, tx.args.as_slice()) {
                 None
             } else {
                 Some(CallFault::BadArguments)

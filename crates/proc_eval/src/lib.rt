@@ -3,6 +3,7 @@
 
 pub mod arith;
 pub mod call;
+pub mod change;
 pub mod compare;
 pub mod eval;
 pub mod fit;

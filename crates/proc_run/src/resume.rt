@@ -8,9 +8,7 @@ ghost use Rattle.rel_base.specs.declared.access.Read.TheVariants.{Point};
 ghost use Rattle.rel_base.specs.declared.access.Seen.{Seen as SeenRow};
 ghost use Rattle.rel_base.specs.declared.schema.TableDef.{TableDef as Def};
 ghost use Rattle.row_sets.specs.Overlay.{own_of};
-ghost use Rattle.proc_syntax.specs.Steps.{asked, wrote, set_columns, row_under, insert_at, update_at, delete_at, held_or, with_some, then_do};
-ghost use Rattle.proc_syntax.specs.Values.{found};
-ghost use Rattle.proc_eval.specs.Gives.{Gives};
+ghost use Rattle.proc_syntax.specs.Steps.{asked, wrote, insert_at, update_at, delete_at, held_or, with_some, then_do};
 ghost use Rattle.proc_eval.specs.declared.halt.Halt.TheVariants as halt;
 ghost use Rattle.proc_code.specs.Coded.{do_all, hold};
 ghost use Rattle.proc_code.specs.declared.tree.Action.{Action as Act};
@@ -23,7 +21,7 @@ use crate::plan::{Pending, find_table};
 use crate::state::Run;
 use crate::turn::{hold, push_block, push_rows};
 use proc_eval::Halt;
-use proc_eval::fit::{is_under, with_columns};
+use proc_eval::change::changed;
 use proc_syntax::{Fault, Stop};
 use rel_base::{Key, List, Made, NoMemory, Read, Row, Seen, TableDef, Twin, Value};
 use row_sets::Overlay;
@@ -52,24 +50,6 @@ fn first_row(alloc: Global, seens: &[Seen]) -> Result<Option<Row>, NoMemory>
     match seens.first() {
         None => Ok(None),
         Some(seen) => Ok(Some(seen.row.copy(alloc)?)),
-    }
-}
-
-/// The row of a key with columns set, where it then fits and still has the key.
-fn changed(
-    alloc: Global,
-    def: &TableDef,
-    key: &Key,
-    old: &Row,
-    changes: &[(usize, Value)],
-) -> Result<Row, Halt>
-    ensures { Gives result (found (row_under def.now key.now (set_columns old.now changes.now))) }
-{
-    let row = with_columns(alloc, old, changes)?;
-    if is_under(alloc, def, key, &row)? {
-        Ok(row)
-    } else {
-        Err(Halt::Stop(Stop::IllTyped))
     }
 }
 

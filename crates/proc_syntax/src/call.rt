@@ -3,7 +3,7 @@
 ghost use Rattle.std.specs.Prelude.{◌≡◌, ◌<◌, ◌≤◌, IfOk, IfErr, IsErr, ◌↔◌, length, pos};
 ghost use Rattle.std.specs.Prelude.{true, int_le};
 
-use rel_base::{Id, List, Name, NoMemory, Twin, Value};
+use rel_base::{Id, List, Name, NoMemory, Row, Twin};
 use std::alloc::Global;
 
 /// The number of transactions that a block may hold.
@@ -16,7 +16,8 @@ pub struct Tx {
     /// The block after which the call reads the tables; 0 is before the first.
     pub height: u64,
     pub procedure: Name,
-    pub args: List<Value>,
+    /// Its arguments, in order. As the values of a row, they stand once in memory, also where the transaction is copied.
+    pub args: Row,
 }
 
 /// Why a transaction's call can not begin.

@@ -1,7 +1,7 @@
 use crate::{Look, report};
 use node_model::{Entry, Event, NodeResult};
 use proc_syntax::{Block, Tx};
-use rel_base::{Id, List, Name};
+use rel_base::{Id, List, Name, Row};
 use std::alloc::Global;
 use std::sync::Arc;
 use std::test::Fail;
@@ -11,7 +11,7 @@ fn arrive(alloc: Global, job: u64, id: &str) -> Result<Event, Fail> {
         id: Id::new(alloc, id)?,
         height: 0,
         procedure: Name::new(alloc, "add")?,
-        args: List::new(alloc),
+        args: Row::new(List::new(alloc))?,
     };
     Ok(Event::Arrive {
         job,

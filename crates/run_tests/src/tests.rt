@@ -4,6 +4,7 @@ ghost use Rattle.std.specs.Prelude.{◌≡◌};
 ghost use Rattle.proc_syntax.specs.Declaring.{tables_of};
 
 use crate::ways::agree;
+use load_gen::application::APPLICATION;
 use plain_run::RowTables;
 use proc_check::{Checked, check};
 use proc_parse::parse;
@@ -12,59 +13,6 @@ use rel_base::{Blob, Id, Key, List, Name, Place, Row, Str, Value, Write};
 use std::alloc::Global;
 use std::sync::Arc;
 use std::test::Fail;
-
-/// Accounts.
-const ACCOUNTS: &str = r#"
-table acct (id int, owner text, bal int) key (id) index (owner);
-proc add(i int, o text, b int) { insert acct (i, o, b); }
-proc remove(i int) { delete acct key (i); }
-proc pay(f int, t int, n int) {
-  get a from acct key (f) {
-    get b from acct key (t) {
-      if a.bal < n { fail "funds"; }
-      update acct key (f) set bal = a.bal - n;
-      update acct key (t) set bal = b.bal + n;
-    } else { fail "no payee"; }
-  } else { fail "no payer"; }
-}
-proc sweep(o text, t int) {
-  let sum = 0;
-  for r in acct span on owner from o to o { sum = sum + r.bal; }
-  update acct key (t) set bal = sum;
-}
-proc both(a int, b int, n int) {
-  get v from acct key (a) {
-    get w from acct key (b) {
-      if v.bal + w.bal >= n { update acct key (a) set bal = v.bal - n; }
-      else { fail "low"; }
-    } else { fail "no second"; }
-  } else { fail "no first"; }
-}
-proc trio(a int, b int, c int) {
-  get u from acct key (a) { } else { }
-  get v from acct key (b) { } else { }
-  get w from acct key (c) { } else { }
-}
-proc spin(a int, b int, c int, d int) {
-  for p in acct span on id from 1 to a {
-    for q in acct span on id from 1 to b {
-      for r in acct span on id from 1 to c {
-        for s in acct span on id from 1 to d { }
-      }
-    }
-  }
-}
-proc spinmore(a int, b int, c int, d int) {
-  for p in acct span on id from 1 to a {
-    for q in acct span on id from 1 to b {
-      for r in acct span on id from 1 to c {
-        for s in acct span on id from 1 to d { }
-      }
-    }
-  }
-  let last = 0;
-}
-"#;
 
 /// Lots at sites.
 const LOTS: &str = r#"
@@ -102,12 +50,12 @@ fn value(alloc: Global, arg: Arg<'_>) -> Result<Value, Fail> {
     }
 }
 
-fn values(alloc: Global, args: &[Arg<'_>]) -> Result<List<Value>, Fail> {
+fn values(alloc: Global, args: &[Arg<'_>]) -> Result<Row, Fail> {
     let mut values = List::new(alloc);
     for arg in args {
         values.push(value(alloc, *arg)?)?;
     }
-    Ok(values)
+    Ok(Row::new(values)?)
 }
 
 /// Puts a call of a procedure on a list of cases.
@@ -228,7 +176,7 @@ fn accounts_come_and_go(rt: HostRuntime) -> Result<(), Fail> {
     }
     add(alloc, &mut cases, "remove", &[Arg::Text("1")], "ill typed")?;
     add(alloc, &mut cases, "vanish", &[Arg::Int(1)], "ill typed")?;
-    let failed = first_failed(alloc, ACCOUNTS, &accounts(alloc, 3)?, &cases)?;
+    let failed = first_failed(alloc, APPLICATION, &accounts(alloc, 3)?, &cases)?;
     assert_eq!(rt; failed, cases.len());
     Ok(())
 }
@@ -261,7 +209,7 @@ fn payments(rt: HostRuntime) -> Result<(), Fail> {
         let args = [Arg::Int(first), Arg::Int(second), Arg::Int(amount)];
         add(alloc, &mut cases, "both", &args, end)?;
     }
-    let failed = first_failed(alloc, ACCOUNTS, &accounts(alloc, 3)?, &cases)?;
+    let failed = first_failed(alloc, APPLICATION, &accounts(alloc, 3)?, &cases)?;
     assert_eq!(rt; failed, cases.len());
     Ok(())
 }
@@ -289,7 +237,7 @@ fn sweeps_and_looks(rt: HostRuntime) -> Result<(), Fail> {
         let args = [Arg::Int(ids[0]), Arg::Int(ids[1]), Arg::Int(ids[2])];
         add(alloc, &mut cases, "trio", &args, "good")?;
     }
-    let failed = first_failed(alloc, ACCOUNTS, &accounts(alloc, 5)?, &cases)?;
+    let failed = first_failed(alloc, APPLICATION, &accounts(alloc, 5)?, &cases)?;
     assert_eq!(rt; failed, cases.len());
     Ok(())
 }
@@ -320,7 +268,7 @@ fn spins(rt: HostRuntime) -> Result<(), Fail> {
     add_spin(alloc, &mut cases, "spinmore", [3, 1, 0, 2], "good")?;
     add_spin(alloc, &mut cases, "spin", [9, 23, 13, 35], "good")?;
     add_spin(alloc, &mut cases, "spinmore", [9, 23, 13, 35], "steps")?;
-    let failed = first_failed(alloc, ACCOUNTS, &accounts(alloc, 35)?, &cases)?;
+    let failed = first_failed(alloc, APPLICATION, &accounts(alloc, 35)?, &cases)?;
     assert_eq!(rt; failed, cases.len());
     Ok(())
 }

@@ -1,6 +1,6 @@
 //! Rows of edges, in which the row of position p stands at place p - 1.
 
-ghost use Rattle.std.specs.Prelude.{ℕ, ◌≡◌, ◌≤◌, ◌+◌, ◌&&◌, ◌||◌, ◌<◌, OnOk, cond, length, max, true, vec_len};
+ghost use Rattle.std.specs.Prelude.{ℕ, ◌≡◌, ◌≤◌, ◌+◌, ◌&&◌, ◌||◌, ◌<◌, OnOk, cond, false, length, max, true, vec_len};
 ghost use Rattle.std.specs.Bool.{nat_eq};
 ghost use Rattle.rw_graph.specs.Held.{holds};
 ghost use Rattle.rw_graph.specs.Sets.{IsLeastFrom};
@@ -62,6 +62,30 @@ fn put(rows: &mut [Edges], edges: &Edges, pos: u32)
     rows[pos as usize - 1] = *edges;
 }
 
+// Whether there are no edges.
+fn has_none(edges: &Edges) -> bool
+    ensures out { result ≡ true → (pos : ℕ) → holds edges.now.out pos ≡ false }
+    ensures into { result ≡ true → (pos : ℕ) → holds edges.now.into pos ≡ false }
+{
+    edges.out.least_from(0).is_none() && edges.into.least_from(0).is_none()
+}
+
+/// The same. Most positions have no edge, and then no row of another changes.
+fn mark_if_any(rows: &mut [Edges], edges: &Edges, pos: u32)
+    requires counts { 1 ≤ pos }
+    requires upto { pos ≤ 1024 }
+    requires few { length rows.old ≤ 1024 }
+    requires out_within { (from : ℕ) → holds edges.now.into from ≡ true → from ≤ length rows.old }
+    requires into_within { (to : ℕ) → holds edges.now.out to ≡ true → to ≤ length rows.old }
+    ensures out { (from to : ℕ) → goes_out rows.new from to ≡ ((holds edges.now.into from && nat_eq to pos) || goes_out rows.old from to) }
+    ensures into { (from to : ℕ) → comes_in rows.new to from ≡ ((holds edges.now.out to && nat_eq from pos) || comes_in rows.old to from) }
+    ensures len { length rows.new ≡ length rows.old }
+{
+    if !has_none(edges) {
+        mark(rows, edges, pos);
+    }
+}
+
 fn join_rows(rows: &mut [Edges], edges: &Edges, pos: u32)
     requires counts { 1 ≤ pos }
     requires within { pos ≤ length rows.old }
@@ -72,7 +96,7 @@ fn join_rows(rows: &mut [Edges], edges: &Edges, pos: u32)
     ensures into { (from to : ℕ) → comes_in rows.new to from ≡ joined (nat_eq to pos) (nat_eq from pos) (holds edges.now.into from) (holds edges.now.out to) (comes_in rows.old to from) }
     ensures len { length rows.new ≡ length rows.old }
 {
-    mark(rows, edges, pos);
+    mark_if_any(rows, edges, pos);
     put(rows, edges, pos);
 }
 

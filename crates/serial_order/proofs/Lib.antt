@@ -8,3 +8,4 @@ pub mod Searches
 pub mod Picked
 pub mod Sources
 pub mod Placed
+pub mod Unreached

@@ -1,6 +1,6 @@
 //! The serial order, by counting the edges that come to each position from those that are left.
 
-ghost use Rattle.std.specs.Prelude.{ℕ, Bool, IfOk, IfSome, List, MatchOption, None, Some, map, vec_len, ◌<◌, ◌≡◌};
+ghost use Rattle.std.specs.Prelude.{ℕ, Bool, IfOk, IfSome, List, MatchOption, None, Some, false, map, vec_len, ◌<◌, ◌≡◌};
 ghost use Rattle.node_model.specs.Order.{IsSerialOrder, order, take_first};
 ghost use Rattle.rw_graph.specs.Graph.{has_edge, positions_of};
 ghost use Rattle.serial_order.specs.Cycles.{HasNoCycle};
@@ -11,8 +11,25 @@ use rel_base::{List, NoMemory};
 use rw_graph::EdgeSet;
 use std::alloc::Global;
 
-// How many edges come to a position.
-fn count_to(set: &EdgeSet, to: u32) -> usize
+// Whether an edge leads from a position.
+fn is_left(set: &EdgeSet, from: u32) -> bool
+    ensures { result ≡ false → (to : ℕ) → has_edge set.now from to ≡ false }
+{
+    set.least_to(from).is_some()
+}
+
+// Whether an edge may come to a position: none comes where it answers no.
+fn is_reached(set: &EdgeSet, to: u32) -> bool
+    ensures { result ≡ false → (from : ℕ) → has_edge set.now from to ≡ false }
+{
+    match set.into_row(to) {
+        None => true,
+        Some(into) => into.least_from(0).is_some(),
+    }
+}
+
+// How many edges come to a position, of which there may be some.
+fn count_each(set: &EdgeSet, to: u32) -> usize
     ensures { result ≡ comers (has_edge set.now) (positions_of set.now) to }
 {
     let mut count = 0;
@@ -22,6 +39,17 @@ fn count_to(set: &EdgeSet, to: u32) -> usize
         }
     }
     count
+}
+
+// How many edges come to a position. Most positions have none, which their row of bits tells at once.
+fn count_to(set: &EdgeSet, to: u32) -> usize
+    ensures { result ≡ comers (has_edge set.now) (positions_of set.now) to }
+{
+    if is_reached(set, to) {
+        count_each(set, to)
+    } else {
+        0
+    }
 }
 
 // Each position, with how many edges come to it.
@@ -53,12 +81,22 @@ fn lowered_entry(set: &EdgeSet, from: u32, entry: Left) -> Left
 }
 
 // One edge less for each position to which a position that is placed has an edge.
-fn lower(set: &EdgeSet, from: u32, left: &mut Vec<Left>)
+fn lower_each(set: &EdgeSet, from: u32, left: &mut Vec<Left>)
     ensures items { left.new.items ≡ map (lowered (has_edge set.now) from) left.old.items }
     ensures len { vec_len left.new ≡ vec_len left.old }
 {
     for entry in left.iter_mut() {
         *entry = lowered_entry(set, from, *entry);
+    }
+}
+
+// The same. Most positions have no edge, and then nothing is to be done.
+fn lower(set: &EdgeSet, from: u32, left: &mut Vec<Left>)
+    ensures items { left.new.items ≡ map (lowered (has_edge set.now) from) left.old.items }
+    ensures len { vec_len left.new ≡ vec_len left.old }
+{
+    if is_left(set, from) {
+        lower_each(set, from, left);
     }
 }
 

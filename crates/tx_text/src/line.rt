@@ -13,7 +13,7 @@ use crate::field::{read_id, read_name, skip};
 use crate::value::{push_value, read_u64, value_in_front};
 use literals::{LiteralFault, push_number};
 use proc_syntax::Tx;
-use rel_base::{Id, List, Name, NoMemory, Value};
+use rel_base::{Id, List, Name, NoMemory, Row, Value};
 use std::alloc::Global;
 
 /// The number of bytes that a line may have before its newline.
@@ -54,7 +54,7 @@ fn read_call(alloc: Global, id: Id, height: u64, bytes: &[u8]) -> Result<Tx, Lit
         id,
         height,
         procedure,
-        args,
+        args: Row::new(args)?,
     })
 }
 

@@ -1,11 +1,11 @@
-use Rattle.std.proofs.Common.{ap, drop, length, rules, slice_index_or, sym, ◌+◌, ◌<◌, ◌≤◌, ◌∙◌}
+use Rattle.std.proofs.Common.{ap, drop, length, rules, slice_index_or, sym, ◌&&◌, ◌+◌, ◌<◌, ◌≤◌, ◌∙◌}
 use Rattle.std.specs.List.{list_any}
-use Rattle.std.specs.Prelude.{find}
+use Rattle.std.specs.Prelude.{find, nat_lt}
 use Rattle.std.proofs.lemmas.List.{drop_all, drop_more}
 use Rattle.node_model.specs.Danger.{first_pair, is_form_two, with_partner}
-use Rattle.rw_graph.proofs.Found.{partner_none, partner_some}
+use Rattle.rw_graph.proofs.Found.{any_none, find_none, partner_none, partner_some}
 use Rattle.rw_graph.proofs.verdict.form_two.Goals as goal
-use Rattle.rw_graph.specs.Graph.{has_edge}
+use Rattle.rw_graph.specs.Graph.{has_edge, positions_of}
 use Rattle.rw_graph.specs.Held.{holds}
 
 pub returns-in-Some : goal.returns-in-Some
@@ -35,3 +35,12 @@ returns c =
     let past : length c.positions-y-items.result.now ≤ c.loop-y.y-index = search rules in
     let ended = drop_all c.loop-y.y-index c.positions-y-items.result.now past in
     sym (ap (λ rest. with_partner two all (find (λ y. list_any (two y) all) rest)) ended) ∙ c.loop-y.invariant ∙ ap (first_pair two) c.positions-y-items.ensures.value
+
+-- where no position has an edge from it, none is the first of a pair
+pub returns-then-has_no_out : goal.returns-then-has_no_out
+returns-then-has_no_out c =
+    let has = has_edge c.args.set.now in
+    let two = is_form_two (λ pos. pos) has (holds c.args.edges.now.out) (holds c.args.edges.now.into) in
+    let all = positions_of c.args.set.now in
+    sym (ap (with_partner two all)
+    (find_none (λ y. list_any (two y) all) all (λ y _. any_none (two y) all (λ z _. ap (λ b. b && (has y z && nat_lt z y)) (c.has_no_out.ensures c.if-has_no_out.true y)))))

@@ -1,6 +1,6 @@
 use Rattle.std.proofs.Common.{drop, map, take, ◌++◌, ◌≡◌}
 use Rattle.rw_graph.specs.Graph.{has_edge}
-use Rattle.serial_order.proofs.placing.lower.Given as goal
+use Rattle.serial_order.proofs.placing.lower_each.Given as goal
 use Rattle.serial_order.specs.Counts.{lowered}
 
 -- the entries so far are lowered

@@ -1,6 +1,6 @@
 use Rattle.std.proofs.Common.{drop, ◌+◌, ◌≡◌, ◌≤◌}
 use Rattle.rw_graph.specs.Graph.{has_edge}
-use Rattle.serial_order.proofs.placing.count_to.Given as goal
+use Rattle.serial_order.proofs.placing.count_each.Given as goal
 use Rattle.serial_order.specs.Counts.{comers}
 
 -- the count so far and that of what is left are the whole
