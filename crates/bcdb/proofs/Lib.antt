@@ -14,3 +14,4 @@ pub mod Agreeing
 pub mod Clustered
 pub mod Gathering
 pub mod Replying
+pub mod Whole

@@ -14,3 +14,4 @@ pub mod Taking
 pub mod Agrees
 pub mod Traced
 pub mod Gathered
+pub mod Whole

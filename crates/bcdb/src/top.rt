@@ -5,6 +5,7 @@ ghost use Rattle.bcdb.specs.Answer.{Ends, Writes, read_refused, says, usage_refu
 ghost use Rattle.bcdb.specs.Causes.{AllowsNamed, RoseAtNamed, RoseInTurn};
 ghost use Rattle.bcdb.specs.InOrder.{RunsInOrder};
 ghost use Rattle.bcdb.specs.Traced.{EndsTraced};
+ghost use Rattle.bcdb.specs.Whole.{IsWhole};
 ghost use Rattle.cli_words.specs.Language.{AreWithin, settings_of, texts};
 ghost use Rattle.edge_traits.specs.Causes.{Rose};
 
@@ -112,6 +113,13 @@ pub fn bcdb<R: Threads + Wait + Sync, S: Shelf, W: Sink, G: Gate>(
     // Whatever arrives and whatever the schedule: a simulation that is not refused for these answers what a run of one node over the
     // same blocks answers, and then its journal, if that is asked for.
     ensures agrees { IfSome (S.told shelf.old) (AnswersAsRun (settings_of (texts words.now))) }
+
+    // Where nothing is refused, the files well formed to their ends, and no call failed, the answer is whole, or memory ran out; and an answer is
+    // whole only there, so that all input was read to its end.
+    ensures complete { IfSome (S.told shelf.old) (λ files. IsWhole (settings_of (texts words.now)) files
+        → (RoseAtNamed (settings_of (texts words.now)) (S.faults shelf.old) (S.faults shelf.new) → ⊥) → (Rose (W.faults out.old) (W.faults out.new) → ⊥)
+        → (result ≡ Status.Done) ⊎ (result ≡ Status.NoMemory)) }
+    ensures done { result ≡ Status.Done → IfSome (S.told shelf.old) (IsWhole (settings_of (texts words.now))) }
 
     // Over any shelf: the words alone decide on `Usage`.
     ensures refuses { settings_of (texts words.now) ≡ None → Ends usage_refused result (W.written out.old) (W.written out.new) }

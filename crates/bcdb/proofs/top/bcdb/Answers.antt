@@ -1,7 +1,9 @@
 use Rattle.std.proofs.Common.{IfSome, Option, subst, sym, ◌≡◌, ◌⊎◌}
 use Rattle.bcdb.proofs.top.bcdb.Goals as goal
 use Rattle.bcdb.specs.Answer.{Writes, read_refused}
-use Rattle.bcdb.specs.Causes.{RoseInTurn}
+use Rattle.bcdb.proofs.Whole.{completed_told, whole_told}
+use Rattle.bcdb.specs.Causes.{RoseAtNamed, RoseInTurn}
+use Rattle.bcdb.specs.declared.status.Status.TheVariants.{ReadFault}
 use Rattle.bcdb.specs.Traced.{EndsTraced}
 use Rattle.cli_words.specs.declared.settings.Settings.{Settings}
 
@@ -13,3 +15,17 @@ returns-in-Ok-clause-ends g c =
     let is = g.S.Shelf.faults c.serve.new.shelf in
     subst (λ (found : Option Settings). IfSome (g.S.Shelf.told c.args.shelf.now) (λ files.
     (EndsTraced found files c.serve.result before now × (is ≡ was)) ⊎ (Writes read_refused c.serve.result before now × RoseInTurn found files was is))) (sym c.in-Ok.ensures.ok) c.serve.ensures.ends
+
+pub returns-in-Ok-clause-complete : goal.returns-in-Ok-clause-complete
+returns-in-Ok-clause-complete g c =
+    let was = g.S.Shelf.faults c.args.shelf.now in
+    let is = g.S.Shelf.faults c.serve.new.shelf in
+    completed_told _ (g.S.Shelf.told c.args.shelf.now) c.serve.result (g.W.Sink.written c.args.out.now) (g.W.Sink.written c.serve.new.out) was is _
+    (returns-in-Ok-clause-ends g c)
+    (subst (λ (found : Option Settings). c.serve.result ≡ ReadFault → RoseAtNamed found was is) (sym c.in-Ok.ensures.ok) c.serve.ensures.read)
+    c.serve.ensures.write
+
+pub returns-in-Ok-clause-done : goal.returns-in-Ok-clause-done
+returns-in-Ok-clause-done g c =
+    whole_told _ (g.S.Shelf.told c.args.shelf.now) c.serve.result (g.W.Sink.written c.args.out.now) (g.W.Sink.written c.serve.new.out) (g.S.Shelf.faults c.args.shelf.now)
+    (g.S.Shelf.faults c.serve.new.shelf) (returns-in-Ok-clause-ends g c)
