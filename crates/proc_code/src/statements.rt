@@ -11,7 +11,7 @@ use crate::places::{column_of_table, table_number};
 use crate::terms::{resolve_end, resolve_term, resolve_terms};
 use crate::tree::{Action, Setting};
 use proc_syntax::{Change, Expr, Named, Stmt};
-use rel_base::{List, Name, NoMemory, TableDef, Twin};
+use rel_base::{List, Name, NoMemory, Str, TableDef, Twin};
 use std::alloc::Global;
 
 /// What resolves the names in the statements of a procedure: the declared tables, and the numbers of columns and variables.
@@ -79,20 +79,12 @@ fn resolve_stmt(resolver: &Resolver<'_>, stmt: &Stmt) -> Result<Action, NoMemory
         Stmt::Let { name, value } => resolve_set(resolver, name, value),
         Stmt::Assign { name, value } => resolve_set(resolver, name, value),
         Stmt::If { test, then, other } => {
-            let test = resolve_term(resolver.alloc, resolver.columns, resolver.names, test)?;
             let then = resolve_block(resolver, then.as_slice())?;
-            match other {
-                None => Ok(Action::If {
-                    test,
-                    then,
-                    other: List::new(resolver.alloc),
-                }),
-                Some(other) => Ok(Action::If {
-                    test,
-                    then,
-                    other: resolve_block(resolver, other.as_slice())?,
-                }),
-            }
+            let other = match other {
+                None => List::new(resolver.alloc),
+                Some(other) => resolve_block(resolver, other.as_slice())?,
+            };
+            resolve_if(resolver, test, then, other)
         }
         Stmt::Get {
             name,
@@ -100,18 +92,11 @@ fn resolve_stmt(resolver: &Resolver<'_>, stmt: &Stmt) -> Result<Action, NoMemory
             key,
             found,
             absent,
-        } => Ok(Action::Get {
-            slot: resolver.names.number_or_len(&name.name),
-            table: table_number(resolver.tables, &table.name),
-            key: resolve_terms(
-                resolver.alloc,
-                resolver.columns,
-                resolver.names,
-                key.as_slice(),
-            )?,
-            found: resolve_block(resolver, found.as_slice())?,
-            absent: resolve_block(resolver, absent.as_slice())?,
-        }),
+        } => {
+            let found = resolve_block(resolver, found.as_slice())?;
+            let absent = resolve_block(resolver, absent.as_slice())?;
+            resolve_get(resolver, name, table, key, found, absent)
+        }
         Stmt::For {
             name,
             table,
@@ -119,10 +104,7 @@ fn resolve_stmt(resolver: &Resolver<'_>, stmt: &Stmt) -> Result<Action, NoMemory
             low,
             high,
             body,
-        } => {
-            let span = Span { column, low, high };
-            resolve_for(resolver, name, table, &span, body)
-        }
+        } => resolve_for(resolver, name, table, &Span { column, low, high }, body),
         Stmt::Insert { table, values } => resolve_insert(resolver, table, values),
         Stmt::Update {
             table,
@@ -130,9 +112,7 @@ fn resolve_stmt(resolver: &Resolver<'_>, stmt: &Stmt) -> Result<Action, NoMemory
             changes,
         } => resolve_update(resolver, table, key, changes),
         Stmt::Delete { table, key } => resolve_delete(resolver, table, key),
-        Stmt::Fail { text } => Ok(Action::Fail {
-            text: text.copy(resolver.alloc)?,
-        }),
+        Stmt::Fail { text } => resolve_fail(resolver, text),
     }
 }
 
@@ -143,6 +123,48 @@ fn resolve_set(resolver: &Resolver<'_>, name: &Named, value: &Expr) -> Result<Ac
     Ok(Action::Set {
         slot: resolver.names.number_or_len(&name.name),
         value: resolve_term(resolver.alloc, resolver.columns, resolver.names, value)?,
+    })
+}
+
+/// The code of an `if`, of the code of its blocks.
+fn resolve_if(
+    resolver: &Resolver<'_>,
+    test: &Expr,
+    then: List<Action>,
+    other: List<Action>,
+) -> Result<Action, NoMemory>
+    ensures { IfOk result (λ made. made ≡ action.If (term_of resolver.now.columns.now resolver.now.names.now test.now) then other) }
+{
+    Ok(Action::If {
+        test: resolve_term(resolver.alloc, resolver.columns, resolver.names, test)?,
+        then,
+        other,
+    })
+}
+
+/// The code of a `get`, of the code of its blocks.
+fn resolve_get(
+    resolver: &Resolver<'_>,
+    name: &Named,
+    table: &Named,
+    key: &List<Expr>,
+    found: List<Action>,
+    absent: List<Action>,
+) -> Result<Action, NoMemory>
+    requires { length resolver.now.tables.now < 2 ^ 32 }
+    ensures { IfOk result (λ made. made ≡ action.Get (number_of resolver.now.names.now name.now.name) (table_number resolver.now.tables.now table.now.name) (map (term_of resolver.now.columns.now resolver.now.names.now) key.now) found absent) }
+{
+    Ok(Action::Get {
+        slot: resolver.names.number_or_len(&name.name),
+        table: table_number(resolver.tables, &table.name),
+        key: resolve_terms(
+            resolver.alloc,
+            resolver.columns,
+            resolver.names,
+            key.as_slice(),
+        )?,
+        found,
+        absent,
     })
 }
 
@@ -227,5 +249,14 @@ fn resolve_delete(
             resolver.names,
             key.as_slice(),
         )?,
+    })
+}
+
+/// The code of a `fail`.
+fn resolve_fail(resolver: &Resolver<'_>, text: &Str) -> Result<Action, NoMemory>
+    ensures { IfOk result (λ made. made ≡ action.Fail text.now) }
+{
+    Ok(Action::Fail {
+        text: text.copy(resolver.alloc)?,
     })
 }
