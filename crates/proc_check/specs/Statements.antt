@@ -99,6 +99,20 @@ abbrev pub maybe_block : Option (List Walk) → List Variable → Result (Unit {
 maybe_block None scope = Ok tt
 maybe_block (Some walks) scope = block walks scope
 
+-- what a statement brings into scope that brings nothing, once it is checked
+abbrev pub brings_none : {A : Type 0} → Result A Bad → Result (Option Variable) Bad
+brings_none checked = checked >>= λ _. Ok None
+
+-- what a `let` brings into scope, once it is checked
+abbrev pub brings_value : Named → Result Kind Bad → Result (Option Variable) Bad
+brings_value name checked = checked >>= λ kind. Ok (Some (variable_of name (sort.Value kind)))
+
+-- a `for` with its block
+abbrev pub walk_rows : List TableText → List Variable → Named → Named → Named → Option Expr → Option Expr → List Walk → Result (Option Variable) Bad
+walk_rows tables scope name table column low high body =
+    walk_for tables scope name table column low high >>= λ number.
+    block body (scope ++ variable_of name (sort.Row number) ∷ []) >>= λ _. Ok None
+
 -- a statement, from the walks of those in its blocks
 abbrev pub stmt_step : List TableText → Stmt-F Walk → Walk
 stmt_step tables (stmt.Let name value) scope =
