@@ -1,12 +1,13 @@
 -- Values of rows in a column that may be there.
-use Rattle.std.proofs.Common.{◌≡◌, ◌∙◌, ℕ, List, [], ◌∷◌, ◌++◌, Bool, true, false, not, ◌&&◌, ◌||◌, cond, Option, Some, None, refl, ap, sym, subst}
+use Rattle.std.proofs.Common.{◌≡◌, ◌∙◌, ℕ, List, [], ◌∷◌, ◌++◌, Bool, true, false, not, ◌&&◌, ◌||◌, cond, IsTrue, Option, Some, None, refl, ap, sym, subst}
+use Rattle.std.specs.BTreeMap.{BTreeMap}
 use Rattle.std.specs.Cmp.{tied_itself}
 use Rattle.std.specs.Ordering.{is_eq}
 use Rattle.std.specs.declared.alloc.Global.{Global}
 use Rattle.std.specs.declared.vec.Vec.{Vec}
 use Rattle.rel_base.specs.declared.value.Value.{Value}
 use Rattle.rel_base.specs.Value.{value_cmp-total, value_eq}
-use Rattle.version_index.specs.Columns.{HasRoomAt, IsRoomy, IsSameColumn, has, has_same}
+use Rattle.version_index.specs.Columns.{HasRoomAt, IsHeld, IsRoomy, IsSameColumn, has, has_same, holds_slot}
 use Rattle.version_index.specs.declared.column.Column.{Column}
 use Rattle.version_index.proofs.Marks.{same_value}
 
@@ -39,6 +40,18 @@ roomy_one touched value room v tied = subst (HasRoomAt touched) (sym (same_value
 pub roomy_none : (touched : List (Value × Vec ℕ Global)) → IsRoomy touched None
 roomy_none touched v never = cc
 
+-- room at a value is there, where it is at another one, and at the first unless it is one with the other
+pub roomy_unless : (touched : List (Value × Vec ℕ Global)) (row other left : Option Value) → ((v : Value) → has v left ≡ (has v row && not (has v other))) → IsRoomy touched other → IsRoomy touched left → IsRoomy touched row
+roomy_unless touched row other left parts at_other at_left v there = go (has v other) refl
+  where
+    go : (b : Bool) → has v other ≡ b → HasRoomAt touched v
+    go true is = at_other v is
+    go false apart = at_left v (parts v ∙ (λ i. there i && not (apart i)))
+
+-- a slot that is held at a value is held at each that is one with it
+pub held_one : (living : List (Value × BTreeMap ℕ Bool)) (value : Value) (slot : ℕ) → IsTrue (holds_slot living value slot) → IsHeld living (Some value) slot
+held_one living value slot held v tied = subst (λ w. IsTrue (holds_slot living w slot)) (sym (same_value v value tied)) held
+
 -- the numbers after one was added at each of three values, at each only once
 pub added_all : (f b a : Bool) (f2 b2 : Bool) (number : ℕ) (xs : List ℕ) → f2 ≡ (b && not f) → b2 ≡ ((a && not f) && not b)
     → cond b2 (cond f2 (cond f (xs ++ number ∷ []) xs ++ number ∷ []) (cond f (xs ++ number ∷ []) xs) ++ number ∷ []) (cond f2 (cond f (xs ++ number ∷ []) xs ++ number ∷ []) (cond f (xs ++ number ∷ []) xs))
@@ -52,16 +65,16 @@ added_all false true false f2 b2 number xs second third = rw (second, third) ref
 added_all false false true f2 b2 number xs second third = rw (second, third) refl
 added_all false false false f2 b2 number xs second third = rw (second, third) refl
 
--- a slot that moved from a value that it had to one that it has now
-pub moved : (s old was now : Bool) (gone : Bool) → gone ≡ (was && not now) → (s ≡ true → old ≡ was) → cond (gone && s) false ((now && s) || old) ≡ cond s now old
-moved true old true true gone left here = rw left refl
-moved true old true false gone left here = rw left refl
-moved true old false true gone left here = rw left refl
-moved true old false false gone left here = rw left (here refl)
-moved false old true true gone left here = rw left refl
-moved false old true false gone left here = rw left refl
-moved false old false true gone left here = rw left refl
-moved false old false false gone left here = rw left refl
+-- a slot that moved from a value that it had to one that it has now, where these are two
+pub moved : (s old was now : Bool) (gone came : Bool) → gone ≡ (was && not now) → came ≡ (now && not was) → (s ≡ true → old ≡ was) → cond (gone && s) false ((came && s) || old) ≡ cond s now old
+moved true old true true gone came left entered here = rw (left, entered) (here refl)
+moved true old true false gone came left entered here = rw left refl
+moved true old false true gone came left entered here = rw (left, entered) refl
+moved true old false false gone came left entered here = rw (left, entered) (here refl)
+moved false old true true gone came left entered here = rw (left, entered) refl
+moved false old true false gone came left entered here = rw (left, entered) refl
+moved false old false true gone came left entered here = rw (left, entered) refl
+moved false old false false gone came left entered here = rw (left, entered) refl
 
 pub not_from : (b : Bool) → not b ≡ true → b ≡ false
 not_from true fails = sym fails

@@ -1,5 +1,5 @@
 -- What an index by the values of a column keeps.
-use Rattle.std.specs.Prelude.{◌≡◌, ◌<◌, IsSomeAnd, ◌==◌, ◌&&◌, ◌||◌, ◌++◌, ◌∷◌, ℕ, List, [], Bool, true, false, IfSome, IsTrue, Option, Some, None, cond, is_some, length, slice_get, take}
+use Rattle.std.specs.Prelude.{◌≡◌, ◌<◌, IsSomeAnd, ◌==◌, ◌&&◌, ◌||◌, ◌++◌, ◌∷◌, ℕ, List, [], Bool, true, false, not, IsTrue, Option, Some, None, cond, is_some, length, slice_get, take}
 use Rattle.std.specs.BTreeMap.{BTreeMap, is_at}
 use Rattle.std.specs.Map.{lookup}
 use Rattle.std.specs.Option.{option_and_then}
@@ -55,6 +55,14 @@ has_slot living value slot = is_marked (mark_of living value slot)
 abbrev pub holds_slot : List (Value × BTreeMap ℕ Bool) → Value → ℕ → Bool
 holds_slot living value slot = is_some (mark_of living value slot)
 
+-- a slot is held at each value that a row may have
+abbrev pub IsHeld : List (Value × BTreeMap ℕ Bool) → Option Value → ℕ → Type 0
+IsHeld living row slot = (value : Value) → has value row ≡ true → IsTrue (holds_slot living value slot)
+
+-- a slot is held at each value that a row may have, where it is another value than one that may be there
+abbrev pub IsHeldUnless : List (Value × BTreeMap ℕ Bool) → Option Value → Option Value → ℕ → Type 0
+IsHeldUnless living row other slot = (value : Value) → (has value row && not (has value other)) ≡ true → IsTrue (holds_slot living value slot)
+
 -- ---- numbers by values
 
 abbrev pub items_in : Option (Vec ℕ Global) → List ℕ
@@ -101,9 +109,9 @@ pub record IsSameColumn (old new : Column) : Type 0 where
   pub living : (value : Value) (slot : ℕ) → has_slot new.living.entries value slot ≡ has_slot old.living.entries value slot
   pub touched : (value : Value) → touched_at new.touched.entries value ≡ touched_at old.touched.entries value
 
--- a write on the key of a slot, which found a row, can be noted without memory
+-- a write on the key of a slot, which found a row, can be noted without memory: its slot stands at the value that was found already
 pub record IsReady (slot : ℕ) (found : Option (List Value)) (write : Write) (column : Column) : Type 0 where
-  pub held : IfSome (cell column.column write.after) (λ value. IsTrue (holds_slot column.living.entries value slot))
+  pub held : IsHeldUnless column.living.entries (cell column.column write.after) (cell column.column found) slot
   pub found_room : IsRoomy column.touched.entries (cell column.column found)
   pub before_room : IsRoomy column.touched.entries (cell column.column write.before)
   pub after_room : IsRoomy column.touched.entries (cell column.column write.after)

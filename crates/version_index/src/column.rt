@@ -1,9 +1,9 @@
 //! An index by the values of a column.
 
-ghost use Rattle.std.specs.Prelude.{◌≡◌, ◌&&◌, ◌||◌, ◌==◌, ◌++◌, ◌∷◌, [], IfSome, IsTrue, OnOk, cond, false, not, true, ℕ};
+ghost use Rattle.std.specs.Prelude.{◌≡◌, ◌&&◌, ◌||◌, ◌==◌, ◌++◌, ◌∷◌, [], OnOk, cond, false, not, true, ℕ};
 ghost use Rattle.std.specs.Option.{option_copied};
 ghost use Rattle.rel_base.specs.declared.value.Value.{Value as Cell};
-ghost use Rattle.version_index.specs.Columns.{HasRoomAt, IsNotedIn, IsReady, IsRoomy, IsSameColumn, cell, has, has_same, has_slot, holds_slot, touched_at};
+ghost use Rattle.version_index.specs.Columns.{HasRoomAt, IsHeld, IsHeldUnless, IsNotedIn, IsReady, IsRoomy, IsSameColumn, cell, has, has_same, has_slot, touched_at};
 
 use crate::living::{Living, hold_slot, put_slot, take_slot};
 use crate::touched::{Touched, hold_number, touch};
@@ -71,6 +71,24 @@ fn hold_value(touched: &mut Touched, alloc: Global, value: Option<&Value>) -> Re
     }
 }
 
+/// Takes room for one more number at each of three values, once where some of them are one.
+fn hold_values(
+    touched: &mut Touched,
+    alloc: Global,
+    found: Option<&Value>,
+    before: Option<&Value>,
+    after: Option<&Value>,
+) -> Result<(), NoMemory>
+    ensures same { (v : Cell) → touched_at touched.new.entries v ≡ touched_at touched.old.entries v }
+    ensures found { OnOk result (IsRoomy touched.new.entries (option_copied found.entry)) }
+    ensures before { OnOk result (IsRoomy touched.new.entries (option_copied before.entry)) }
+    ensures after { OnOk result (IsRoomy touched.new.entries (option_copied after.entry)) }
+{
+    hold_value(touched, alloc, found)?;
+    hold_value(touched, alloc, unless(before, found))?;
+    hold_value(touched, alloc, unless(unless(after, found), before))
+}
+
 /// Adds a number at a value that may be there, where there is room for it.
 fn touch_value(touched: &mut Touched, value: Option<&Value>, number: usize)
     requires { IsRoomy touched.old.entries (option_copied value) }
@@ -108,7 +126,7 @@ fn hold_at(
     value: Option<&Value>,
     slot: usize,
 ) -> Result<(), NoMemory>
-    ensures held { OnOk result (IfSome (option_copied value.entry) (λ v. IsTrue (holds_slot living.new.entries v slot))) }
+    ensures held { OnOk result (IsHeld living.new.entries (option_copied value.entry) slot) }
     ensures same { (v : Cell) (s : ℕ) → has_slot living.new.entries v s ≡ has_slot living.old.entries v s }
 {
     match value {
@@ -119,7 +137,7 @@ fn hold_at(
 
 /// Marks a slot at a value that may be there, where it is held.
 fn enter(living: &mut Living, value: Option<&Value>, slot: usize)
-    requires { IfSome (option_copied value) (λ v. IsTrue (holds_slot living.old.entries v slot)) }
+    requires { IsHeld living.old.entries (option_copied value) slot }
     ensures { (v : Cell) (s : ℕ) → has_slot living.new.entries v s ≡ ((has v (option_copied value.entry) && s == slot) || has_slot living.old.entries v s) }
 {
     if let Some(value) = value {
@@ -136,13 +154,14 @@ fn leave(living: &mut Living, value: Option<&Value>, slot: usize)
     }
 }
 
-/// Moves a slot from the value that its key had to the one that it has now, where it is held.
+/// Moves a slot from the value that its key had to the one that it has now. It is held there, where that is another value: a slot
+/// whose key keeps its value stays where it is, and is not looked up.
 fn move_slot(living: &mut Living, found: Option<&Value>, after: Option<&Value>, slot: usize)
-    requires held { IfSome (option_copied after) (λ v. IsTrue (holds_slot living.old.entries v slot)) }
+    requires held { IsHeldUnless living.old.entries (option_copied after) (option_copied found) slot }
     requires was { (v : Cell) → has_slot living.old.entries v slot ≡ has v (option_copied found) }
     ensures { (v : Cell) (s : ℕ) → has_slot living.new.entries v s ≡ cond (s == slot) (has v (option_copied after.entry)) (has_slot living.old.entries v s) }
 {
-    enter(living, after, slot);
+    enter(living, unless(after, found), slot);
     leave(living, unless(found, after), slot);
 }
 
@@ -184,10 +203,8 @@ impl Column {
         let found = value_in(found, self.column);
         let before = value_in(write.before.as_ref(), self.column);
         let after = value_in(write.after.as_ref(), self.column);
-        hold_value(&mut self.touched, alloc, found)?;
-        hold_value(&mut self.touched, alloc, before)?;
-        hold_value(&mut self.touched, alloc, after)?;
-        hold_at(&mut self.living, alloc, after, slot)
+        hold_values(&mut self.touched, alloc, found, before, after)?;
+        hold_at(&mut self.living, alloc, unless(after, found), slot)
     }
 
     /// Notes the write of a number on the key of a slot, which found a row. Takes no memory.
