@@ -1,7 +1,7 @@
 -- The index of a table while a write is noted.
-use Rattle.std.proofs.Common.{◌≡◌, ◌∙◌, ℕ, suc, List, All, Option, Some, Result, Ok, Err, OnErr, is_some, refl, ap, sym, subst, arith, slice_get, take, length}
+use Rattle.std.proofs.Common.{◌≡◌, ◌∙◌, ◌<◌, ℕ, suc, List, All, Option, Some, None, Result, Ok, Err, OnErr, is_some, refl, ap, sym, subst, arith, slice_get, take, length}
 use Rattle.std.specs.List.{AllZip}
-use Rattle.std.specs.Option.{IsSomeAnd}
+use Rattle.std.specs.Option.{IfSome, IsSomeAnd, option_map}
 use Rattle.std.proofs.lemmas.List.Elements.{All-weaker}
 use Rattle.rel_base.specs.declared.value.Value.{Value}
 use Rattle.rel_base.specs.Tables.{Stamped}
@@ -12,6 +12,7 @@ use Rattle.version_index.specs.Columns.{IsColumn, IsNotedIn, IsSameColumn, cell,
 use Rattle.version_index.specs.Index.{IsIndex, IsIndexOf, row_by}
 use Rattle.version_index.specs.Left.{left_at}
 use Rattle.version_index.specs.declared.chains.Chains.{Chains}
+use Rattle.version_index.specs.declared.chains.Spot.{Spot}
 use Rattle.version_index.specs.declared.column.Column.{Column}
 use Rattle.version_index.specs.declared.index.TableIndex.{TableIndex}
 use Rattle.version_index.proofs.Logged.{get_history}
@@ -24,6 +25,11 @@ use Rattle.version_index.proofs.Touching.{all_zip, column_next, column_stays, co
 pub in_any_case : {A E P : Type 0} (result : Result A E) → P → OnErr result P
 in_any_case (Ok x) p = tt
 in_any_case (Err e) p = p
+
+-- where a key stands is at one of the slots
+pub spot_within : (spot : Option Spot) (slot : Option ℕ) (count : ℕ) → option_map (λ (s : Spot). s.slot) spot ≡ slot → ((s : ℕ) → slot ≡ Some s → s < count) → IfSome spot (λ s. s.slot < count)
+spot_within None slot count is within = tt
+spot_within (Some spot) slot count is within = within spot.slot (sym is)
 
 module _ (entries : List Entry) (number : ℕ) (entry : Entry) (there : slice_get entries number ≡ Some entry) where
   abbrev table : ℕ

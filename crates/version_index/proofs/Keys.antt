@@ -1,14 +1,13 @@
 -- The slots of keys in the two maps of a table.
-use Rattle.std.proofs.Common.{◌≡◌, ◌∙◌, ℕ, List, true, false, cond, Option, Some, None, refl, ap, is_some}
+use Rattle.std.proofs.Common.{◌≡◌, ◌∙◌, ℕ, List, Bool, true, false, cond, Option, Some, None, refl, ap, is_some, sym}
 use Rattle.std.specs.BTreeMap.{is_at}
 use Rattle.std.specs.Cmp.{eq_by_cmp_equiv, tied_itself}
 use Rattle.std.specs.Map.{lookup}
-use Rattle.std.specs.Option.{IfSome}
 use Rattle.std.specs.Ordering.{is_eq}
 use Rattle.rel_base.specs.declared.value.Value.{Value}
 use Rattle.rel_base.specs.Value.{key_cmp, key_cmp-exact, key_cmp-total, key_eq}
-use Rattle.rel_base.proofs.Bits.{is_Equal, no_both}
-use Rattle.version_index.specs.Chains.{AreApart, IsPlaced, first_some, slot_by, slot_in}
+use Rattle.rel_base.proofs.Bits.{is_Equal}
+use Rattle.version_index.specs.Chains.{IsPlaced, first_some, slot_by, slot_in}
 
 -- keys that are one in the order are one
 pub same_key : (a b : List Value) → key_eq a b ≡ true → a ≡ b
@@ -31,40 +30,56 @@ or_same f key k x is =
       | false ↦ λ apart. refl
     ] refl
 
-module _ (living ended : List (List Value × ℕ)) (key : List Value) (slot : ℕ) (own : IfSome (slot_by living ended key) (λ s. s ≡ slot)) where
-  -- its slot is the one that is given, where it has one
-  slot_given : (found : Option ℕ) → IfSome found (λ s. s ≡ slot) → is_some found ≡ true → found ≡ Some slot
-  slot_given None is some = cc
-  slot_given (Some s) is some = ap Some is
-
-  some_first : (one other : Option ℕ) → is_some one ≡ true → is_some (first_some one other) ≡ true
-  some_first None other some = cc
-  some_first (Some s) other some = refl
-
-  some_second : (one other : Option ℕ) → is_some other ≡ true → is_some (first_some one other) ≡ true
-  some_second None other some = some
-  some_second (Some s) other some = refl
-
-  -- a key that is among those with a row is placed there
-  pub stays_living : is_some (slot_in living key) ≡ true → IsPlaced key slot true living ended living ended
-  stays_living lives =
-      let is : slot_by living ended key ≡ Some slot = slot_given (slot_by living ended key) own (some_first (slot_in living key) (slot_in ended key) lives) in
+module _ (living ended living_now ended_now : List (List Value × ℕ)) (key : List Value) (slot : ℕ) where
+  -- a key that was put among those with a row, and taken out of the others
+  pub placed_living : ((k : List Value) → slot_in living_now k ≡ cond (key_eq k key) (Some slot) (slot_in living k)) → ((k : List Value) → slot_in ended_now k ≡ cond (key_eq k key) None (slot_in ended k))
+      → IsPlaced key slot true living ended living_now ended_now
+  placed_living put taken =
       record {
-        slots = λ k. or_same (slot_by living ended) key k (Some slot) is;
-        lives_now = λ k. or_same (λ q. is_some (slot_in living q)) key k true lives;
-        apart = λ apart. apart;
+        slots = λ k. (λ i. first_some (put k i) (taken k i)) ∙ first_of (key_eq k key) (slot_in living k) (slot_in ended k);
+        lives_now = λ k. ap is_some (put k) ∙ lives_after (key_eq k key) (slot_in living k);
+        apart = λ apart k lives. taken k ∙ apart_after (key_eq k key) (slot_in living k) (slot_in ended k) (apart k) (ap is_some (sym (put k)) ∙ lives);
       }
+    where
+      first_of : (b : Bool) (x y : Option ℕ) → first_some (cond b (Some slot) x) (cond b None y) ≡ cond b (Some slot) (first_some x y)
+      first_of true x y = refl
+      first_of false x y = refl
 
-  -- a key that is among those whose row was deleted is placed there
-  pub stays_ended : AreApart living ended → is_some (slot_in ended key) ≡ true → IsPlaced key slot false living ended living ended
-  stays_ended apart gone =
-      let is : slot_by living ended key ≡ Some slot = slot_given (slot_by living ended key) own (some_second (slot_in living key) (slot_in ended key) gone) in
-      let dead : is_some (slot_in living key) ≡ false = elim (is_some (slot_in living key)) as (λ b. is_some (slot_in living key) ≡ b → b ≡ false) [
-        | true ↦ λ lives. absurd (no_both (is_some (slot_in ended key)) gone (ap is_some (apart key lives)))
-        | false ↦ λ dies. refl
-      ] refl in
+      lives_after : (b : Bool) (x : Option ℕ) → is_some (cond b (Some slot) x) ≡ cond b true (is_some x)
+      lives_after true x = refl
+      lives_after false x = refl
+
+      apart_after : (b : Bool) (x y : Option ℕ) → (is_some x ≡ true → y ≡ None) → is_some (cond b (Some slot) x) ≡ true → cond b None y ≡ None
+      apart_after true x y was lives = refl
+      apart_after false x y was lives = was lives
+
+  -- a key that was put among those whose row was deleted, and taken out of the others
+  pub placed_ended : ((k : List Value) → slot_in ended_now k ≡ cond (key_eq k key) (Some slot) (slot_in ended k)) → ((k : List Value) → slot_in living_now k ≡ cond (key_eq k key) None (slot_in living k))
+      → IsPlaced key slot false living ended living_now ended_now
+  placed_ended put taken =
       record {
-        slots = λ k. or_same (slot_by living ended) key k (Some slot) is;
-        lives_now = λ k. or_same (λ q. is_some (slot_in living q)) key k false dead;
-        apart = λ a. a;
+        slots = λ k. (λ i. first_some (taken k i) (put k i)) ∙ first_of (key_eq k key) (slot_in living k) (slot_in ended k);
+        lives_now = λ k. ap is_some (taken k) ∙ lives_after (key_eq k key) (slot_in living k);
+        apart = λ apart k lives. put k ∙ apart_after (key_eq k key) (slot_in living k) (slot_in ended k) (apart k) (ap is_some (sym (taken k)) ∙ lives);
       }
+    where
+      first_of : (b : Bool) (x y : Option ℕ) → first_some (cond b None x) (cond b (Some slot) y) ≡ cond b (Some slot) (first_some x y)
+      first_of true x y = refl
+      first_of false x y = refl
+
+      lives_after : (b : Bool) (x : Option ℕ) → is_some (cond b None x) ≡ cond b false (is_some x)
+      lives_after true x = refl
+      lives_after false x = refl
+
+      apart_after : (b : Bool) (x y : Option ℕ) → (is_some x ≡ true → y ≡ None) → is_some (cond b None x) ≡ true → cond b (Some slot) y ≡ None
+      apart_after true x y was lives = cc
+      apart_after false x y was lives = was lives
+
+-- a key that stands in one of the maps is placed there
+pub stays_placed : (living ended : List (List Value × ℕ)) (key : List Value) (slot : ℕ) (lives : Bool) → slot_by living ended key ≡ Some slot → lives ≡ is_some (slot_in living key) → IsPlaced key slot lives living ended living ended
+stays_placed living ended key slot lives own lived =
+    record {
+      slots = λ k. or_same (slot_by living ended) key k (Some slot) own;
+      lives_now = λ k. or_same (λ q. is_some (slot_in living q)) key k lives (sym lived);
+      apart = λ apart. apart;
+    }

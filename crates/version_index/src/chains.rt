@@ -1,6 +1,7 @@
 //! The writes on each key of a table.
 
 ghost use Rattle.std.specs.Prelude.{◌≡◌, ◌<◌, ◌+◌, ◌++◌, ◌∷◌, [], All, IfOk, IfSome, List, None, OnErr, OnOk, Option, Some, cond, false, is_some, length, map, slice_get, true};
+ghost use Rattle.std.specs.Option.{option_map};
 ghost use Rattle.std.specs.Vec.{vec_len, vec_capacity};
 ghost use Rattle.rel_base.specs.Value.{key_eq};
 ghost use Rattle.rel_base.specs.declared.value.Value.{Value as Cell};
@@ -22,6 +23,34 @@ pub struct Chains {
     pub ended: BTreeMap<Key, usize>,
     /// For each slot the numbers of the writes on its key, rising.
     pub numbers: Vec<Vec<usize>>,
+}
+
+/// Where a key that was ever written stands: at a slot, and among the keys with a row or among those whose row was deleted.
+#[derive(Clone, Copy)]
+pub struct Spot {
+    pub slot: usize,
+    pub lives: bool,
+}
+
+/// Where a key stands whose slot may be there, among the keys with a row or not.
+fn spot_in(slot: Option<usize>, lives: bool) -> Option<Spot>
+    ensures slot { option_map (λ spot. spot.slot) result ≡ slot }
+    ensures lives { IfSome result (λ spot. spot.lives ≡ lives) }
+{
+    match slot {
+        None => None,
+        Some(slot) => Some(Spot { slot, lives }),
+    }
+}
+
+/// The slot of a key that may stand somewhere.
+pub fn slot_at(spot: Option<Spot>) -> Option<usize>
+    ensures { result ≡ option_map (λ spot. spot.slot) spot }
+{
+    match spot {
+        None => None,
+        Some(spot) => Some(spot.slot),
+    }
 }
 
 /// The slot of a key in one of the maps.
@@ -53,65 +82,42 @@ fn take_key(slots: &mut BTreeMap<Key, usize>, key: &Key)
     let _ = slots.remove(key);
 }
 
-/// Has a key at its slot in one of two maps, and not in the other. Where memory is wanting, both stay as they are.
-fn move_key(
-    to: &mut BTreeMap<Key, usize>,
-    from: &mut BTreeMap<Key, usize>,
-    alloc: Global,
-    key: &Key,
-    slot: usize,
-) -> Result<(), NoMemory>
-    ensures to { OnOk result ((k : List Cell) → slot_in to.new.entries k ≡ cond (key_eq k key.now) (Some slot) (slot_in to.old.entries k)) }
-    ensures from { OnOk result ((k : List Cell) → slot_in from.new.entries k ≡ cond (key_eq k key.now) None (slot_in from.old.entries k)) }
-    ensures same_to { OnErr result (to.new.entries ≡ to.old.entries) }
-    ensures same_from { OnErr result (from.new.entries ≡ from.old.entries) }
-{
-    put_key(to, alloc, key, slot)?;
-    take_key(from, key);
-    Ok(())
-}
-
-/// Has a key among those with a row.
-fn keep_living(
+/// Has a key at its slot among those with a row. Where memory is wanting, both maps stay as they are.
+fn settle_living(
     living: &mut BTreeMap<Key, usize>,
     ended: &mut BTreeMap<Key, usize>,
     alloc: Global,
     key: &Key,
     slot: usize,
 ) -> Result<(), NoMemory>
-    requires own { IfSome (slot_by living.old.entries ended.old.entries key.now) (λ s. s ≡ slot) }
     ensures placed { OnOk result (IsPlaced key.now slot true living.old.entries ended.old.entries living.new.entries ended.new.entries) }
     ensures same_living { OnErr result (living.new.entries ≡ living.old.entries) }
     ensures same_ended { OnErr result (ended.new.entries ≡ ended.old.entries) }
 {
-    if living.contains_key(key) {
-        return Ok(());
-    }
-    move_key(living, ended, alloc, key, slot)
+    put_key(living, alloc, key, slot)?;
+    take_key(ended, key);
+    Ok(())
 }
 
-/// Has a key among those whose row was deleted.
-fn keep_ended(
+/// Has a key at its slot among those whose row was deleted. Where memory is wanting, both maps stay as they are.
+fn settle_ended(
     living: &mut BTreeMap<Key, usize>,
     ended: &mut BTreeMap<Key, usize>,
     alloc: Global,
     key: &Key,
     slot: usize,
 ) -> Result<(), NoMemory>
-    requires own { IfSome (slot_by living.old.entries ended.old.entries key.now) (λ s. s ≡ slot) }
-    requires apart { AreApart living.old.entries ended.old.entries }
     ensures placed { OnOk result (IsPlaced key.now slot false living.old.entries ended.old.entries living.new.entries ended.new.entries) }
     ensures same_living { OnErr result (living.new.entries ≡ living.old.entries) }
     ensures same_ended { OnErr result (ended.new.entries ≡ ended.old.entries) }
 {
-    if ended.contains_key(key) {
-        return Ok(());
-    }
-    move_key(ended, living, alloc, key, slot)
+    put_key(ended, alloc, key, slot)?;
+    take_key(living, key);
+    Ok(())
 }
 
 /// Has a key at its slot in the map of the keys with a row, where it has one, and else in that of the keys whose row was deleted.
-fn place_key(
+fn settle_key(
     living: &mut BTreeMap<Key, usize>,
     ended: &mut BTreeMap<Key, usize>,
     alloc: Global,
@@ -119,17 +125,37 @@ fn place_key(
     slot: usize,
     lives: bool,
 ) -> Result<(), NoMemory>
-    requires own { IfSome (slot_by living.old.entries ended.old.entries key.now) (λ s. s ≡ slot) }
-    requires apart { AreApart living.old.entries ended.old.entries }
     ensures placed { OnOk result (IsPlaced key.now slot lives living.old.entries ended.old.entries living.new.entries ended.new.entries) }
     ensures same_living { OnErr result (living.new.entries ≡ living.old.entries) }
     ensures same_ended { OnErr result (ended.new.entries ≡ ended.old.entries) }
 {
     if lives {
-        keep_living(living, ended, alloc, key, slot)
+        settle_living(living, ended, alloc, key, slot)
     } else {
-        keep_ended(living, ended, alloc, key, slot)
+        settle_ended(living, ended, alloc, key, slot)
     }
+}
+
+/// Has a key that stands in one of the maps in the one where it belongs after a write. A key that belongs where it stands is not
+/// looked up.
+fn place_key(
+    living: &mut BTreeMap<Key, usize>,
+    ended: &mut BTreeMap<Key, usize>,
+    alloc: Global,
+    key: &Key,
+    spot: Spot,
+    lives: bool,
+) -> Result<(), NoMemory>
+    requires own { slot_by living.old.entries ended.old.entries key.now ≡ Some spot.slot }
+    requires lived { spot.lives ≡ is_some (slot_in living.old.entries key.now) }
+    ensures placed { OnOk result (IsPlaced key.now spot.slot lives living.old.entries ended.old.entries living.new.entries ended.new.entries) }
+    ensures same_living { OnErr result (living.new.entries ≡ living.old.entries) }
+    ensures same_ended { OnErr result (ended.new.entries ≡ ended.old.entries) }
+{
+    if spot.lives == lives {
+        return Ok(());
+    }
+    settle_key(living, ended, alloc, key, spot.slot, lives)
 }
 
 impl Chains {
@@ -153,14 +179,22 @@ impl Chains {
         self.numbers.as_slice().len()
     }
 
+    /// Where a key stands, where it was ever written.
+    pub fn spot(&self, key: &Key) -> Option<Spot>
+        ensures slot { option_map (λ spot. spot.slot) result ≡ slot_of self.now key.now }
+        ensures lives { IfSome result (λ spot. spot.lives ≡ lives_in self.now key.now) }
+    {
+        match find_slot(&self.living, key) {
+            None => spot_in(find_slot(&self.ended, key), false),
+            Some(slot) => Some(Spot { slot, lives: true }),
+        }
+    }
+
     /// The slot of a key, where it was ever written.
     pub fn slot(&self, key: &Key) -> Option<usize>
         ensures { result ≡ slot_of self.now key.now }
     {
-        match find_slot(&self.living, key) {
-            None => find_slot(&self.ended, key),
-            Some(slot) => Some(slot),
-        }
+        slot_at(self.spot(key))
     }
 
     /// The numbers of the writes on the key of a slot that may be there.
@@ -199,51 +233,53 @@ impl Chains {
         self.numbers.reserve(1)?;
         let numbers = one_number(alloc, number)?;
         let slot = self.numbers.len();
-        place_key(&mut self.living, &mut self.ended, alloc, key, slot, lives)?;
+        settle_key(&mut self.living, &mut self.ended, alloc, key, slot, lives)?;
         self.numbers.push_reserved(numbers);
         Ok(())
     }
 
-    /// Notes one more write on the key of a slot. Where memory is wanting, all stays as it was.
+    /// Notes one more write on a key that stands somewhere. Where memory is wanting, all stays as it was.
     fn note_next(
         &mut self,
         alloc: Global,
         key: &Key,
-        slot: usize,
+        spot: Spot,
         lives: bool,
         number: usize,
     ) -> Result<(), NoMemory>
-        requires own { slot_of self.old key.now ≡ Some slot }
-        requires within { slot < length self.old.numbers.items }
+        requires own { slot_of self.old key.now ≡ Some spot.slot }
+        requires lived { spot.lives ≡ lives_in self.old key.now }
+        requires within { spot.slot < length self.old.numbers.items }
         requires apart { AreApart self.old.living.entries self.old.ended.entries }
         ensures noted { OnOk result (IsNoted key.now lives number self.old self.new) }
         ensures same { OnErr result (IsSame self.old self.new) }
     {
-        hold_room(&mut self.numbers, slot)?;
-        place_key(&mut self.living, &mut self.ended, alloc, key, slot, lives)?;
-        push_at(&mut self.numbers, slot, number);
+        hold_room(&mut self.numbers, spot.slot)?;
+        place_key(&mut self.living, &mut self.ended, alloc, key, spot, lives)?;
+        push_at(&mut self.numbers, spot.slot, number);
         Ok(())
     }
 
-    /// Notes a write on a key, whose slot is given where it has one, and whether the write left a row. Where memory is wanting, all
+    /// Notes a write on a key, which is given with where it stands, and whether the write left a row. Where memory is wanting, all
     /// stays as it was.
     pub fn note(
         &mut self,
         alloc: Global,
         key: &Key,
-        slot: Option<usize>,
+        spot: Option<Spot>,
         lives: bool,
         number: usize,
     ) -> Result<(), NoMemory>
-        requires own { slot ≡ slot_of self.old key.now }
-        requires within { IfSome slot (λ s. s < length (lists_of self.old)) }
+        requires own { option_map (λ spot. spot.slot) spot ≡ slot_of self.old key.now }
+        requires lived { IfSome spot (λ spot. spot.lives ≡ lives_in self.old key.now) }
+        requires within { IfSome spot (λ spot. spot.slot < length (lists_of self.old)) }
         requires apart { AreApart self.old.living.entries self.old.ended.entries }
         ensures noted { OnOk result (IsNoted key.now lives number self.old self.new) }
         ensures same { OnErr result (IsSame self.old self.new) }
     {
-        match slot {
+        match spot {
             None => self.note_first(alloc, key, lives, number),
-            Some(slot) => self.note_next(alloc, key, slot, lives, number),
+            Some(spot) => self.note_next(alloc, key, spot, lives, number),
         }
     }
 }

@@ -9,7 +9,7 @@ ghost use Rattle.version_index.specs.Chains.{slot_or};
 ghost use Rattle.version_index.specs.Columns.{IsNotedIn, IsReady, IsSameColumn, cell, has, has_slot};
 ghost use Rattle.version_index.specs.Index.{HasColumns, IsEmptyColumn, IsEmptyIndex, IsIndexOf, index_columns, last_in, row_after, row_by};
 
-use crate::chains::Chains;
+use crate::chains::{Chains, slot_at};
 use crate::column::Column;
 use rel_base::{NoMemory, Row, TableDef, Write};
 use row_sets::entry::{Entry, entry_at};
@@ -154,12 +154,13 @@ impl TableIndex {
         ensures columns { map (λ c. c.column) self.new.columns.items ≡ map (λ c. c.column) self.old.columns.items }
     {
         let write = &entry_at(entries, number).placed.write;
-        let slot = self.chains.slot(&write.key);
+        let spot = self.chains.spot(&write.key);
+        let slot = slot_at(spot);
         let found = found_row(entries, self.chains.numbers(slot));
         let own = own_slot(slot, self.chains.count());
         hold_all(alloc, &mut self.columns, own, found, write)?;
         self.chains
-            .note(alloc, &write.key, slot, write.after.is_some(), number)?;
+            .note(alloc, &write.key, spot, write.after.is_some(), number)?;
         note_all(&mut self.columns, own, found, write, number);
         Ok(())
     }
