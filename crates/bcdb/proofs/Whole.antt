@@ -1,8 +1,8 @@
 -- The answer is whole exactly where nothing is refused.
-use Rattle.std.proofs.Common.{IfSome, List, None, Option, Some, ap, inl, inr, refl, sym, ◌∙◌, ◌≡◌, ◌⊎◌, ℕ}
+use Rattle.std.proofs.Common.{IfSome, List, None, Option, Some, ap, inl, inr, refl, subst, sym, ◌∙◌, ◌≡◌, ◌⊎◌, ℕ}
 use Rattle.std.specs.Prelude.{Err, IsOk, Ok, Result}
 use Rattle.bcdb.specs.Accepted.{accepted}
-use Rattle.bcdb.specs.Answer.{Answer, Writes, all_arrived, arrived_in, cluster_of, over_app, over_arrivals, over_cluster, over_load, over_nodes, over_schedule, over_settings, over_simulation, over_told, over_versions, read_refused, sealed, simulation_of, status_of}
+use Rattle.bcdb.specs.Answer.{Answer, Writes, all_arrived, arrived_in, cluster_of, over_app, over_arrivals, over_cluster, over_load, over_nodes, over_schedule, over_settings, over_simulation, over_told, over_versions, read_refused, sealed, simulation_of, status_of, usage_refused}
 use Rattle.bcdb.specs.Causes.{RoseAtNamed, RoseInTurn}
 use Rattle.bcdb.specs.Selected.{selected}
 use Rattle.bcdb.specs.Traced.{EndsTraced, followed_by}
@@ -14,6 +14,8 @@ use Rattle.bcdb.specs.declared.simulation.Simulation.{Simulation}
 use Rattle.bcdb.specs.declared.status.Status.TheVariants.{AppRefused, ArrivalRefused, ChainRefused, Done, NoMemory, QueryRefused, ReadFault, ScheduleRefused, Usage, WriteFault}
 use Rattle.bcdb.specs.declared.status.Status.{Status}
 use Rattle.chain_file.specs.Chain.{chain}
+use Rattle.cli_words.specs.declared.settings.WordsFault.TheVariants as fault
+use Rattle.cli_words.specs.declared.settings.WordsFault.{WordsFault}
 use Rattle.cli_words.specs.declared.settings.Settings.TheVariants.{Load, Provenance, Run, Seal, Simulate}
 use Rattle.cli_words.specs.declared.settings.Settings.{Settings}
 use Rattle.edge_traits.specs.Causes.{Counts, Rose}
@@ -211,3 +213,26 @@ pub whole_told : (settings : Option Settings) (told : Option Files) (status : St
     → IfSome told (λ files. EndsOver settings files status before now was is) → status ≡ Done → IfSome told (IsWhole settings)
 whole_told settings None status before now was is ends done = tt
 whole_told settings (Some files) status before now was is ends done = is_whole settings files status before now was is ends done
+
+-- and where there are no settings
+pub completed_refused : (settings : Option Settings) (told : Option Files) (why : WordsFault) (status : Status) (read wrote : Type 0) → (why ≡ fault.Usage → settings ≡ None)
+    → (why ≡ fault.NoMemory → status ≡ NoMemory) → IfSome told (λ files. IsWhole settings files → (read → ⊥) → (wrote → ⊥) → (status ≡ Done) ⊎ (status ≡ NoMemory))
+completed_refused settings None why status read wrote usage memory = tt
+completed_refused settings (Some files) fault.Usage status read wrote usage memory = λ whole _ _. absurd (subst (λ (found : Option Settings). IsWhole found files) (usage refl) whole)
+completed_refused settings (Some files) fault.NoMemory status read wrote usage memory = λ whole _ _. inr (memory refl)
+
+refused_status : (status : Status) → (status ≡ WriteFault) ⊎ (status ≡ Usage) → status ≡ Done → ⊥
+refused_status status (inl failed) done = absurd (cc)
+refused_status status (inr usage) done = absurd (cc)
+
+not_done : (why : WordsFault) (status : Status) (before now : Option (List ℕ)) → (why ≡ fault.Usage → Writes usage_refused status before now)
+    → (why ≡ fault.NoMemory → status ≡ NoMemory) → status ≡ Done → ⊥
+not_done fault.Usage status before now usage memory done = refused_status status (writes_status usage_refused status before now (usage refl)) done
+not_done fault.NoMemory status before now usage memory done = short (memory refl) done
+  where
+    short : status ≡ NoMemory → status ≡ Done → ⊥
+    short one other = absurd (cc)
+
+pub whole_refused : (settings : Option Settings) (told : Option Files) (why : WordsFault) (status : Status) (before now : Option (List ℕ))
+    → (why ≡ fault.Usage → Writes usage_refused status before now) → (why ≡ fault.NoMemory → status ≡ NoMemory) → status ≡ Done → IfSome told (IsWhole settings)
+whole_refused settings told why status before now usage memory done = absurd (not_done why status before now usage memory done)

@@ -1,7 +1,8 @@
-use Rattle.std.proofs.Common.{IfSome, Option, subst, sym, ◌≡◌, ◌⊎◌}
+use Rattle.std.proofs.Common.{IfSome, Option, ap, subst, sym, ◌≡◌, ◌⊎◌}
+use Rattle.std.specs.Prelude.{Err}
 use Rattle.bcdb.proofs.top.bcdb.Goals as goal
 use Rattle.bcdb.specs.Answer.{Writes, read_refused}
-use Rattle.bcdb.proofs.Whole.{completed_told, whole_told}
+use Rattle.bcdb.proofs.Whole.{completed_refused, completed_told, whole_refused, whole_told}
 use Rattle.bcdb.specs.Causes.{RoseAtNamed, RoseInTurn}
 use Rattle.bcdb.specs.declared.status.Status.TheVariants.{ReadFault}
 use Rattle.bcdb.specs.Traced.{EndsTraced}
@@ -29,3 +30,12 @@ pub returns-in-Ok-clause-done : goal.returns-in-Ok-clause-done
 returns-in-Ok-clause-done g c =
     whole_told _ (g.S.Shelf.told c.args.shelf.now) c.serve.result (g.W.Sink.written c.args.out.now) (g.W.Sink.written c.serve.new.out) (g.S.Shelf.faults c.args.shelf.now)
     (g.S.Shelf.faults c.serve.new.shelf) (returns-in-Ok-clause-ends g c)
+
+pub returns-in-Err-clause-complete : goal.returns-in-Err-clause-complete
+returns-in-Err-clause-complete g c =
+    completed_refused _ (g.S.Shelf.told c.args.shelf.now) c.in-Err.fault c.refuse_words.result _ _ (λ usage. c.in-Err.ensures.usage.0 (ap Err usage)) (λ short. (c.refuse_words.ensures.memory short).0)
+
+pub returns-in-Err-clause-done : goal.returns-in-Err-clause-done
+returns-in-Err-clause-done g c =
+    whole_refused _ (g.S.Shelf.told c.args.shelf.now) c.in-Err.fault c.refuse_words.result (g.W.Sink.written c.args.out.now) (g.W.Sink.written c.refuse_words.new.out)
+    c.refuse_words.ensures.usage (λ short. (c.refuse_words.ensures.memory short).0)
