@@ -9,24 +9,23 @@ ghost use Rattle.row_sets.specs.Overlay.{own_of};
 ghost use Rattle.plain_run.specs.State.{state, IsReady};
 
 use crate::run::Run;
+use crate::scene::Scene;
 use rel_base::{List, Made, NoMemory, Read, Row, Seen, TableDef, Twin};
 use snapshots::Snapshot;
 use std::alloc::Global;
 
 /// The rows that a read gets of the snapshot.
 pub fn fetch<S: Snapshot>(
-    alloc: Global,
-    tables: &List<TableDef>,
-    snapshot: &S,
+    scene: &Scene<'_, S>,
     def: &TableDef,
     read: &Read,
 ) -> Result<List<Seen>, NoMemory>
-    requires ready { IsReady tables.now (S.declared snapshot.now) (S.tables snapshot.now) }
-    requires here { slice_get tables.now (read_table read.now) ≡ Some def.now }
+    requires ready { IsReady scene.now.tables.now (S.declared scene.now.snapshot.now) (S.tables scene.now.snapshot.now) }
+    requires here { slice_get scene.now.tables.now (read_table read.now) ≡ Some def.now }
     requires fits { ReadFits def.now read.now }
-    ensures { IfOk result (λ seens. seens ≡ rows def.now read.now (S.tables snapshot.now)) }
+    ensures { IfOk result (λ seens. seens ≡ rows def.now read.now (S.tables scene.now.snapshot.now)) }
 {
-    snapshot.rows(alloc, read)
+    scene.snapshot.rows(scene.alloc, read)
 }
 
 /// Records a read that was made, with its rows.
@@ -40,22 +39,20 @@ fn record_read(run: &mut Run, read: Read, seens: List<Seen>) -> Result<(), NoMem
 
 /// Makes a read, and answers the rows that the transaction sees.
 pub fn ask<S: Snapshot>(
-    alloc: Global,
-    tables: &List<TableDef>,
-    snapshot: &S,
+    scene: &Scene<'_, S>,
     def: &TableDef,
     read: Read,
     run: &mut Run,
 ) -> Result<List<Row>, NoMemory>
-    requires ready { IsReady tables.now (S.declared snapshot.now) (S.tables snapshot.now) }
-    requires here { slice_get tables.now (read_table read) ≡ Some def.now }
+    requires ready { IsReady scene.now.tables.now (S.declared scene.now.snapshot.now) (S.tables scene.now.snapshot.now) }
+    requires here { slice_get scene.now.tables.now (read_table read) ≡ Some def.now }
     requires fits { ReadFits def.now read }
-    ensures rows { IfOk result (λ seen. seen ≡ merged def.now read (own_of run.old.own) (rows def.now read (S.tables snapshot.now))) }
-    ensures asked { OnOk result (state run.new ≡ asked (state run.old) read (rows def.now read (S.tables snapshot.now))) }
+    ensures rows { IfOk result (λ seen. seen ≡ merged def.now read (own_of run.old.own) (rows def.now read (S.tables scene.now.snapshot.now))) }
+    ensures asked { OnOk result (state run.new ≡ asked (state run.old) read (rows def.now read (S.tables scene.now.snapshot.now))) }
     ensures own { run.new.own ≡ run.old.own }
 {
-    let seens = fetch(alloc, tables, snapshot, def, &read)?;
-    let seen = run.own.merge(alloc, def, &read, &seens)?;
+    let seens = fetch(scene, def, &read)?;
+    let seen = run.own.merge(scene.alloc, def, &read, &seens)?;
     record_read(run, read, seens)?;
     Ok(seen)
 }
@@ -79,24 +76,22 @@ fn first_row(alloc: Global, seens: &[Seen]) -> Result<Option<Row>, NoMemory>
 
 /// Makes the point read of a key that is to be written.
 pub fn ask_key<S: Snapshot>(
-    alloc: Global,
-    tables: &List<TableDef>,
-    snapshot: &S,
+    scene: &Scene<'_, S>,
     def: &TableDef,
     read: Read,
     run: &mut Run,
 ) -> Result<KeyRows, NoMemory>
-    requires ready { IsReady tables.now (S.declared snapshot.now) (S.tables snapshot.now) }
-    requires here { slice_get tables.now (read_table read) ≡ Some def.now }
+    requires ready { IsReady scene.now.tables.now (S.declared scene.now.snapshot.now) (S.tables scene.now.snapshot.now) }
+    requires here { slice_get scene.now.tables.now (read_table read) ≡ Some def.now }
     requires fits { ReadFits def.now read }
-    ensures before { IfOk result (λ key. key.before ≡ first_row (rows def.now read (S.tables snapshot.now))) }
-    ensures seen { IfOk result (λ key. key.seen ≡ merged def.now read (own_of run.old.own) (rows def.now read (S.tables snapshot.now))) }
-    ensures asked { OnOk result (state run.new ≡ asked (state run.old) read (rows def.now read (S.tables snapshot.now))) }
+    ensures before { IfOk result (λ key. key.before ≡ first_row (rows def.now read (S.tables scene.now.snapshot.now))) }
+    ensures seen { IfOk result (λ key. key.seen ≡ merged def.now read (own_of run.old.own) (rows def.now read (S.tables scene.now.snapshot.now))) }
+    ensures asked { OnOk result (state run.new ≡ asked (state run.old) read (rows def.now read (S.tables scene.now.snapshot.now))) }
     ensures own { run.new.own ≡ run.old.own }
 {
-    let seens = fetch(alloc, tables, snapshot, def, &read)?;
-    let seen = run.own.merge(alloc, def, &read, &seens)?;
-    let before = first_row(alloc, seens.as_slice())?;
+    let seens = fetch(scene, def, &read)?;
+    let seen = run.own.merge(scene.alloc, def, &read, &seens)?;
+    let before = first_row(scene.alloc, seens.as_slice())?;
     record_read(run, read, seens)?;
     Ok(KeyRows { before, seen })
 }

@@ -11,6 +11,7 @@ ghost use Rattle.plain_run.specs.State.{state, IsReady};
 
 use crate::plain::run_block;
 use crate::run::Run;
+use crate::scene::Scene;
 use proc_eval::Halt;
 use proc_eval::call::{bind_arguments, procedure_named, takes};
 use proc_syntax::{App, Ending, ProcDef, Ran, Stop, Tx};
@@ -46,17 +47,15 @@ fn begin(alloc: Global, procedure: &ProcDef, values: &[Value]) -> Result<Run, No
 
 /// The run of a procedure that takes its arguments.
 fn run_procedure<S: Snapshot>(
-    alloc: Global,
-    tables: &List<TableDef>,
-    snapshot: &S,
+    scene: &Scene<'_, S>,
     procedure: &ProcDef,
     values: &[Value],
 ) -> Result<Ran, NoMemory>
-    requires { IsReady tables.now (S.declared snapshot.now) (S.tables snapshot.now) }
-    ensures { IfOk result (λ r. r ≡ ran tables.now (S.tables snapshot.now) (block tables.now (S.tables snapshot.now) procedure.now.body (start procedure.now values.now))) }
+    requires { IsReady scene.now.tables.now (S.declared scene.now.snapshot.now) (S.tables scene.now.snapshot.now) }
+    ensures { IfOk result (λ r. r ≡ ran scene.now.tables.now (S.tables scene.now.snapshot.now) (block scene.now.tables.now (S.tables scene.now.snapshot.now) procedure.now.body (start procedure.now values.now))) }
 {
-    let mut run = begin(alloc, procedure, values)?;
-    match run_block(alloc, tables, snapshot, procedure.body.as_slice(), &mut run) {
+    let mut run = begin(scene.alloc, procedure, values)?;
+    match run_block(scene, procedure.body.as_slice(), &mut run) {
         Ok(()) => {
             let writes = run.own.net();
             Ok(Ran {
@@ -68,7 +67,7 @@ fn run_procedure<S: Snapshot>(
         Err(Halt::NoMemory) => Err(NoMemory),
         Err(Halt::Stop(stop)) => Ok(Ran {
             reads: run.made,
-            writes: List::new(alloc),
+            writes: List::new(scene.alloc),
             ending: ending_of(stop),
         }),
     }
@@ -105,8 +104,14 @@ pub fn run_call<S: Snapshot>(
     match procedure_named(app, &tx.procedure) {
         None => Ok(no_run(alloc)),
         Some(procedure) => {
-            if takes(procedure, tx.args.as_slice()) {
-                run_procedure(alloc, tables, snapshot, procedure, tx.args.as_slice())
+            let args = tx.args.as_slice();
+            if takes(procedure, args) {
+                let scene = Scene {
+                    alloc,
+                    tables,
+                    snapshot,
+                };
+                run_procedure(&scene, procedure, args)
             } else {
                 Ok(no_run(alloc))
             }

@@ -6,17 +6,20 @@ ghost use Rattle.rel_base.specs.Schema.{KeyFits};
 ghost use Rattle.proc_syntax.specs.declared.run.Binding.TheVariants.{Held};
 ghost use Rattle.proc_syntax.specs.declared.run.Stop.TheVariants as stop;
 ghost use Rattle.proc_syntax.specs.Scope.{table_named, column_in};
-ghost use Rattle.proc_syntax.specs.Meaning.{point_of, span_of, bound, key_for, row_under, set_columns, insert_at, update_at, delete_at, get_at, do_set, do_get, do_insert, do_update, do_delete};
+ghost use Rattle.proc_syntax.specs.Meaning.{point_of, span_of, bound, key_for, insert_at, update_at, delete_at, get_at, wrote, do_set, do_if, do_get, do_insert, do_update, do_delete};
 ghost use Rattle.proc_syntax.specs.Values.{found};
 ghost use Rattle.proc_eval.specs.Gives.{Gives};
 ghost use Rattle.proc_eval.specs.declared.halt.Halt.TheVariants as halt;
 ghost use Rattle.plain_run.specs.State.{state, Ends, Chooses, IsReady, Keeps, KeepsAt};
 
-use crate::ask::{ask, ask_key};
+use crate::ask::{KeyRows, ask, ask_key};
 use crate::run::Run;
+use crate::scene::Scene;
 use proc_eval::Halt;
+use proc_eval::change::changed;
+use proc_eval::compare::flag;
 use proc_eval::eval::{eval, eval_changes, eval_key, eval_row};
-use proc_eval::fit::{fits_key, is_under, key_for, span_read, with_columns};
+use proc_eval::fit::{fits_key, key_for, span_read};
 use proc_eval::scope::{bind, table_named};
 use proc_syntax::{Binding, Change, Expr, Fault, Stop};
 use rel_base::{Key, List, Name, NoMemory, Read, Row, TableDef, Twin, Value};
@@ -91,36 +94,55 @@ pub fn bind_row(
 
 /// `let NAME = VALUE;` and `NAME = VALUE;`
 #[tactic(auto, using(crate::proofs::Exits::stops_value))]
-pub fn run_set(
-    alloc: Global,
-    tables: &List<TableDef>,
+pub fn run_set<S: Snapshot>(
+    scene: &Scene<'_, S>,
     name: &Name,
     value: &Expr,
     run: &mut Run,
 ) -> Result<(), Halt>
-    ensures ends { Ends result (state run.new) (do_set tables.now name.now value.now (state run.old)) }
+    ensures ends { Ends result (state run.new) (do_set scene.now.tables.now name.now value.now (state run.old)) }
     ensures own { run.new.own ≡ run.old.own }
 {
-    let value = eval(alloc, tables, run.variables.as_slice(), value)?;
-    bind(alloc, &mut run.variables, name, Binding::Plain(value))?;
+    let value = eval(scene.alloc, scene.tables, run.variables.as_slice(), value)?;
+    bind(scene.alloc, &mut run.variables, name, Binding::Plain(value))?;
     Ok(())
 }
 
-/// Puts a new row where its key has none.
-fn put_new(
+/// `if TEST`: whether the first block is next.
+#[tactic(auto, using(crate::proofs::Exits::stops_value))]
+pub fn run_test<S: Snapshot>(scene: &Scene<'_, S>, test: &Expr, run: &Run) -> Result<bool, Halt>
+    ensures { Chooses result (state run.now) (λ body other. do_if scene.now.tables.now test.now body other (state run.now)) }
+{
+    let value = eval(scene.alloc, scene.tables, run.variables.as_slice(), test)?;
+    let holds = flag(&value)?;
+    Ok(holds)
+}
+
+/// A key that is to be written, with its rows.
+#[derive(Drop)]
+struct Target {
     table: u32,
     key: Key,
-    before: Option<Row>,
-    row: Row,
-    seen: &[Row],
-    run: &mut Run,
-) -> Result<(), Halt>
-    ensures ends { Ends result (state run.new) (insert_at table key row seen.now (state run.old)) }
-    ensures found { KeepsAt (table, key) before run.old.own run.new.own }
+    rows: KeyRows,
+}
+
+/// Leaves a row at a key, or none.
+fn leave(target: Target, after: Option<Row>, run: &mut Run) -> Result<(), NoMemory>
+    ensures wrote { OnOk result (state run.new ≡ wrote (state run.old) target.table target.key after) }
+    ensures found { KeepsAt (target.table, target.key) target.rows.before run.old.own run.new.own }
 {
-    match seen.split_first() {
+    let Target { table, key, rows } = target;
+    run.own.put(table, key, rows.before, after)
+}
+
+/// Puts a new row where its key has none.
+fn put_new(target: Target, row: Row, run: &mut Run) -> Result<(), Halt>
+    ensures ends { Ends result (state run.new) (insert_at target.table target.key row target.rows.seen (state run.old)) }
+    ensures found { KeepsAt (target.table, target.key) target.rows.before run.old.own run.new.own }
+{
+    match target.rows.seen.as_slice().split_first() {
         None => {
-            run.own.put(table, key, before, Some(row))?;
+            leave(target, Some(row), run)?;
             Ok(())
         }
         Some(_) => Err(Halt::Stop(Stop::Fault(Fault::DuplicateKey))),
@@ -141,44 +163,24 @@ pub fn key_of_fit(alloc: Global, def: &TableDef, row: &Row) -> Result<Key, Halt>
 /// `insert TABLE (VALUES);`
 #[tactic(auto, using(crate::proofs::Exits::stops_value, crate::proofs::Exits::stops_some, crate::proofs::Exits::some_found))]
 pub fn run_insert<S: Snapshot>(
-    alloc: Global,
-    tables: &List<TableDef>,
-    snapshot: &S,
+    scene: &Scene<'_, S>,
     table: &Name,
     values: &[Expr],
     run: &mut Run,
 ) -> Result<(), Halt>
-    requires { IsReady tables.now (S.declared snapshot.now) (S.tables snapshot.now) }
-    ensures ends { Ends result (state run.new) (do_insert tables.now (S.tables snapshot.now) table.now values.now (state run.old)) }
-    ensures found { Keeps tables.now (S.tables snapshot.now) run.old.own run.new.own }
+    requires { IsReady scene.now.tables.now (S.declared scene.now.snapshot.now) (S.tables scene.now.snapshot.now) }
+    ensures ends { Ends result (state run.new) (do_insert scene.now.tables.now (S.tables scene.now.snapshot.now) table.now values.now (state run.old)) }
+    ensures found { Keeps scene.now.tables.now (S.tables scene.now.snapshot.now) run.old.own run.new.own }
 {
-    let (number, def) = find_table(tables, table)?;
-    let row = eval_row(alloc, tables, run.variables.as_slice(), values)?;
-    let key = key_of_fit(alloc, def, &row)?;
+    let (table, def) = find_table(scene.tables, table)?;
+    let row = eval_row(scene.alloc, scene.tables, run.variables.as_slice(), values)?;
+    let key = key_of_fit(scene.alloc, def, &row)?;
     let read = Read::Point {
-        table: number,
-        key: key.copy(alloc)?,
+        table,
+        key: key.copy(scene.alloc)?,
     };
-    let found = ask_key(alloc, tables, snapshot, def, read, run)?;
-    put_new(number, key, found.before, row, found.seen.as_slice(), run)
-}
-
-/// The row of a key with columns set, where it then fits and still has the key.
-fn changed(
-    alloc: Global,
-    def: &TableDef,
-    key: &Key,
-    old: &Row,
-    changes: &[(usize, Value)],
-) -> Result<Row, Halt>
-    ensures { Gives result (found (row_under def.now key.now (set_columns old.now changes.now))) }
-{
-    let row = with_columns(alloc, old, changes)?;
-    if is_under(alloc, def, key, &row)? {
-        Ok(row)
-    } else {
-        Err(Halt::Stop(Stop::IllTyped))
-    }
+    let rows = ask_key(scene, def, read, run)?;
+    put_new(Target { table, key, rows }, row, run)
 }
 
 /// Changes the row of a key.
@@ -186,21 +188,18 @@ fn changed(
 fn put_changed(
     alloc: Global,
     def: &TableDef,
-    table: u32,
-    key: Key,
-    before: Option<Row>,
+    target: Target,
     changes: &[(usize, Value)],
-    seen: &[Row],
     run: &mut Run,
 ) -> Result<(), Halt>
-    ensures ends { Ends result (state run.new) (update_at def.now table key changes.now seen.now (state run.old)) }
-    ensures found { KeepsAt (table, key) before run.old.own run.new.own }
+    ensures ends { Ends result (state run.new) (update_at def.now target.table target.key changes.now target.rows.seen (state run.old)) }
+    ensures found { KeepsAt (target.table, target.key) target.rows.before run.old.own run.new.own }
 {
-    match seen.split_first() {
+    match target.rows.seen.as_slice().split_first() {
         None => Err(Halt::Stop(Stop::Fault(Fault::NoRow))),
         Some((old, _)) => {
-            let row = changed(alloc, def, &key, old, changes)?;
-            run.own.put(table, key, before, Some(row))?;
+            let row = changed(alloc, def, &target.key, old, changes)?;
+            leave(target, Some(row), run)?;
             Ok(())
         }
     }
@@ -209,50 +208,40 @@ fn put_changed(
 /// `update TABLE key (KEY) set CHANGES;`
 #[tactic(auto, using(crate::proofs::Exits::stops_value, crate::proofs::Exits::stops_some, crate::proofs::Exits::some_found))]
 pub fn run_update<S: Snapshot>(
-    alloc: Global,
-    tables: &List<TableDef>,
-    snapshot: &S,
+    scene: &Scene<'_, S>,
     table: &Name,
     key: &[Expr],
     changes: &[Change],
     run: &mut Run,
 ) -> Result<(), Halt>
-    requires { IsReady tables.now (S.declared snapshot.now) (S.tables snapshot.now) }
-    ensures ends { Ends result (state run.new) (do_update tables.now (S.tables snapshot.now) table.now key.now changes.now (state run.old)) }
-    ensures found { Keeps tables.now (S.tables snapshot.now) run.old.own run.new.own }
+    requires { IsReady scene.now.tables.now (S.declared scene.now.snapshot.now) (S.tables scene.now.snapshot.now) }
+    ensures ends { Ends result (state run.new) (do_update scene.now.tables.now (S.tables scene.now.snapshot.now) table.now key.now changes.now (state run.old)) }
+    ensures found { Keeps scene.now.tables.now (S.tables scene.now.snapshot.now) run.old.own run.new.own }
 {
-    let (number, def) = find_table(tables, table)?;
-    let key = eval_key(alloc, tables, run.variables.as_slice(), key)?;
-    let settings = eval_changes(alloc, tables, run.variables.as_slice(), def, changes)?;
-    let read = point_read(def, number, key.copy(alloc)?)?;
-    let found = ask_key(alloc, tables, snapshot, def, read, run)?;
-    put_changed(
-        alloc,
+    let (table, def) = find_table(scene.tables, table)?;
+    let key = eval_key(scene.alloc, scene.tables, run.variables.as_slice(), key)?;
+    let changes = eval_changes(
+        scene.alloc,
+        scene.tables,
+        run.variables.as_slice(),
         def,
-        number,
-        key,
-        found.before,
-        settings.as_slice(),
-        found.seen.as_slice(),
-        run,
-    )
+        changes,
+    )?;
+    let read = point_read(def, table, key.copy(scene.alloc)?)?;
+    let rows = ask_key(scene, def, read, run)?;
+    let target = Target { table, key, rows };
+    put_changed(scene.alloc, def, target, changes.as_slice(), run)
 }
 
 /// Deletes the row of a key.
-fn put_none(
-    table: u32,
-    key: Key,
-    before: Option<Row>,
-    seen: &[Row],
-    run: &mut Run,
-) -> Result<(), Halt>
-    ensures ends { Ends result (state run.new) (delete_at table key seen.now (state run.old)) }
-    ensures found { KeepsAt (table, key) before run.old.own run.new.own }
+fn put_none(target: Target, run: &mut Run) -> Result<(), Halt>
+    ensures ends { Ends result (state run.new) (delete_at target.table target.key target.rows.seen (state run.old)) }
+    ensures found { KeepsAt (target.table, target.key) target.rows.before run.old.own run.new.own }
 {
-    match seen.split_first() {
+    match target.rows.seen.as_slice().split_first() {
         None => Err(Halt::Stop(Stop::Fault(Fault::NoRow))),
         Some(_) => {
-            run.own.put(table, key, before, None)?;
+            leave(target, None, run)?;
             Ok(())
         }
     }
@@ -261,22 +250,20 @@ fn put_none(
 /// `delete TABLE key (KEY);`
 #[tactic(auto, using(crate::proofs::Exits::stops_value, crate::proofs::Exits::stops_some, crate::proofs::Exits::some_found))]
 pub fn run_delete<S: Snapshot>(
-    alloc: Global,
-    tables: &List<TableDef>,
-    snapshot: &S,
+    scene: &Scene<'_, S>,
     table: &Name,
     key: &[Expr],
     run: &mut Run,
 ) -> Result<(), Halt>
-    requires { IsReady tables.now (S.declared snapshot.now) (S.tables snapshot.now) }
-    ensures ends { Ends result (state run.new) (do_delete tables.now (S.tables snapshot.now) table.now key.now (state run.old)) }
-    ensures found { Keeps tables.now (S.tables snapshot.now) run.old.own run.new.own }
+    requires { IsReady scene.now.tables.now (S.declared scene.now.snapshot.now) (S.tables scene.now.snapshot.now) }
+    ensures ends { Ends result (state run.new) (do_delete scene.now.tables.now (S.tables scene.now.snapshot.now) table.now key.now (state run.old)) }
+    ensures found { Keeps scene.now.tables.now (S.tables scene.now.snapshot.now) run.old.own run.new.own }
 {
-    let (number, def) = find_table(tables, table)?;
-    let key = eval_key(alloc, tables, run.variables.as_slice(), key)?;
-    let read = point_read(def, number, key.copy(alloc)?)?;
-    let found = ask_key(alloc, tables, snapshot, def, read, run)?;
-    put_none(number, key, found.before, found.seen.as_slice(), run)
+    let (table, def) = find_table(scene.tables, table)?;
+    let key = eval_key(scene.alloc, scene.tables, run.variables.as_slice(), key)?;
+    let read = point_read(def, table, key.copy(scene.alloc)?)?;
+    let rows = ask_key(scene, def, read, run)?;
+    put_none(Target { table, key, rows }, run)
 }
 
 /// The row that a name then stands for, where there is one.
@@ -302,21 +289,19 @@ fn bind_first(
 /// `get NAME from TABLE key (KEY)`: whether the first block is next, with the name for the row.
 #[tactic(auto, using(crate::proofs::Exits::stops_value, crate::proofs::Exits::stops_some, crate::proofs::Exits::some_found))]
 pub fn run_get<S: Snapshot>(
-    alloc: Global,
-    tables: &List<TableDef>,
-    snapshot: &S,
+    scene: &Scene<'_, S>,
     name: &Name,
     table: &Name,
     key: &[Expr],
     run: &mut Run,
 ) -> Result<bool, Halt>
-    requires { IsReady tables.now (S.declared snapshot.now) (S.tables snapshot.now) }
-    ensures chooses { Chooses result (state run.new) (λ found absent. do_get tables.now (S.tables snapshot.now) name.now table.now key.now found absent (state run.old)) }
+    requires { IsReady scene.now.tables.now (S.declared scene.now.snapshot.now) (S.tables scene.now.snapshot.now) }
+    ensures chooses { Chooses result (state run.new) (λ found absent. do_get scene.now.tables.now (S.tables scene.now.snapshot.now) name.now table.now key.now found absent (state run.old)) }
     ensures own { run.new.own ≡ run.old.own }
 {
-    let (number, def) = find_table(tables, table)?;
-    let key = eval_key(alloc, tables, run.variables.as_slice(), key)?;
-    let read = point_read(def, number, key)?;
-    let seen = ask(alloc, tables, snapshot, def, read, run)?;
-    bind_first(alloc, number, name, seen.as_slice(), run)
+    let (table, def) = find_table(scene.tables, table)?;
+    let key = eval_key(scene.alloc, scene.tables, run.variables.as_slice(), key)?;
+    let read = point_read(def, table, key)?;
+    let seen = ask(scene, def, read, run)?;
+    bind_first(scene.alloc, table, name, seen.as_slice(), run)
 }

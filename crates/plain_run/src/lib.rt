@@ -8,6 +8,7 @@ pub mod exec;
 pub mod plain;
 pub mod row_tables;
 pub mod run;
+pub mod scene;
 
 pub use call::run_call;
 pub use row_tables::RowTables;

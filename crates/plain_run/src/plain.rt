@@ -6,35 +6,41 @@ ghost use Rattle.plain_run.specs.State.{state, Ends, IsReady, Keeps};
 
 use crate::ask::ask;
 use crate::exec::{
-    bind_row, find_table, run_delete, run_get, run_insert, run_set, run_update, span_between,
+    bind_row, find_table, run_delete, run_get, run_insert, run_set, run_test, run_update,
+    span_between,
 };
 use crate::run::Run;
+use crate::scene::Scene;
 use proc_eval::Halt;
-use proc_eval::compare::flag;
-use proc_eval::eval::{eval, eval_end};
-use proc_syntax::{Expr, Fault, Stmt, Stop};
-use rel_base::{List, Name, Row, TableDef, Twin};
+use proc_eval::eval::eval_end;
+use proc_syntax::{Expr, Fault, Named, Stmt, Stop};
+use rel_base::{List, Name, Row, Twin};
 use snapshots::Snapshot;
-use std::alloc::Global;
+
+/// `span on COLUMN from LOW to HIGH`
+#[derive(Clone, Copy)]
+struct Span<'a> {
+    column: &'a Named,
+    low: &'a Option<Expr>,
+    high: &'a Option<Expr>,
+}
 
 /// Runs a block: each statement in turn, with a step of its own.
 #[cycle(plain)]
 pub fn run_block<S: Snapshot>(
-    alloc: Global,
-    tables: &List<TableDef>,
-    snapshot: &S,
+    scene: &Scene<'_, S>,
     stmts: &[Stmt],
     run: &mut Run,
 ) -> Result<(), Halt>
-    requires { IsReady tables.now (S.declared snapshot.now) (S.tables snapshot.now) }
-    ensures ends { Ends result (state run.new) (block tables.now (S.tables snapshot.now) stmts.now (state run.old)) }
-    ensures found { Keeps tables.now (S.tables snapshot.now) run.old.own run.new.own }
+    requires { IsReady scene.now.tables.now (S.declared scene.now.snapshot.now) (S.tables scene.now.snapshot.now) }
+    ensures ends { Ends result (state run.new) (block scene.now.tables.now (S.tables scene.now.snapshot.now) stmts.now (state run.old)) }
+    ensures found { Keeps scene.now.tables.now (S.tables scene.now.snapshot.now) run.old.own run.new.own }
 {
     for stmt in stmts {
         if !run.tick() {
             return Err(Halt::Stop(Stop::Fault(Fault::Steps)));
         }
-        run_stmt(alloc, tables, snapshot, stmt, run)?;
+        run_stmt(scene, stmt, run)?;
     }
     Ok(())
 }
@@ -42,51 +48,29 @@ pub fn run_block<S: Snapshot>(
 /// Runs a statement, once its step is counted.
 #[cycle(plain)]
 #[tactic(auto, using(crate::proofs::Exits::stops_value))]
-fn run_stmt<S: Snapshot>(
-    alloc: Global,
-    tables: &List<TableDef>,
-    snapshot: &S,
-    stmt: &Stmt,
-    run: &mut Run,
-) -> Result<(), Halt>
-    requires { IsReady tables.now (S.declared snapshot.now) (S.tables snapshot.now) }
-    ensures ends { Ends result (state run.new) (act tables.now (S.tables snapshot.now) stmt.now (state run.old)) }
-    ensures found { Keeps tables.now (S.tables snapshot.now) run.old.own run.new.own }
+fn run_stmt<S: Snapshot>(scene: &Scene<'_, S>, stmt: &Stmt, run: &mut Run) -> Result<(), Halt>
+    requires { IsReady scene.now.tables.now (S.declared scene.now.snapshot.now) (S.tables scene.now.snapshot.now) }
+    ensures ends { Ends result (state run.new) (act scene.now.tables.now (S.tables scene.now.snapshot.now) stmt.now (state run.old)) }
+    ensures found { Keeps scene.now.tables.now (S.tables scene.now.snapshot.now) run.old.own run.new.own }
 {
     match stmt {
-        Stmt::Let { name, value } => run_set(alloc, tables, &name.name, value, run),
-        Stmt::Assign { name, value } => run_set(alloc, tables, &name.name, value, run),
-        Stmt::If { test, then, other } => {
-            let value = eval(alloc, tables, run.variables.as_slice(), test)?;
-            if flag(&value)? {
-                return run_block(alloc, tables, snapshot, then.as_slice(), run);
-            }
-            match other {
-                None => Ok(()),
-                Some(other) => run_block(alloc, tables, snapshot, other.as_slice(), run),
-            }
-        }
+        Stmt::Let { name, value } => run_set(scene, &name.name, value, run),
+        Stmt::Assign { name, value } => run_set(scene, &name.name, value, run),
+        Stmt::If { test, then, other } => match (run_test(scene, test, run)?, other) {
+            (true, _) => run_block(scene, then.as_slice(), run),
+            (false, Some(other)) => run_block(scene, other.as_slice(), run),
+            (false, None) => Ok(()),
+        },
         Stmt::Get {
             name,
             table,
             key,
             found,
             absent,
-        } => {
-            if run_get(
-                alloc,
-                tables,
-                snapshot,
-                &name.name,
-                &table.name,
-                key.as_slice(),
-                run,
-            )? {
-                run_block(alloc, tables, snapshot, found.as_slice(), run)
-            } else {
-                run_block(alloc, tables, snapshot, absent.as_slice(), run)
-            }
-        }
+        } => match run_get(scene, &name.name, &table.name, key.as_slice(), run)? {
+            true => run_block(scene, found.as_slice(), run),
+            false => run_block(scene, absent.as_slice(), run),
+        },
         Stmt::For {
             name,
             table,
@@ -94,73 +78,41 @@ fn run_stmt<S: Snapshot>(
             low,
             high,
             body,
-        } => run_for(
-            alloc,
-            tables,
-            snapshot,
-            &name.name,
-            &table.name,
-            &column.name,
-            low,
-            high,
-            body.as_slice(),
-            run,
-        ),
-        Stmt::Insert { table, values } => run_insert(
-            alloc,
-            tables,
-            snapshot,
-            &table.name,
-            values.as_slice(),
-            run,
-        ),
+        } => {
+            let span = Span { column, low, high };
+            run_for(scene, &name.name, &table.name, &span, body.as_slice(), run)
+        }
+        Stmt::Insert { table, values } => run_insert(scene, &table.name, values.as_slice(), run),
         Stmt::Update {
             table,
             key,
             changes,
-        } => run_update(
-            alloc,
-            tables,
-            snapshot,
-            &table.name,
-            key.as_slice(),
-            changes.as_slice(),
-            run,
-        ),
-        Stmt::Delete { table, key } => run_delete(
-            alloc,
-            tables,
-            snapshot,
-            &table.name,
-            key.as_slice(),
-            run,
-        ),
-        Stmt::Fail { text } => Err(Halt::Stop(Stop::Fault(Fault::Failed(text.copy(alloc)?)))),
+        } => run_update(scene, &table.name, key.as_slice(), changes.as_slice(), run),
+        Stmt::Delete { table, key } => run_delete(scene, &table.name, key.as_slice(), run),
+        Stmt::Fail { text } => Err(Halt::Stop(Stop::Fault(Fault::Failed(text.copy(scene.alloc)?)))),
     }
 }
 
 /// Runs a block for each row in turn, with a step of its own.
 #[cycle(plain)]
 fn run_rows<S: Snapshot>(
-    alloc: Global,
-    tables: &List<TableDef>,
-    snapshot: &S,
+    scene: &Scene<'_, S>,
     table: u32,
     name: &Name,
     rows: &[Row],
     body: &[Stmt],
     run: &mut Run,
 ) -> Result<(), Halt>
-    requires { IsReady tables.now (S.declared snapshot.now) (S.tables snapshot.now) }
-    ensures ends { Ends result (state run.new) (visit table name.now (block tables.now (S.tables snapshot.now) body.now) rows.now (state run.old)) }
-    ensures found { Keeps tables.now (S.tables snapshot.now) run.old.own run.new.own }
+    requires { IsReady scene.now.tables.now (S.declared scene.now.snapshot.now) (S.tables scene.now.snapshot.now) }
+    ensures ends { Ends result (state run.new) (visit table name.now (block scene.now.tables.now (S.tables scene.now.snapshot.now) body.now) rows.now (state run.old)) }
+    ensures found { Keeps scene.now.tables.now (S.tables scene.now.snapshot.now) run.old.own run.new.own }
 {
     for row in rows {
         if !run.tick() {
             return Err(Halt::Stop(Stop::Fault(Fault::Steps)));
         }
-        bind_row(alloc, run, name, table, row)?;
-        run_block(alloc, tables, snapshot, body, run)?;
+        bind_row(scene.alloc, run, name, table, row)?;
+        run_block(scene, body, run)?;
     }
     Ok(())
 }
@@ -169,34 +121,31 @@ fn run_rows<S: Snapshot>(
 #[cycle(plain)]
 #[tactic(auto, using(crate::proofs::Exits::stops_value, crate::proofs::Exits::stops_some, crate::proofs::Exits::some_found))]
 fn run_for<S: Snapshot>(
-    alloc: Global,
-    tables: &List<TableDef>,
-    snapshot: &S,
+    scene: &Scene<'_, S>,
     name: &Name,
     table: &Name,
-    column: &Name,
-    low: &Option<Expr>,
-    high: &Option<Expr>,
+    span: &Span<'_>,
     body: &[Stmt],
     run: &mut Run,
 ) -> Result<(), Halt>
-    requires { IsReady tables.now (S.declared snapshot.now) (S.tables snapshot.now) }
-    ensures ends { Ends result (state run.new) (do_for tables.now (S.tables snapshot.now) name.now table.now column.now low.now high.now (block tables.now (S.tables snapshot.now) body.now) (state run.old)) }
-    ensures found { Keeps tables.now (S.tables snapshot.now) run.old.own run.new.own }
+    requires { IsReady scene.now.tables.now (S.declared scene.now.snapshot.now) (S.tables scene.now.snapshot.now) }
+    ensures ends { Ends result (state run.new) (do_for scene.now.tables.now (S.tables scene.now.snapshot.now) name.now table.now span.now.column.now.name span.now.low.now span.now.high.now (block scene.now.tables.now (S.tables scene.now.snapshot.now) body.now) (state run.old)) }
+    ensures found { Keeps scene.now.tables.now (S.tables scene.now.snapshot.now) run.old.own run.new.own }
 {
-    let (number, def) = find_table(tables, table)?;
-    let low = eval_end(alloc, tables, run.variables.as_slice(), low)?;
-    let high = eval_end(alloc, tables, run.variables.as_slice(), high)?;
-    let read = span_between(def, number, column, low, high)?;
-    let seen = ask(alloc, tables, snapshot, def, read, run)?;
-    run_rows(
-        alloc,
-        tables,
-        snapshot,
-        number,
-        name,
-        seen.as_slice(),
-        body,
-        run,
-    )
+    let (number, def) = find_table(scene.tables, table)?;
+    let low = eval_end(
+        scene.alloc,
+        scene.tables,
+        run.variables.as_slice(),
+        span.low,
+    )?;
+    let high = eval_end(
+        scene.alloc,
+        scene.tables,
+        run.variables.as_slice(),
+        span.high,
+    )?;
+    let read = span_between(def, number, &span.column.name, low, high)?;
+    let seen = ask(scene, def, read, run)?;
+    run_rows(scene, number, name, seen.as_slice(), body, run)
 }

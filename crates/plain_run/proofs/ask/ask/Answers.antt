@@ -7,4 +7,4 @@ use Rattle.plain_run.proofs.ask.ask.Goals as goal
 
 pub merge-requires : goal.merge-requires
 merge-requires g c =
-    subst (λ seens. T (is_sorted key_cmp (keyed c.args.def.now seens))) (sym c.in_ok-seens.ensures) (keyed_sorted c.args.tables.now c.args.def.now c.args.read _ c.requires.here c.requires.ready.fit)
+    subst (λ seens. T (is_sorted key_cmp (keyed c.args.def.now seens))) (sym c.in_ok-seens.ensures) (keyed_sorted c.args.scene.now.tables.now c.args.def.now c.args.read _ c.requires.here c.requires.ready.fit)

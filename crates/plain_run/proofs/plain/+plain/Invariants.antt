@@ -6,12 +6,12 @@ use Rattle.plain_run.proofs.plain.+plain.Given as goal
 -- what the statements that are left do is what all do
 abbrev pub invariant-run_block-loop-stmt : goal.invariant-run_block-loop-stmt
 invariant-run_block-loop-stmt g l =
-    (block l.tables (g.S.Snapshot.tables l.snapshot) (drop l.stmt-index l.stmts) (state l.run) ≡ block l.tables (g.S.Snapshot.tables l.snapshot) l.stmts (state l.fn.run))
-    × Keeps l.tables (g.S.Snapshot.tables l.snapshot) l.fn.run.own l.run.own
+    (block l.scene.tables.now (g.S.Snapshot.tables l.scene.snapshot.now) (drop l.stmt-index l.stmts) (state l.run) ≡ block l.scene.tables.now (g.S.Snapshot.tables l.scene.snapshot.now) l.stmts (state l.fn.run))
+    × Keeps l.scene.tables.now (g.S.Snapshot.tables l.scene.snapshot.now) l.fn.run.own l.run.own
 
 -- what is done for the rows that are left is what is done for all
 abbrev pub invariant-run_rows-loop-row : goal.invariant-run_rows-loop-row
 invariant-run_rows-loop-row g l =
-    (visit l.table l.name (block l.tables (g.S.Snapshot.tables l.snapshot) l.body) (drop l.row-index l.rows) (state l.run)
-    ≡ visit l.table l.name (block l.tables (g.S.Snapshot.tables l.snapshot) l.body) l.rows (state l.fn.run))
-    × Keeps l.tables (g.S.Snapshot.tables l.snapshot) l.fn.run.own l.run.own
+    (visit l.table l.name (block l.scene.tables.now (g.S.Snapshot.tables l.scene.snapshot.now) l.body) (drop l.row-index l.rows) (state l.run)
+    ≡ visit l.table l.name (block l.scene.tables.now (g.S.Snapshot.tables l.scene.snapshot.now) l.body) l.rows (state l.fn.run))
+    × Keeps l.scene.tables.now (g.S.Snapshot.tables l.scene.snapshot.now) l.fn.run.own l.run.own
