@@ -38,7 +38,7 @@ use Rattle.schedule_sim.specs.declared.step.Step.{Step}
 -- ---- where nothing is refused, the answer's status is that of a whole one
 
 nodes_done : (asked : Cluster) (app : App) (txs : Result (List (List Tx)) BadArrivals) (bytes : List ℕ) → IsOk txs → IsFaultless bytes → (over_nodes asked app txs bytes).status ≡ Done
-nodes_done asked app (Err bad) bytes ok faultless = absurd ok
+nodes_done asked app (Err bad) bytes ok faultless = absurd (cc)
 nodes_done asked app (Ok txs) bytes ok faultless = ap status_of faultless
 
 cluster_done : (asked : Cluster) (found : Result App Refusal) (files : Files) → IsWholeCluster asked found files → (over_cluster asked found files).status ≡ Done
@@ -46,7 +46,7 @@ cluster_done asked (Err refusal) files whole = absurd whole
 cluster_done asked (Ok app) files whole = nodes_done asked app (all_arrived asked.arrivals 1 asked.nodes files) (files asked.blocks) whole.0 whole.1
 
 told_done : (look : Look) (app : App) (stop : Option ChainFault) (told : Result NodeResult ℕ) → stop ≡ None → IsOk told → (over_told look app stop told).status ≡ Done
-told_done look app stop (Err sealed) faultless ok = absurd ok
+told_done look app stop (Err count) faultless ok = absurd (cc)
 told_done look app stop (Ok told) faultless ok = ap status_of faultless
 
 schedule_done : (look : Look) (app : App) (txs : List Tx) (steps : Result (List Step) ℕ) (bytes : List ℕ) → SealsAll app txs steps bytes
@@ -66,7 +66,7 @@ simulation_done asked (Ok app) files whole = arrivals_done asked.look app (arriv
 
 versions_done : (tables : List TableDef) (stop : Option ChainFault) (versions : Result (List Version) QueryFault) → stop ≡ None → IsOk versions
     → (over_versions tables stop versions).status ≡ Done
-versions_done tables stop (Err fault) faultless ok = absurd ok
+versions_done tables stop (Err fault) faultless ok = absurd (cc)
 versions_done tables stop (Ok versions) faultless ok = ap status_of faultless
 
 query_done : (query : List ℕ) (found : Result App Refusal) (bytes : List ℕ) → IsWholeQuery query found bytes → (over_app query found bytes).status ≡ Done
@@ -78,7 +78,7 @@ sealed_done blocks None faultless = refl
 sealed_done blocks (Some fault) faultless = absurd (cc)
 
 load_done : (number : ℕ) (found : Result App Refusal) → IsOk found → (over_load number found).status ≡ Done
-load_done number (Err refusal) ok = absurd ok
+load_done number (Err refusal) ok = absurd (cc)
 load_done number (Ok app) ok = refl
 
 pub whole_done : (settings : Option Settings) (files : Files) → IsWhole settings files → (over_settings settings files).status ≡ Done
@@ -97,15 +97,15 @@ no_stop (Some fault) is = absurd (cc)
 
 done_nodes : (asked : Cluster) (app : App) (txs : Result (List (List Tx)) BadArrivals) (bytes : List ℕ) → (over_nodes asked app txs bytes).status ≡ Done → IsOk txs × IsFaultless bytes
 done_nodes asked app (Err bad) bytes is = absurd (cc)
-done_nodes asked app (Ok txs) bytes is = (tt, no_stop (chain bytes).1 is)
+done_nodes asked app (Ok txs) bytes is = (refl, no_stop (chain bytes).1 is)
 
 done_cluster : (asked : Cluster) (found : Result App Refusal) (files : Files) → (over_cluster asked found files).status ≡ Done → IsWholeCluster asked found files
 done_cluster asked (Err refusal) files is = absurd (cc)
 done_cluster asked (Ok app) files is = done_nodes asked app (all_arrived asked.arrivals 1 asked.nodes files) (files asked.blocks) is
 
 done_told : (look : Look) (app : App) (stop : Option ChainFault) (told : Result NodeResult ℕ) → (over_told look app stop told).status ≡ Done → (stop ≡ None) × IsOk told
-done_told look app stop (Err sealed) is = absurd (cc)
-done_told look app stop (Ok told) is = (no_stop stop is, tt)
+done_told look app stop (Err count) is = absurd (cc)
+done_told look app stop (Ok told) is = (no_stop stop is, refl)
 
 done_schedule : (look : Look) (app : App) (txs : List Tx) (steps : Result (List Step) ℕ) (bytes : List ℕ) → (over_schedule look app txs steps bytes).status ≡ Done
     → SealsAll app txs steps bytes
@@ -125,7 +125,7 @@ done_simulation asked (Ok app) files is = done_arrivals asked.look app (arrived_
 done_versions : (tables : List TableDef) (stop : Option ChainFault) (versions : Result (List Version) QueryFault) → (over_versions tables stop versions).status ≡ Done
     → (stop ≡ None) × IsOk versions
 done_versions tables stop (Err fault) is = absurd (cc)
-done_versions tables stop (Ok versions) is = (no_stop stop is, tt)
+done_versions tables stop (Ok versions) is = (no_stop stop is, refl)
 
 done_query : (query : List ℕ) (found : Result App Refusal) (bytes : List ℕ) → (over_app query found bytes).status ≡ Done → IsWholeQuery query found bytes
 done_query query (Err refusal) bytes is = absurd (cc)
@@ -137,7 +137,7 @@ done_sealed blocks (Some fault) is = absurd (cc)
 
 done_load : (number : ℕ) (found : Result App Refusal) → (over_load number found).status ≡ Done → IsOk found
 done_load number (Err refusal) is = absurd (cc)
-done_load number (Ok app) is = tt
+done_load number (Ok app) is = refl
 
 pub done_whole : (settings : Option Settings) (files : Files) → (over_settings settings files).status ≡ Done → IsWhole settings files
 done_whole None files is = absurd (cc)
