@@ -91,7 +91,7 @@ fn add_row(
         table: 0,
         key,
         before: None,
-        after: Some(Row::new(values(alloc, row)?)?),
+        after: Some(values(alloc, row)?),
     })?;
     Ok(())
 }
