@@ -1,5 +1,5 @@
 -- The slots of keys in the two maps of a table.
-use Rattle.std.proofs.Common.{◌≡◌, ◌∙◌, ℕ, List, Bool, true, false, cond, Option, Some, None, refl, ap, is_some, sym}
+use Rattle.std.proofs.Common.{◌≡◌, ◌∙◌, ℕ, List, Bool, true, false, cond, Option, Some, None, refl, ap, is_some, subst, sym, Result, Ok, Err, OnOk}
 use Rattle.std.specs.BTreeMap.{is_at}
 use Rattle.std.specs.Cmp.{eq_by_cmp_equiv, tied_itself}
 use Rattle.std.specs.Map.{lookup}
@@ -32,7 +32,7 @@ or_same f key k x is =
 
 module _ (living ended living_now ended_now : List (List Value × ℕ)) (key : List Value) (slot : ℕ) where
   -- a key that was put among those with a row, and taken out of the others
-  pub placed_living : ((k : List Value) → slot_in living_now k ≡ cond (key_eq k key) (Some slot) (slot_in living k)) → ((k : List Value) → slot_in ended_now k ≡ cond (key_eq k key) None (slot_in ended k))
+  placed_living : ((k : List Value) → slot_in living_now k ≡ cond (key_eq k key) (Some slot) (slot_in living k)) → ((k : List Value) → slot_in ended_now k ≡ cond (key_eq k key) None (slot_in ended k))
       → IsPlaced key slot true living ended living_now ended_now
   placed_living put taken =
       record {
@@ -53,8 +53,15 @@ module _ (living ended living_now ended_now : List (List Value × ℕ)) (key : L
       apart_after true x y was lives = refl
       apart_after false x y was lives = was lives
 
+  -- the same of a call that may have failed
+  pub settled_living : {X E : Type 0} (result : Result X E) (lives : Bool) → lives ≡ true
+      → OnOk result ((k : List Value) → slot_in living_now k ≡ cond (key_eq k key) (Some slot) (slot_in living k)) → OnOk result ((k : List Value) → slot_in ended_now k ≡ cond (key_eq k key) None (slot_in ended k))
+      → OnOk result (IsPlaced key slot lives living ended living_now ended_now)
+  settled_living (Ok x) lives is put taken = subst (λ b. IsPlaced key slot b living ended living_now ended_now) (sym is) (placed_living put taken)
+  settled_living (Err e) lives is put taken = put
+
   -- a key that was put among those whose row was deleted, and taken out of the others
-  pub placed_ended : ((k : List Value) → slot_in ended_now k ≡ cond (key_eq k key) (Some slot) (slot_in ended k)) → ((k : List Value) → slot_in living_now k ≡ cond (key_eq k key) None (slot_in living k))
+  placed_ended : ((k : List Value) → slot_in ended_now k ≡ cond (key_eq k key) (Some slot) (slot_in ended k)) → ((k : List Value) → slot_in living_now k ≡ cond (key_eq k key) None (slot_in living k))
       → IsPlaced key slot false living ended living_now ended_now
   placed_ended put taken =
       record {
@@ -74,6 +81,13 @@ module _ (living ended living_now ended_now : List (List Value × ℕ)) (key : L
       apart_after : (b : Bool) (x y : Option ℕ) → (is_some x ≡ true → y ≡ None) → is_some (cond b None x) ≡ true → cond b (Some slot) y ≡ None
       apart_after true x y was lives = cc
       apart_after false x y was lives = was lives
+
+  -- the same of a call that may have failed
+  pub settled_ended : {X E : Type 0} (result : Result X E) (lives : Bool) → lives ≡ false
+      → OnOk result ((k : List Value) → slot_in ended_now k ≡ cond (key_eq k key) (Some slot) (slot_in ended k)) → OnOk result ((k : List Value) → slot_in living_now k ≡ cond (key_eq k key) None (slot_in living k))
+      → OnOk result (IsPlaced key slot lives living ended living_now ended_now)
+  settled_ended (Ok x) lives is put taken = subst (λ b. IsPlaced key slot b living ended living_now ended_now) (sym is) (placed_ended put taken)
+  settled_ended (Err e) lives is put taken = put
 
 -- a key that stands in one of the maps is placed there
 pub stays_placed : (living ended : List (List Value × ℕ)) (key : List Value) (slot : ℕ) (lives : Bool) → slot_by living ended key ≡ Some slot → lives ≡ is_some (slot_in living key) → IsPlaced key slot lives living ended living ended

@@ -2,7 +2,7 @@
 use Rattle.std.proofs.Common.{◌≡◌, ◌∙◌, ℕ, ◌<◌, ◌≤◌, ◌⊎◌, inl, inr, List, [], ◌∷◌, ◌++◌, Bool, true, false, ◌&&◌, ◌||◌, ◌==◌, All, Contains, cond, Option, Some, None, refl, ap, sym, subst, arith, nat_le, nat_lt, slice_get, take}
 use Rattle.std.specs.Option.{IsSomeAnd}
 use Rattle.std.proofs.lemmas.Bool.Decides.{Decides-eqb}
-use Rattle.std.proofs.lemmas.List.Elements.{All-contains, All-weaker}
+use Rattle.std.proofs.lemmas.List.Elements.{All-contains, All-contains_itself, All-weaker}
 use Rattle.rel_base.specs.Access.{PartFits, ReadFits, WriteFits, covers_some, hits_write, read_table}
 use Rattle.rel_base.specs.Late.{where_declared}
 use Rattle.rel_base.specs.Row.{value_at}
@@ -27,7 +27,7 @@ use Rattle.version_index.specs.Numbers.{passes, passes_at, passing}
 use Rattle.version_index.specs.View.{IsAsked, history_in}
 use Rattle.version_index.specs.declared.view.TableView.{TableView}
 use Rattle.version_index.proofs.LeastHits.{first_agrees, hits_point}
-use Rattle.version_index.proofs.Logged.{all_fail, blocks_rise, contains_got, get_history, lt_false}
+use Rattle.version_index.proofs.Logged.{all_fail, blocks_rise, contains_got, get_history, le_false, lt_false}
 use Rattle.version_index.proofs.Passing.{IsTop, none_of, top_of}
 use Rattle.version_index.proofs.Points.{all_fails, at_some, below_or, first_of_from, take_fails}
 use Rattle.version_index.proofs.Wanted.{cell_in, pinned}
@@ -95,6 +95,23 @@ module _ {X : Type 0} (test : X → Bool) (xs : List X) where
 pub low_unwatched : (watch : Watch) (stamped : Stamped) → stamped.0 ≤ watch.after → is_watched watch stamped ≡ false
 low_unwatched watch stamped low =
     ap (λ b. hits_write watch.def.now watch.read.now stamped.1.write && (b && nat_le stamped.0 watch.upto)) (lt_false watch.after stamped.0 low) ∙ all_fail (hits_write watch.def.now watch.read.now stamped.1.write)
+
+-- where no height lies above the one and up to the other, nothing is watched
+none_between : (watch : Watch) → watch.upto ≤ watch.after → (stamped : Stamped) → is_watched watch stamped ≡ false
+none_between watch narrow stamped = go (below_or watch.after stamped.0)
+  where
+    hit : Bool
+    hit = hits_write watch.def.now watch.read.now stamped.1.write
+
+    go : (watch.after < stamped.0) ⊎ (stamped.0 ≤ watch.after) → is_watched watch stamped ≡ false
+    go (inr down) = low_unwatched watch stamped down
+    go (inl up) =
+        ap (λ b. hit && (nat_lt watch.after stamped.0 && b)) (le_false stamped.0 watch.upto (omega (arith, up, narrow)))
+        ∙ ap (λ b. hit && b) (all_fail (nat_lt watch.after stamped.0)) ∙ all_fail hit
+
+pub nothing_between : (watch : Watch) (history : List Stamped) → watch.upto ≤ watch.after → IsFirst (is_watched watch) history None
+nothing_between watch history narrow =
+    All-weaker (Contains history) (λ stamped. is_watched watch stamped ≡ false) (λ stamped within. none_between watch narrow stamped) history (All-contains_itself history)
 
 pub low_numbers : (watch : Watch) (history : List Stamped) (start : ℕ) → All (λ stamped. stamped.0 ≤ watch.after) (take start history) → (j : ℕ) → j < start → passes_at (is_watched watch) history j ≡ false
 low_numbers watch history start low =

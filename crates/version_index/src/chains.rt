@@ -82,37 +82,21 @@ fn take_key(slots: &mut BTreeMap<Key, usize>, key: &Key)
     let _ = slots.remove(key);
 }
 
-/// Has a key at its slot among those with a row. Where memory is wanting, both maps stay as they are.
-fn settle_living(
-    living: &mut BTreeMap<Key, usize>,
-    ended: &mut BTreeMap<Key, usize>,
+/// Has a key at its slot in one map and no more in the other. Where memory is wanting, both maps stay as they are.
+fn move_key(
+    into: &mut BTreeMap<Key, usize>,
+    from: &mut BTreeMap<Key, usize>,
     alloc: Global,
     key: &Key,
     slot: usize,
 ) -> Result<(), NoMemory>
-    ensures placed { OnOk result (IsPlaced key.now slot true living.old.entries ended.old.entries living.new.entries ended.new.entries) }
-    ensures same_living { OnErr result (living.new.entries ≡ living.old.entries) }
-    ensures same_ended { OnErr result (ended.new.entries ≡ ended.old.entries) }
+    ensures put { OnOk result ((k : List Cell) → slot_in into.new.entries k ≡ cond (key_eq k key.now) (Some slot) (slot_in into.old.entries k)) }
+    ensures taken { OnOk result ((k : List Cell) → slot_in from.new.entries k ≡ cond (key_eq k key.now) None (slot_in from.old.entries k)) }
+    ensures same_into { OnErr result (into.new.entries ≡ into.old.entries) }
+    ensures same_from { OnErr result (from.new.entries ≡ from.old.entries) }
 {
-    put_key(living, alloc, key, slot)?;
-    take_key(ended, key);
-    Ok(())
-}
-
-/// Has a key at its slot among those whose row was deleted. Where memory is wanting, both maps stay as they are.
-fn settle_ended(
-    living: &mut BTreeMap<Key, usize>,
-    ended: &mut BTreeMap<Key, usize>,
-    alloc: Global,
-    key: &Key,
-    slot: usize,
-) -> Result<(), NoMemory>
-    ensures placed { OnOk result (IsPlaced key.now slot false living.old.entries ended.old.entries living.new.entries ended.new.entries) }
-    ensures same_living { OnErr result (living.new.entries ≡ living.old.entries) }
-    ensures same_ended { OnErr result (ended.new.entries ≡ ended.old.entries) }
-{
-    put_key(ended, alloc, key, slot)?;
-    take_key(living, key);
+    put_key(into, alloc, key, slot)?;
+    take_key(from, key);
     Ok(())
 }
 
@@ -130,9 +114,9 @@ fn settle_key(
     ensures same_ended { OnErr result (ended.new.entries ≡ ended.old.entries) }
 {
     if lives {
-        settle_living(living, ended, alloc, key, slot)
+        move_key(living, ended, alloc, key, slot)
     } else {
-        settle_ended(living, ended, alloc, key, slot)
+        move_key(ended, living, alloc, key, slot)
     }
 }
 

@@ -94,6 +94,10 @@ fn hit_at(view: &TableView<'_>, watch: &Watch<'_>) -> Option<usize>
     requires watch { IsAsked watch.now.def.now watch.now.read.now view.now }
     ensures { IsFirst (is_watched watch.now) (history_in view.now) result }
 {
+    // Most reads name the last height, and then there is nothing to look for.
+    if watch.upto <= watch.after {
+        return None;
+    }
     match watch.read {
         Read::Point { key, .. } => first_late(
             view,

@@ -9,10 +9,12 @@ ghost use Rattle.rel_base.specs.Schema.{RowFits};
 ghost use Rattle.rel_base.specs.Tables.{tables_at};
 ghost use Rattle.rel_base.specs.Value.{value_eq};
 ghost use Rattle.row_sets.specs.Log.{stamped_of};
+ghost use Rattle.version_index.specs.Candidates.{IsCandidate};
 ghost use Rattle.version_index.specs.Chains.{slot_of};
 ghost use Rattle.version_index.specs.Rows.{IsValueOf, covered_row, seen_of, seen_row};
 ghost use Rattle.version_index.specs.View.{IsAsked, IsView, history_in};
 
+use crate::candidates::Candidate;
 use crate::keyed::last_up_to;
 use crate::view::{Look, TableView};
 use rel_base::{Key, List, NoMemory, Place, Read, Row, Seen, Twin, Value};
@@ -82,23 +84,23 @@ fn add_row(
     }
 }
 
-/// Adds the row of a key after the block of a height to rows, where there is one and a read covers it. The one value of the read may
-/// be given.
+/// Adds the row of a key after the block of a height to rows, where there is one and a read covers it. The key is given with its
+/// slot, and the one value of the read may be given.
 pub fn add_key_with(
     alloc: Global,
     rows: &mut List<Seen>,
     view: &TableView<'_>,
     look: &Look<'_>,
     value: Option<&Value>,
-    key: &Key,
-    slot: Option<usize>,
+    candidate: Candidate<'_>,
 ) -> Result<(), NoMemory>
     requires view { IsView view.now }
     requires look { IsAsked look.now.def.now look.now.read.now view.now }
     requires value { IsValueOf look.now.read.now (option_copied value) }
-    requires slot { slot ≡ slot_of view.now.index.now.chains key.now }
-    ensures { OnOk result (rows.new ≡ rows.old ++ covered_row look.now.def.now look.now.read.now (get (tables_at look.now.height (history_in view.now)) (view.now.table, key.now))) }
+    requires slot { IsCandidate view.now.index.now.chains candidate }
+    ensures { OnOk result (rows.new ≡ rows.old ++ covered_row look.now.def.now look.now.read.now (get (tables_at look.now.height (history_in view.now)) (view.now.table, candidate.entry.0.now))) }
 {
+    let (key, slot) = candidate;
     match last_up_to(view, key, slot, look.height) {
         None => Ok(()),
         Some(number) => add_row(alloc, rows, look, value, entry_at(view.entries, number)),
@@ -119,5 +121,5 @@ pub fn add_key(
     requires slot { slot ≡ slot_of view.now.index.now.chains key.now }
     ensures { OnOk result (rows.new ≡ rows.old ++ covered_row look.now.def.now look.now.read.now (get (tables_at look.now.height (history_in view.now)) (view.now.table, key.now))) }
 {
-    add_key_with(alloc, rows, view, look, None, key, slot)
+    add_key_with(alloc, rows, view, look, None, (key, slot))
 }

@@ -24,6 +24,13 @@ use rel_base::{Key, List, NoMemory, Seen, Value};
 use row_sets::entry::{Entry, entry_at};
 use std::alloc::Global;
 
+/// The ends of a span, each of which may be absent.
+#[derive(Clone, Copy)]
+struct Ends<'a> {
+    low: &'a Option<Value>,
+    high: &'a Option<Value>,
+}
+
 /// The index by the values of a column of a table, where there is one.
 pub fn column_of(columns: &[Column], column: u32) -> Option<&Column>
     ensures some { IfSome (option_copied result) (λ own. (own.column ≡ column) × Contains columns.now own) }
@@ -98,15 +105,14 @@ fn add_since<'a>(
     view: &TableView<'a>,
     found: &mut Vec<Candidate<'a>>,
     column: &Column,
-    low: &Option<Value>,
-    high: &Option<Value>,
+    ends: Ends<'_>,
     height: u64,
 ) -> Result<(), NoMemory>
     requires view { IsView view.now }
     requires column { IsColumn view.now.table (history_in view.now) view.now.noted view.now.index.now.chains column.now }
-    ensures { OnOk result (Adds view.now.index.now.chains found.old.items found.new.items (IsChangedBetween view.now column.now.column low.now high.now height)) }
+    ensures { OnOk result (Adds view.now.index.now.chains found.old.items found.new.items (IsChangedBetween view.now column.now.column ends.entry.low.now ends.entry.high.now height)) }
 {
-    match one_value(low, high) {
+    match one_value(ends.low, ends.high) {
         None => add_above(view, found, height),
         Some(value) => add_touching(view, found, column, value, height),
     }
@@ -118,16 +124,15 @@ fn add_by_column<'a>(
     view: &TableView<'a>,
     found: &mut Vec<Candidate<'a>>,
     column: &Column,
-    low: &Option<Value>,
-    high: &Option<Value>,
+    ends: Ends<'_>,
     height: u64,
 ) -> Result<(), NoMemory>
     requires view { IsView view.now }
     requires column { IsColumn view.now.table (history_in view.now) view.now.noted view.now.index.now.chains column.now }
-    ensures { OnOk result (Adds view.now.index.now.chains found.old.items found.new.items (HasCellAt view.now column.now.column low.now high.now height)) }
+    ensures { OnOk result (Adds view.now.index.now.chains found.old.items found.new.items (HasCellAt view.now column.now.column ends.entry.low.now ends.entry.high.now height)) }
 {
-    add_living(view, found, &column.living, low, high)?;
-    add_since(view, found, column, low, high, height)
+    add_living(view, found, &column.living, ends.low, ends.high)?;
+    add_since(view, found, column, ends, height)
 }
 
 /// Adds the keys of one value between the ends of a span that may have a row after the block of a height.
@@ -135,14 +140,13 @@ fn add_by_key<'a>(
     alloc: Global,
     view: &TableView<'a>,
     found: &mut Vec<Candidate<'a>>,
-    low: &Option<Value>,
-    high: &Option<Value>,
+    ends: Ends<'_>,
     height: u64,
 ) -> Result<(), NoMemory>
     requires { IsView view.now }
-    ensures { OnOk result (Adds view.now.index.now.chains found.old.items found.new.items (HasKeyAt view.now low.now high.now height)) }
+    ensures { OnOk result (Adds view.now.index.now.chains found.old.items found.new.items (HasKeyAt view.now ends.entry.low.now ends.entry.high.now height)) }
 {
-    add_keys(alloc, view, found, low, high)?;
+    add_keys(alloc, view, found, ends.low, ends.high)?;
     add_above(view, found, height)
 }
 
@@ -175,7 +179,7 @@ fn rows_of_found(
     let mut last = None;
     for (key, slot) in found {
         if !is_last(last, *key) {
-            add_key_with(alloc, &mut rows, view, look, value, *key, *slot)?;
+            add_key_with(alloc, &mut rows, view, look, value, (*key, *slot))?;
             last = Some(*key);
         }
     }
@@ -187,19 +191,18 @@ fn keys_of_span<'a>(
     alloc: Global,
     view: &TableView<'a>,
     column: u32,
-    low: &Option<Value>,
-    high: &Option<Value>,
+    ends: Ends<'_>,
     height: u64,
 ) -> Result<Vec<Candidate<'a>>, NoMemory>
     requires { IsView view.now }
     ensures found { IfOk result (λ found. All (IsCandidate view.now.index.now.chains) found.items) }
     ensures rise { IfOk result (λ found. IsStrictlySortedBy key_cmp (distinct None (keys_in found.items))) }
-    ensures all { IfOk result (λ found. (key : List Cell) → IsWantedBy view.now column low.now high.now height key → has_key found.items key ≡ true) }
+    ensures all { IfOk result (λ found. (key : List Cell) → IsWantedBy view.now column ends.entry.low.now ends.entry.high.now height key → has_key found.items key ≡ true) }
 {
     let mut found = Vec::new(alloc);
     match column_of(view.index.columns.as_slice(), column) {
-        None => add_by_key(alloc, view, &mut found, low, high, height)?,
-        Some(own) => add_by_column(view, &mut found, own, low, high, height)?,
+        None => add_by_key(alloc, view, &mut found, ends, height)?,
+        Some(own) => add_by_column(view, &mut found, own, ends, height)?,
     }
     found.sort()?;
     Ok(found)
@@ -219,6 +222,6 @@ pub fn rows_of_span(
     requires span { look.now.read.now ≡ read.Span view.now.table column low.now high.now }
     ensures { IfOk result (λ seen. seen ≡ rows look.now.def.now look.now.read.now (tables_at look.now.height (history_in view.now))) }
 {
-    let found = keys_of_span(alloc, view, column, low, high, look.height)?;
+    let found = keys_of_span(alloc, view, column, Ends { low, high }, look.height)?;
     rows_of_found(alloc, view, look, one_value(low, high), found.as_slice())
 }

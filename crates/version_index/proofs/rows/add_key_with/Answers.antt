@@ -10,13 +10,13 @@ use Rattle.version_index.proofs.rows.add_key_with.Goals as goal
 -- no write on the key is so low, so it has no row
 pub returns-in-None : goal.returns-in-None
 returns-in-None c =
-    let ref : ℕ × List Value = (c.args.view.now.table, c.args.key.now) in
+    let ref : ℕ × List Value = (c.args.view.now.table, c.args.candidate.0.now) in
     sym (ap (λ found. c.args.rows.now ++ covered_row c.args.look.now.def.now c.args.look.now.read.now found) (get_seen ref c.args.look.now.height (history_in c.args.view.now) None c.in-None.ensures) ∙ append-nil c.args.rows.now)
 
 -- the row is the one that the write left
 pub returns-in-Some : goal.returns-in-Some
 returns-in-Some c =
-    let ref : ℕ × List Value = (c.args.view.now.table, c.args.key.now) in
+    let ref : ℕ × List Value = (c.args.view.now.table, c.args.candidate.0.now) in
     subst (λ found. OnOk c.add_row.result (c.add_row.new.rows ≡ c.args.rows.now ++ covered_row c.args.look.now.def.now c.args.look.now.read.now found))
     (sym (get_seen ref c.args.look.now.height (history_in c.args.view.now) (Some c.in-Some.number) c.in-Some.ensures ∙ ap seen_by (get_history c.args.view.now.entries.now c.in-Some.number c.entry_at.result.now c.entry_at.ensures)))
     c.add_row.ensures

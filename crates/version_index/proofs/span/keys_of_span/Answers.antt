@@ -28,5 +28,5 @@ returns-clause-all c key wanted =
       | in-None+in_ok-add_by_key-in-None w ↦ subst (λ (found : Vec (Bor (List Value) × Option ℕ) Global). has_key found.items key ≡ true) (sym w.found-is) (w.in_ok-add_by_key-in-None.ensures.added key (wanted.by_key (subst (All (λ (own : Column). own.column ≡ c.args.column → ⊥)) c.as_slice.ensures.value (w.in-None.ensures.none refl))))
       | in-Some+in_ok-add_by_column-in-Some w ↦ subst (λ (found : Vec (Bor (List Value) × Option ℕ) Global). has_key found.items key ≡ true) (sym w.found-is)
           (w.in_ok-add_by_column-in-Some.ensures.added key
-          (subst (λ number. HasCellAt c.args.view.now number c.args.low.now c.args.high.now c.args.height key) (sym w.in-Some.ensures.some.0) wanted.by_cell))
+          (subst (λ number. HasCellAt c.args.view.now number c.args.ends.low.now c.args.ends.high.now c.args.height key) (sym w.in-Some.ensures.some.0) wanted.by_cell))
     ])

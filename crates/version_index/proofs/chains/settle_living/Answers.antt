@@ -1,6 +1,0 @@
-use Rattle.version_index.proofs.Keys.{placed_living}
-use Rattle.version_index.proofs.chains.settle_living.Goals as goal
-
-pub returns-clause-placed : goal.returns-clause-placed
-returns-clause-placed c =
-    placed_living c.args.living.now.entries c.args.ended.now.entries c.put_key.new.slots.entries c.take_key.new.slots.entries c.args.key.now c.args.slot c.in_ok-put_key.ensures.put c.take_key.ensures
