@@ -1,8 +1,8 @@
 //! Walks over the committed transactions that were found, from the first to the last. Those that were not found are passed over.
 
-ghost use Rattle.std.specs.Prelude.{ℕ, ◌≡◌, ◌<◌, ◌≤◌, ◌&&◌, ◌||◌, ◌==◌, All, MatchOption, None, false, length};
-ghost use Rattle.std.specs.Bool.{nat_eq};
+ghost use Rattle.std.specs.Prelude.{ℕ, ◌≡◌, ◌<◌, ◌≤◌, ◌==◌, All, MatchOption, None, false, length};
 ghost use Rattle.std.specs.Option.{option_map};
+ghost use Rattle.block_directory.specs.Halves.{HalfFits, has_edge, meets};
 ghost use Rattle.block_directory.specs.Marking.{NoneFound, OnlyFound};
 ghost use Rattle.node_model.specs.Decide.{clash, first_shared};
 ghost use Rattle.node_model.specs.Edges.{comes_from, leads_to, touches};
@@ -51,22 +51,42 @@ pub fn clash_among(committed: &[Committed], found: &Bits, writes: &[Write]) -> O
     None
 }
 
-// Notes an edge to a committed transaction, where some reads touch its writes.
-fn note_out(out: &mut Bits, tables: &[TableDef], done: &Committed, reads: &[Made])
-    requires done { IsMember tables.now done.now }
-    requires reads { ReadsFit tables.now reads.now }
-    ensures { (pos : ℕ) → holds out.new pos ≡ ((touches tables.now reads.now done.now.writes && nat_eq pos done.now.pos) || holds out.old pos) }
-{
-    out.add_if(touches(tables, reads, done.writes.as_slice()), done.pos);
+// The half of a transaction that its edges are looked for by: edges lead from its reads to the writes that they touch, and to its
+// writes from the reads that touch them.
+#[derive(Clone, Copy)]
+enum Half<'a> {
+    Reads(&'a [Made]),
+    Writes(&'a [Write]),
 }
 
-// Notes an edge from a committed transaction, where its reads touch some writes.
-fn note_into(into: &mut Bits, tables: &[TableDef], done: &Committed, writes: &[Write])
+// Whether there is such an edge with a committed transaction.
+fn meets(tables: &[TableDef], half: Half<'_>, done: &Committed) -> bool
+    requires half { HalfFits tables.now half }
     requires done { IsMember tables.now done.now }
-    requires writes { WritesFit tables.now writes.now }
-    ensures { (pos : ℕ) → holds into.new pos ≡ ((touches tables.now done.now.reads writes.now && nat_eq pos done.now.pos) || holds into.old pos) }
+    ensures { result ≡ meets tables.now half.entry done.now }
 {
-    into.add_if(touches(tables, done.reads.as_slice(), writes), done.pos);
+    match half {
+        Half::Reads(reads) => touches(tables, reads, done.writes.as_slice()),
+        Half::Writes(writes) => touches(tables, done.reads.as_slice(), writes),
+    }
+}
+
+// The positions of the committed transactions with such an edge, where those that were not found have none.
+fn edges_among(tables: &[TableDef], committed: &[Committed], found: &Bits, half: Half<'_>) -> Bits
+    requires committed { All (IsMember tables.now) committed.now }
+    requires few { length committed.now ≤ 1024 }
+    requires half { HalfFits tables.now half }
+    requires only { OnlyFound found.now committed.now (λ done. meets tables.now half done ≡ false) }
+    ensures { (pos : ℕ) → holds result pos ≡ has_edge tables.now committed.now half.entry pos }
+{
+    let mut edges = Bits::new();
+    let mut from = 0;
+    while let Some(number) = next_found(found, from, committed.len()) {
+        let done = &committed[number];
+        edges.add_if(meets(tables, half, done), done.pos);
+        from = number + 1;
+    }
+    edges
 }
 
 /// The positions to which a transaction with some reads has an edge, where it has none to those that were not found.
@@ -77,13 +97,7 @@ pub fn out_among(tables: &[TableDef], committed: &[Committed], found: &Bits, rea
     requires only { OnlyFound found.now committed.now (λ done. touches tables.now reads.now done.writes ≡ false) }
     ensures { (pos : ℕ) → holds result pos ≡ leads_to tables.now committed.now reads.now pos }
 {
-    let mut out = Bits::new();
-    let mut from = 0;
-    while let Some(number) = next_found(found, from, committed.len()) {
-        note_out(&mut out, tables, &committed[number], reads);
-        from = number + 1;
-    }
-    out
+    edges_among(tables, committed, found, Half::Reads(reads))
 }
 
 /// The positions that have an edge to a transaction with some writes, where those that were not found have none.
@@ -99,11 +113,5 @@ pub fn into_among(
     requires only { OnlyFound found.now committed.now (λ done. touches tables.now done.reads writes.now ≡ false) }
     ensures { (pos : ℕ) → holds result pos ≡ comes_from tables.now committed.now writes.now pos }
 {
-    let mut into = Bits::new();
-    let mut from = 0;
-    while let Some(number) = next_found(found, from, committed.len()) {
-        note_into(&mut into, tables, &committed[number], writes);
-        from = number + 1;
-    }
-    into
+    edges_among(tables, committed, found, Half::Writes(writes))
 }
