@@ -4,6 +4,7 @@
 #[cfg(test)]
 mod decode_tests;
 pub mod digest;
+mod items;
 pub mod laws;
 pub mod read_block;
 pub mod read_outcome;

@@ -11,6 +11,7 @@ ghost use Rattle.block_digest.specs.Decoding.{Decodes};
 ghost use Rattle.block_digest.specs.Grammar.{most_outcomes, most_counted, placed_cmp, HasBlockCode};
 ghost use Rattle.block_digest.specs.Readings.{small_at, id_at, told_at, is_position, position_at, placed_at, rise_behind, rise, outcomes_at, order_at, writes_at, block_at};
 
+use crate::items::{Item, read_items};
 use crate::read_outcome::read_outcome;
 use canon_code::short::read_short;
 use canon_code::{CodeFault, read_u32, read_u64, read_write};
@@ -45,28 +46,19 @@ fn read_id(alloc: Global, bytes: &[u8]) -> Result<(Id, &[u8]), CodeFault>
     Ok((id, rest))
 }
 
-/// Reads a transaction: its id and its outcome.
-fn read_told(alloc: Global, bytes: &[u8]) -> Result<(Told, &[u8]), CodeFault>
-    ensures { Reads result (told_at bytes.now) }
-{
-    let (id, rest) = read_id(alloc, bytes)?;
-    let (outcome, rest) = read_outcome(alloc, rest)?;
-    Ok((Told { id, outcome }, rest))
-}
+/// A transaction: its id and its outcome.
+impl Item for Told {
+    ghost item_at = { λ count. told_at };
 
-/// Reads so many transactions.
-#[tactic(auto, using(canon_code::proofs::Loop::items_step, canon_code::proofs::Loop::items_stop, canon_code::proofs::Loop::items_done))]
-fn read_all_told(alloc: Global, count: u32, bytes: &[u8]) -> Result<(List<Told>, &[u8]), CodeFault>
-    ensures { Reads result (items_at told_at count bytes.now) }
-{
-    let mut outcomes = List::new(alloc);
-    let mut rest = bytes;
-    for _ in 0..count {
-        let (told, after) = read_told(alloc, rest)?;
-        outcomes.push(told)?;
-        rest = after;
+    fn read<'a>(
+        alloc: Global,
+        _count: usize,
+        bytes: &'a [u8],
+    ) -> Result<(Told, &'a [u8]), CodeFault> {
+        let (id, rest) = read_id(alloc, bytes)?;
+        let (outcome, rest) = read_outcome(alloc, rest)?;
+        Ok((Told { id, outcome }, rest))
     }
-    Ok((outcomes, rest))
 }
 
 /// Reads so many transactions, if they are few enough for a block.
@@ -76,7 +68,7 @@ fn read_few_told(alloc: Global, count: u32, bytes: &[u8]) -> Result<(List<Told>,
     if count > MOST_OUTCOMES {
         return Err(CodeFault::Bad);
     }
-    read_all_told(alloc, count, bytes)
+    read_items(alloc, count as usize, count, bytes)
 }
 
 /// Reads the transactions of a block.
@@ -94,36 +86,21 @@ fn is_position(count: usize, position: u32) -> bool
     1 <= position && position as usize <= count
 }
 
-/// Reads a position of a block of so many transactions.
-fn read_position(count: usize, bytes: &[u8]) -> Result<(u32, &[u8]), CodeFault>
-    ensures { Reads result (position_at count bytes.now) }
-{
-    let (position, rest) = read_u32(bytes)?;
-    if !is_position(count, position) {
-        return Err(CodeFault::Bad);
-    }
-    Ok((position, rest))
-}
+/// A position of a block of so many transactions.
+impl Item for u32 {
+    ghost item_at = { position_at };
 
-/// Reads so many positions of a block of so many transactions. The number of positions may be any, so each takes its memory as it
-/// is read.
-#[tactic(auto, using(canon_code::proofs::Loop::items_step, canon_code::proofs::Loop::items_stop, canon_code::proofs::Loop::items_done))]
-fn read_positions(
-    alloc: Global,
-    count: usize,
-    positions: u32,
-    bytes: &[u8],
-) -> Result<(List<u32>, &[u8]), CodeFault>
-    ensures { Reads result (items_at (position_at count) positions bytes.now) }
-{
-    let mut order = List::new(alloc);
-    let mut rest = bytes;
-    for _ in 0..positions {
-        let (position, after) = read_position(count, rest)?;
-        order.push(position)?;
-        rest = after;
+    fn read<'a>(
+        _alloc: Global,
+        count: usize,
+        bytes: &'a [u8],
+    ) -> Result<(u32, &'a [u8]), CodeFault> {
+        let (position, rest) = read_u32(bytes)?;
+        if !is_position(count, position) {
+            return Err(CodeFault::Bad);
+        }
+        Ok((position, rest))
     }
-    Ok((order, rest))
 }
 
 /// Reads the order of a block of so many transactions.
@@ -131,39 +108,24 @@ fn read_order(alloc: Global, count: usize, bytes: &[u8]) -> Result<(List<u32>, &
     ensures { Reads result (order_at count bytes.now) }
 {
     let (positions, rest) = read_u32(bytes)?;
-    read_positions(alloc, count, positions, rest)
+    read_items(alloc, count, positions, rest)
 }
 
-/// Reads a write by a transaction of a block of so many.
-fn read_placed(alloc: Global, count: usize, bytes: &[u8]) -> Result<(Placed, &[u8]), CodeFault>
-    ensures { Reads result (placed_at count bytes.now) }
-{
-    let (placed, rest) = read_write(alloc, bytes)?;
-    if !is_position(count, placed.pos) {
-        return Err(CodeFault::Bad);
-    }
-    Ok((placed, rest))
-}
+/// A write by a transaction of a block of so many.
+impl Item for Placed {
+    ghost item_at = { placed_at };
 
-/// Reads so many writes by transactions of a block of so many. The number of writes may be any, so each takes its memory as it is
-/// read.
-#[tactic(auto, using(canon_code::proofs::Loop::items_step, canon_code::proofs::Loop::items_stop, canon_code::proofs::Loop::items_done))]
-fn read_all_placed(
-    alloc: Global,
-    count: usize,
-    writes: u32,
-    bytes: &[u8],
-) -> Result<(List<Placed>, &[u8]), CodeFault>
-    ensures { Reads result (items_at (placed_at count) writes bytes.now) }
-{
-    let mut all = List::new(alloc);
-    let mut rest = bytes;
-    for _ in 0..writes {
-        let (placed, after) = read_placed(alloc, count, rest)?;
-        all.push(placed)?;
-        rest = after;
+    fn read<'a>(
+        alloc: Global,
+        count: usize,
+        bytes: &'a [u8],
+    ) -> Result<(Placed, &'a [u8]), CodeFault> {
+        let (placed, rest) = read_write(alloc, bytes)?;
+        if !is_position(count, placed.pos) {
+            return Err(CodeFault::Bad);
+        }
+        Ok((placed, rest))
     }
-    Ok((all, rest))
 }
 
 /// Whether a write stands before another: by position, then by table, then by key.
@@ -209,7 +171,7 @@ fn read_counted_writes(
     ensures { Reads result (counted_at small_at most_counted (placed_at count) bytes.now) }
 {
     let (writes, rest) = read_u32(bytes)?;
-    read_all_placed(alloc, count, writes, rest)
+    read_items(alloc, count, writes, rest)
 }
 
 /// Reads the writes of a block of so many transactions.
