@@ -77,25 +77,40 @@ pub enum Use {
     Must,
 }
 
+// A number from the least to the most.
+fn numbers(least: u64, most: u64) -> Takes
+    ensures { result ≡ Takes.Number least most }
+{
+    Takes::Number { least, most }
+}
+
 impl CommandOption {
+    // Its word, and what it takes.
+    fn row(self) -> (&'static str, Takes)
+        ensures word { result.0.now ≡ word_of self }
+        ensures takes { result.1 ≡ takes_of self }
+    {
+        match self {
+            CommandOption::App => ("--app", Takes::Text),
+            CommandOption::Blocks => ("--blocks", Takes::Text),
+            CommandOption::Schedule => ("--schedule", Takes::Text),
+            CommandOption::Arrivals => ("--arrivals", Takes::Text),
+            CommandOption::Query => ("--query", Takes::Text),
+            CommandOption::Number => ("--number", numbers(0, u64::MAX)),
+            CommandOption::Nodes => ("--nodes", numbers(1, 8)),
+            CommandOption::Executors => ("--executors", numbers(0, 16)),
+            CommandOption::Orders => ("--orders", Takes::Nothing),
+            CommandOption::Digests => ("--digests", Takes::Nothing),
+            CommandOption::Json => ("--json", Takes::Nothing),
+            CommandOption::Trace => ("--trace", Takes::Nothing),
+        }
+    }
+
     /// Its word.
     pub fn word(self) -> &'static str
         ensures { result.now ≡ word_of self }
     {
-        match self {
-            CommandOption::App => "--app",
-            CommandOption::Blocks => "--blocks",
-            CommandOption::Schedule => "--schedule",
-            CommandOption::Arrivals => "--arrivals",
-            CommandOption::Query => "--query",
-            CommandOption::Number => "--number",
-            CommandOption::Nodes => "--nodes",
-            CommandOption::Executors => "--executors",
-            CommandOption::Orders => "--orders",
-            CommandOption::Digests => "--digests",
-            CommandOption::Json => "--json",
-            CommandOption::Trace => "--trace",
-        }
+        self.row().0
     }
 
     /// Whether this is the option.
@@ -109,20 +124,7 @@ impl CommandOption {
     pub fn takes(self) -> Takes
         ensures { result ≡ takes_of self }
     {
-        match self {
-            CommandOption::App | CommandOption::Blocks | CommandOption::Query => Takes::Text,
-            CommandOption::Schedule | CommandOption::Arrivals => Takes::Text,
-            CommandOption::Number => Takes::Number {
-                least: 0,
-                most: u64::MAX,
-            },
-            CommandOption::Nodes => Takes::Number { least: 1, most: 8 },
-            CommandOption::Executors => Takes::Number { least: 0, most: 16 },
-            CommandOption::Orders
-            | CommandOption::Digests
-            | CommandOption::Json
-            | CommandOption::Trace => Takes::Nothing,
-        }
+        self.row().1
     }
 }
 

@@ -17,10 +17,11 @@ fn commands(rt: HostRuntime) -> Result<(), Fail> {
     Ok(())
 }
 
-// A simulation has no arrivals where the words name none.
+// A simulation has no arrivals where the words name none, and the text of a query has its spaces.
 #[test]
-fn a_simulation(rt: HostRuntime) -> Result<(), Fail> {
-    let words = [
+fn a_simulation_and_a_query(rt: HostRuntime) -> Result<(), Fail> {
+    let alloc = rt.alloc();
+    let simulate = [
         "simulate",
         "--schedule",
         "s",
@@ -30,15 +31,7 @@ fn a_simulation(rt: HostRuntime) -> Result<(), Fail> {
         "--blocks",
         "b",
     ];
-    let simulate = read_words(rt.alloc(), &words);
-    assert!(rt; matches!(simulate, Ok(Settings::Simulate { arrivals: None, .. })));
-    Ok(())
-}
-
-// The text of a query has its spaces.
-#[test]
-fn a_query(rt: HostRuntime) -> Result<(), Fail> {
-    let words = [
+    let query = [
         "provenance",
         "--query",
         "written p1",
@@ -47,7 +40,9 @@ fn a_query(rt: HostRuntime) -> Result<(), Fail> {
         "--blocks",
         "b",
     ];
-    let provenance = read_words(rt.alloc(), &words);
+    let simulate = read_words(alloc, &simulate);
+    assert!(rt; matches!(simulate, Ok(Settings::Simulate { arrivals: None, .. })));
+    let provenance = read_words(alloc, &query);
     assert!(rt; matches!(provenance, Ok(Settings::Provenance { .. })));
     Ok(())
 }
