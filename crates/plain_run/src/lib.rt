@@ -9,6 +9,7 @@ pub mod plain;
 pub mod row_tables;
 pub mod run;
 pub mod scene;
+pub mod writes;
 
 pub use call::run_call;
 pub use row_tables::RowTables;

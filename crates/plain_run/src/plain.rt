@@ -5,10 +5,7 @@ ghost use Rattle.proc_syntax.specs.Meaning.{act, block, visit, do_for};
 ghost use Rattle.plain_run.specs.State.{state, Ends, IsReady, Keeps};
 
 use crate::ask::ask;
-use crate::exec::{
-    bind_row, find_table, run_delete, run_get, run_insert, run_set, run_test, run_update,
-    span_between,
-};
+use crate::exec::{bind_row, find_table, span_between};
 use crate::run::Run;
 use crate::scene::Scene;
 use proc_eval::Halt;
@@ -54,9 +51,9 @@ fn run_stmt<S: Snapshot>(scene: &Scene<'_, S>, stmt: &Stmt, run: &mut Run) -> Re
     ensures found { Keeps scene.now.tables.now (S.tables scene.now.snapshot.now) run.old.own run.new.own }
 {
     match stmt {
-        Stmt::Let { name, value } => run_set(scene, &name.name, value, run),
-        Stmt::Assign { name, value } => run_set(scene, &name.name, value, run),
-        Stmt::If { test, then, other } => match (run_test(scene, test, run)?, other) {
+        Stmt::Let { name, value } => scene.run_set(&name.name, value, run),
+        Stmt::Assign { name, value } => scene.run_set(&name.name, value, run),
+        Stmt::If { test, then, other } => match (scene.run_test(test, run)?, other) {
             (true, _) => run_block(scene, then.as_slice(), run),
             (false, Some(other)) => run_block(scene, other.as_slice(), run),
             (false, None) => Ok(()),
@@ -67,7 +64,7 @@ fn run_stmt<S: Snapshot>(scene: &Scene<'_, S>, stmt: &Stmt, run: &mut Run) -> Re
             key,
             found,
             absent,
-        } => match run_get(scene, &name.name, &table.name, key.as_slice(), run)? {
+        } => match scene.run_get(&name.name, &table.name, key.as_slice(), run)? {
             true => run_block(scene, found.as_slice(), run),
             false => run_block(scene, absent.as_slice(), run),
         },
@@ -82,13 +79,13 @@ fn run_stmt<S: Snapshot>(scene: &Scene<'_, S>, stmt: &Stmt, run: &mut Run) -> Re
             let span = Span { column, low, high };
             run_for(scene, &name.name, &table.name, &span, body.as_slice(), run)
         }
-        Stmt::Insert { table, values } => run_insert(scene, &table.name, values.as_slice(), run),
+        Stmt::Insert { table, values } => scene.run_insert(&table.name, values.as_slice(), run),
         Stmt::Update {
             table,
             key,
             changes,
-        } => run_update(scene, &table.name, key.as_slice(), changes.as_slice(), run),
-        Stmt::Delete { table, key } => run_delete(scene, &table.name, key.as_slice(), run),
+        } => scene.run_update(&table.name, key.as_slice(), changes.as_slice(), run),
+        Stmt::Delete { table, key } => scene.run_delete(&table.name, key.as_slice(), run),
         Stmt::Fail { text } => Err(Halt::Stop(Stop::Fault(Fault::Failed(text.copy(scene.alloc)?)))),
     }
 }

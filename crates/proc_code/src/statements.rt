@@ -9,7 +9,7 @@ ghost use Rattle.proc_code.specs.Resolved.{term_of, setting_of, action_of};
 use crate::numbering::Numbering;
 use crate::places::{column_of_table, table_number};
 use crate::terms::{resolve_end, resolve_term, resolve_terms};
-use crate::tree::{Action, Setting};
+use crate::tree::{Action, Setting, Term};
 use proc_syntax::{Change, Expr, Named, Stmt};
 use rel_base::{List, Name, NoMemory, Str, TableDef, Twin};
 use std::alloc::Global;
@@ -23,14 +23,111 @@ pub struct Resolver<'a> {
     pub names: &'a Numbering,
 }
 
-/// `span on column from low to high`.
-#[derive(Clone, Copy)]
-struct Span<'a> {
-    column: &'a Named,
-    low: &'a Option<Expr>,
-    high: &'a Option<Expr>,
+impl Resolver<'_> {
+    /// The code of expressions.
+    fn terms_of(&self, exprs: &List<Expr>) -> Result<List<Term>, NoMemory>
+        ensures { IfOk result (λ terms. terms ≡ map (term_of self.now.columns.now self.now.names.now) exprs.now) }
+    {
+        resolve_terms(self.alloc, self.columns, self.names, exprs.as_slice())
+    }
+
+    /// The code of a `let` or of an assignment.
+    fn resolve_set(&self, name: &Named, value: &Expr) -> Result<Action, NoMemory>
+        ensures { IfOk result (λ made. made ≡ action.Set (number_of self.now.names.now name.now.name) (term_of self.now.columns.now self.now.names.now value.now)) }
+    {
+        Ok(Action::Set {
+            slot: self.names.number_or_len(&name.name),
+            value: resolve_term(self.alloc, self.columns, self.names, value)?,
+        })
+    }
+
+    /// The code of an `if`, of the code of its blocks.
+    fn resolve_if(
+        &self,
+        test: &Expr,
+        then: List<Action>,
+        other: List<Action>,
+    ) -> Result<Action, NoMemory>
+        ensures { IfOk result (λ made. made ≡ action.If (term_of self.now.columns.now self.now.names.now test.now) then other) }
+    {
+        Ok(Action::If {
+            test: resolve_term(self.alloc, self.columns, self.names, test)?,
+            then,
+            other,
+        })
+    }
+
+    /// The code of a `get`, of the code of its blocks.
+    fn resolve_get(
+        &self,
+        name: &Named,
+        table: &Named,
+        key: &List<Expr>,
+        found: List<Action>,
+        absent: List<Action>,
+    ) -> Result<Action, NoMemory>
+        requires { length self.now.tables.now < 2 ^ 32 }
+        ensures { IfOk result (λ made. made ≡ action.Get (number_of self.now.names.now name.now.name) (table_number self.now.tables.now table.now.name) (map (term_of self.now.columns.now self.now.names.now) key.now) found absent) }
+    {
+        Ok(Action::Get {
+            slot: self.names.number_or_len(&name.name),
+            table: table_number(self.tables, &table.name),
+            key: self.terms_of(key)?,
+            found,
+            absent,
+        })
+    }
+
+    /// The code of an `insert`.
+    fn resolve_insert(&self, table: &Named, values: &List<Expr>) -> Result<Action, NoMemory>
+        requires { length self.now.tables.now < 2 ^ 32 }
+        ensures { IfOk result (λ made. made ≡ action.Insert (table_number self.now.tables.now table.now.name) (map (term_of self.now.columns.now self.now.names.now) values.now)) }
+    {
+        Ok(Action::Insert {
+            table: table_number(self.tables, &table.name),
+            values: self.terms_of(values)?,
+        })
+    }
+
+    /// The code of an `update`.
+    fn resolve_update(
+        &self,
+        table: &Named,
+        key: &List<Expr>,
+        changes: &List<Change>,
+    ) -> Result<Action, NoMemory>
+        requires { length self.now.tables.now < 2 ^ 32 }
+        ensures { IfOk result (λ made. made ≡ action.Update (table_number self.now.tables.now table.now.name) (map (term_of self.now.columns.now self.now.names.now) key.now) (map (setting_of self.now.tables.now self.now.columns.now self.now.names.now table.now.name) changes.now)) }
+    {
+        Ok(Action::Update {
+            table: table_number(self.tables, &table.name),
+            key: self.terms_of(key)?,
+            settings: resolve_settings(self, &table.name, changes.as_slice())?,
+        })
+    }
+
+    /// The code of a `delete`.
+    fn resolve_delete(&self, table: &Named, key: &List<Expr>) -> Result<Action, NoMemory>
+        requires { length self.now.tables.now < 2 ^ 32 }
+        ensures { IfOk result (λ made. made ≡ action.Delete (table_number self.now.tables.now table.now.name) (map (term_of self.now.columns.now self.now.names.now) key.now)) }
+    {
+        Ok(Action::Delete {
+            table: table_number(self.tables, &table.name),
+            key: self.terms_of(key)?,
+        })
+    }
+
+    /// The code of a `fail`.
+    fn resolve_fail(&self, text: &Str) -> Result<Action, NoMemory>
+        ensures { IfOk result (λ made. made ≡ action.Fail text.now) }
+    {
+        Ok(Action::Fail {
+            text: text.copy(self.alloc)?,
+        })
+    }
 }
 
+/// The code of the columns that an `update` sets.
 fn resolve_settings(
     resolver: &Resolver<'_>,
     table: &Name,
@@ -55,6 +152,14 @@ fn resolve_settings(
     Ok(settings)
 }
 
+/// `span on column from low to high`.
+#[derive(Clone, Copy)]
+struct Span<'a> {
+    column: &'a Named,
+    low: &'a Option<Expr>,
+    high: &'a Option<Expr>,
+}
+
 /// The code of a block.
 #[cycle(resolve)]
 pub fn resolve_block(resolver: &Resolver<'_>, stmts: &[Stmt]) -> Result<List<Action>, NoMemory>
@@ -76,15 +181,15 @@ fn resolve_stmt(resolver: &Resolver<'_>, stmt: &Stmt) -> Result<Action, NoMemory
     ensures { IfOk result (λ action. action ≡ action_of resolver.now.tables.now resolver.now.columns.now resolver.now.names.now stmt.now) }
 {
     match stmt {
-        Stmt::Let { name, value } => resolve_set(resolver, name, value),
-        Stmt::Assign { name, value } => resolve_set(resolver, name, value),
+        Stmt::Let { name, value } => resolver.resolve_set(name, value),
+        Stmt::Assign { name, value } => resolver.resolve_set(name, value),
         Stmt::If { test, then, other } => {
             let then = resolve_block(resolver, then.as_slice())?;
             let other = match other {
                 None => List::new(resolver.alloc),
                 Some(other) => resolve_block(resolver, other.as_slice())?,
             };
-            resolve_if(resolver, test, then, other)
+            resolver.resolve_if(test, then, other)
         }
         Stmt::Get {
             name,
@@ -95,7 +200,7 @@ fn resolve_stmt(resolver: &Resolver<'_>, stmt: &Stmt) -> Result<Action, NoMemory
         } => {
             let found = resolve_block(resolver, found.as_slice())?;
             let absent = resolve_block(resolver, absent.as_slice())?;
-            resolve_get(resolver, name, table, key, found, absent)
+            resolver.resolve_get(name, table, key, found, absent)
         }
         Stmt::For {
             name,
@@ -105,67 +210,15 @@ fn resolve_stmt(resolver: &Resolver<'_>, stmt: &Stmt) -> Result<Action, NoMemory
             high,
             body,
         } => resolve_for(resolver, name, table, &Span { column, low, high }, body),
-        Stmt::Insert { table, values } => resolve_insert(resolver, table, values),
+        Stmt::Insert { table, values } => resolver.resolve_insert(table, values),
         Stmt::Update {
             table,
             key,
             changes,
-        } => resolve_update(resolver, table, key, changes),
-        Stmt::Delete { table, key } => resolve_delete(resolver, table, key),
-        Stmt::Fail { text } => resolve_fail(resolver, text),
+        } => resolver.resolve_update(table, key, changes),
+        Stmt::Delete { table, key } => resolver.resolve_delete(table, key),
+        Stmt::Fail { text } => resolver.resolve_fail(text),
     }
-}
-
-/// The code of a `let` or of an assignment.
-fn resolve_set(resolver: &Resolver<'_>, name: &Named, value: &Expr) -> Result<Action, NoMemory>
-    ensures { IfOk result (λ made. made ≡ action.Set (number_of resolver.now.names.now name.now.name) (term_of resolver.now.columns.now resolver.now.names.now value.now)) }
-{
-    Ok(Action::Set {
-        slot: resolver.names.number_or_len(&name.name),
-        value: resolve_term(resolver.alloc, resolver.columns, resolver.names, value)?,
-    })
-}
-
-/// The code of an `if`, of the code of its blocks.
-fn resolve_if(
-    resolver: &Resolver<'_>,
-    test: &Expr,
-    then: List<Action>,
-    other: List<Action>,
-) -> Result<Action, NoMemory>
-    ensures { IfOk result (λ made. made ≡ action.If (term_of resolver.now.columns.now resolver.now.names.now test.now) then other) }
-{
-    Ok(Action::If {
-        test: resolve_term(resolver.alloc, resolver.columns, resolver.names, test)?,
-        then,
-        other,
-    })
-}
-
-/// The code of a `get`, of the code of its blocks.
-fn resolve_get(
-    resolver: &Resolver<'_>,
-    name: &Named,
-    table: &Named,
-    key: &List<Expr>,
-    found: List<Action>,
-    absent: List<Action>,
-) -> Result<Action, NoMemory>
-    requires { length resolver.now.tables.now < 2 ^ 32 }
-    ensures { IfOk result (λ made. made ≡ action.Get (number_of resolver.now.names.now name.now.name) (table_number resolver.now.tables.now table.now.name) (map (term_of resolver.now.columns.now resolver.now.names.now) key.now) found absent) }
-{
-    Ok(Action::Get {
-        slot: resolver.names.number_or_len(&name.name),
-        table: table_number(resolver.tables, &table.name),
-        key: resolve_terms(
-            resolver.alloc,
-            resolver.columns,
-            resolver.names,
-            key.as_slice(),
-        )?,
-        found,
-        absent,
-    })
 }
 
 /// The code of a `for`.
@@ -187,76 +240,5 @@ fn resolve_for(
         low: resolve_end(resolver.alloc, resolver.columns, resolver.names, span.low)?,
         high: resolve_end(resolver.alloc, resolver.columns, resolver.names, span.high)?,
         body: resolve_block(resolver, body.as_slice())?,
-    })
-}
-
-/// The code of an `insert`.
-fn resolve_insert(
-    resolver: &Resolver<'_>,
-    table: &Named,
-    values: &List<Expr>,
-) -> Result<Action, NoMemory>
-    requires { length resolver.now.tables.now < 2 ^ 32 }
-    ensures { IfOk result (λ made. made ≡ action.Insert (table_number resolver.now.tables.now table.now.name) (map (term_of resolver.now.columns.now resolver.now.names.now) values.now)) }
-{
-    Ok(Action::Insert {
-        table: table_number(resolver.tables, &table.name),
-        values: resolve_terms(
-            resolver.alloc,
-            resolver.columns,
-            resolver.names,
-            values.as_slice(),
-        )?,
-    })
-}
-
-/// The code of an `update`.
-fn resolve_update(
-    resolver: &Resolver<'_>,
-    table: &Named,
-    key: &List<Expr>,
-    changes: &List<Change>,
-) -> Result<Action, NoMemory>
-    requires { length resolver.now.tables.now < 2 ^ 32 }
-    ensures { IfOk result (λ made. made ≡ action.Update (table_number resolver.now.tables.now table.now.name) (map (term_of resolver.now.columns.now resolver.now.names.now) key.now) (map (setting_of resolver.now.tables.now resolver.now.columns.now resolver.now.names.now table.now.name) changes.now)) }
-{
-    Ok(Action::Update {
-        table: table_number(resolver.tables, &table.name),
-        key: resolve_terms(
-            resolver.alloc,
-            resolver.columns,
-            resolver.names,
-            key.as_slice(),
-        )?,
-        settings: resolve_settings(resolver, &table.name, changes.as_slice())?,
-    })
-}
-
-/// The code of a `delete`.
-fn resolve_delete(
-    resolver: &Resolver<'_>,
-    table: &Named,
-    key: &List<Expr>,
-) -> Result<Action, NoMemory>
-    requires { length resolver.now.tables.now < 2 ^ 32 }
-    ensures { IfOk result (λ made. made ≡ action.Delete (table_number resolver.now.tables.now table.now.name) (map (term_of resolver.now.columns.now resolver.now.names.now) key.now)) }
-{
-    Ok(Action::Delete {
-        table: table_number(resolver.tables, &table.name),
-        key: resolve_terms(
-            resolver.alloc,
-            resolver.columns,
-            resolver.names,
-            key.as_slice(),
-        )?,
-    })
-}
-
-/// The code of a `fail`.
-fn resolve_fail(resolver: &Resolver<'_>, text: &Str) -> Result<Action, NoMemory>
-    ensures { IfOk result (λ made. made ≡ action.Fail text.now) }
-{
-    Ok(Action::Fail {
-        text: text.copy(resolver.alloc)?,
     })
 }

@@ -224,15 +224,18 @@ fn operand<'a>(alloc: Global, level: Level, depth: usize, tokens: &'a [Token]) -
     }
 }
 
-/// Reads an operand of `and`.
+/// Reads a sum, or a comparison of two.
 #[cycle(operands)]
-fn negation<'a>(alloc: Global, depth: usize, tokens: &'a [Token]) -> Parsed<'a, Expr>
-    ensures { Gives result (negation_of (inner depth) tokens.now) }
+fn comparison<'a>(alloc: Global, depth: usize, tokens: &'a [Token]) -> Parsed<'a, Expr>
+    ensures { Gives result (comparison_of (inner depth) tokens.now) }
 {
-    if begins(tokens, Word::Not) {
-        denial(alloc, depth, tokens)
-    } else {
-        comparison(alloc, depth, tokens)
+    let (left, rest) = chain(alloc, Level::Sum, depth, tokens)?;
+    match comparison_at(rest) {
+        Some((op, rest)) => {
+            let (right, rest) = chain(alloc, Level::Sum, depth, rest)?;
+            Ok((two(alloc, op, left, right)?, rest))
+        }
+        None => Ok((left, rest)),
     }
 }
 
@@ -251,18 +254,15 @@ fn denial<'a>(alloc: Global, depth: usize, tokens: &'a [Token]) -> Parsed<'a, Ex
     Ok((Expr::Not { inner, line }, rest))
 }
 
-/// Reads a sum, or a comparison of two.
+/// Reads an operand of `and`.
 #[cycle(operands)]
-fn comparison<'a>(alloc: Global, depth: usize, tokens: &'a [Token]) -> Parsed<'a, Expr>
-    ensures { Gives result (comparison_of (inner depth) tokens.now) }
+fn negation<'a>(alloc: Global, depth: usize, tokens: &'a [Token]) -> Parsed<'a, Expr>
+    ensures { Gives result (negation_of (inner depth) tokens.now) }
 {
-    let (left, rest) = chain(alloc, Level::Sum, depth, tokens)?;
-    match comparison_at(rest) {
-        Some((op, rest)) => {
-            let (right, rest) = chain(alloc, Level::Sum, depth, rest)?;
-            Ok((two(alloc, op, left, right)?, rest))
-        }
-        None => Ok((left, rest)),
+    if begins(tokens, Word::Not) {
+        denial(alloc, depth, tokens)
+    } else {
+        comparison(alloc, depth, tokens)
     }
 }
 

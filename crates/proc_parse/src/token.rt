@@ -195,26 +195,27 @@ impl Sign {
     pub fn mark(self) -> &'static str
         ensures { result.now ≡ mark self }
     {
+        use Sign::*;
         match self {
-            Sign::Open => "(",
-            Sign::Close => ")",
-            Sign::OpenBrace => "{",
-            Sign::CloseBrace => "}",
-            Sign::Comma => ",",
-            Sign::Semicolon => ";",
-            Sign::Dot => ".",
-            Sign::Equal => "=",
-            Sign::NotEqual => "!=",
-            Sign::Less => "<",
-            Sign::LessEqual => "<=",
-            Sign::Greater => ">",
-            Sign::GreaterEqual => ">=",
-            Sign::Plus => "+",
-            Sign::Join => "++",
-            Sign::Minus => "-",
-            Sign::Star => "*",
-            Sign::Slash => "/",
-            Sign::Percent => "%",
+            Open => "(",
+            Close => ")",
+            OpenBrace => "{",
+            CloseBrace => "}",
+            Comma => ",",
+            Semicolon => ";",
+            Dot => ".",
+            Equal => "=",
+            NotEqual => "!=",
+            Less => "<",
+            LessEqual => "<=",
+            Greater => ">",
+            GreaterEqual => ">=",
+            Plus => "+",
+            Join => "++",
+            Minus => "-",
+            Star => "*",
+            Slash => "/",
+            Percent => "%",
         }
     }
 }

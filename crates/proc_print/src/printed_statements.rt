@@ -30,6 +30,14 @@ fn push_setting(out: &mut Vec<u8>, name: &Named, value: &Expr) -> Result<(), NoM
     push(out, b";")
 }
 
+/// Writes `let NAME = VALUE;` at the end.
+fn push_let(out: &mut Vec<u8>, name: &Named, value: &Expr) -> Result<(), NoMemory>
+    ensures { OnOk result (out.new.items ≡ out.old.items ++ codes "let " ++ name.now.name ++ codes " = " ++ expr_text value.now ++ codes ";") }
+{
+    push(out, b"let ")?;
+    push_setting(out, name, value)
+}
+
 /// Writes a table and the key of one of its rows at the end.
 fn push_keyed(out: &mut Vec<u8>, table: &Named, key: &[Expr]) -> Result<(), NoMemory>
     ensures { OnOk result (out.new.items ≡ out.old.items ++ keyed_text table.now key.now) }
@@ -102,6 +110,21 @@ fn push_ends(out: &mut Vec<u8>, low: &Option<Expr>, high: &Option<Expr>) -> Resu
     push_end(out, b" from ", low)?;
     push_end(out, b" to ", high)?;
     push(out, b" ")
+}
+
+/// Writes `for NAME in TABLE span on COLUMN from LOW to HIGH ` at the end, of which each end may be absent.
+fn push_for_head(
+    out: &mut Vec<u8>,
+    name: &Named,
+    table: &Named,
+    column: &Named,
+    low: &Option<Expr>,
+    high: &Option<Expr>,
+) -> Result<(), NoMemory>
+    ensures { OnOk result (out.new.items ≡ out.old.items ++ span_text name.now table.now column.now ++ ends_text low.now high.now) }
+{
+    push_span(out, name, table, column)?;
+    push_ends(out, low, high)
 }
 
 /// Writes `if TEST ` at the end.
@@ -208,18 +231,13 @@ fn push_stmt(alloc: Global, out: &mut Vec<u8>, margin: &[u8], stmt: &Stmt) -> Re
     ensures { OnOk result (out.new.items ≡ out.old.items ++ stmt_text stmt.now margin.now) }
 {
     match stmt {
-        Stmt::Let { name, value } => {
-            push(out, b"let ")?;
-            push_setting(out, name, value)
-        }
+        Stmt::Let { name, value } => push_let(out, name, value),
         Stmt::Assign { name, value } => push_setting(out, name, value),
         Stmt::If { test, then, other } => {
             push_test(out, test)?;
             push_block(alloc, out, margin, then.as_slice())?;
-            match other {
-                None => Ok(()),
-                Some(stmts) => push_else(alloc, out, margin, stmts.as_slice()),
-            }
+            let Some(other) = other else { return Ok(()) };
+            push_else(alloc, out, margin, other.as_slice())
         }
         Stmt::Get {
             name,
@@ -240,8 +258,7 @@ fn push_stmt(alloc: Global, out: &mut Vec<u8>, margin: &[u8], stmt: &Stmt) -> Re
             high,
             body,
         } => {
-            push_span(out, name, table, column)?;
-            push_ends(out, low, high)?;
+            push_for_head(out, name, table, column, low, high)?;
             push_block(alloc, out, margin, body.as_slice())
         }
         Stmt::Insert { table, values } => push_insert(out, table, values.as_slice()),

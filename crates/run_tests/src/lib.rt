@@ -3,6 +3,8 @@
 
 pub mod alike;
 #[cfg(test)]
+mod cases;
+#[cfg(test)]
 mod tests;
 pub mod ways;
 
