@@ -5,6 +5,7 @@ pub mod advance;
 #[cfg(test)]
 mod chain_tests;
 pub mod draft;
+pub mod finish;
 pub mod going;
 pub mod hash;
 pub mod laws;

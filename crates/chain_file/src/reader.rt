@@ -8,8 +8,9 @@ ghost use Rattle.chain_file.specs.Chain.{Position, chain, ended_blocks, fault_at
 ghost use Rattle.chain_file.specs.Following.{Answers, EndsAs, Follows, Keeps, Reads, StandsAt, fault_met};
 
 use crate::advance::{LineStop, take_line};
+use crate::finish::finish;
 use crate::place::Place;
-use crate::resume::{Before, before_piece, finish, read_more};
+use crate::resume::{Before, before_piece, read_more};
 use crate::standing::Standing;
 use proc_syntax::{Block, ChainFault, ChainKind};
 use rel_base::{List, NoMemory};

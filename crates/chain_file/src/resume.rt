@@ -2,12 +2,12 @@
 //!
 //! The transactions that the block had before stay where they are kept until nothing can fail any more.
 
-ghost use Rattle.std.specs.Prelude.{◌≡◌, ◌≤◌, ◌<◌, ◌+◌, ◌∷◌, ◌++◌, ℕ, List, [], length, Ok, IfOk, OnErr};
+ghost use Rattle.std.specs.Prelude.{◌≡◌, ◌+◌, ◌∷◌, ◌++◌, ℕ, List, [], length, IfOk};
 ghost use Rattle.sha2.specs.Hashers.{Holds256};
 ghost use Rattle.tx_text.specs.Parts.{line_text, parts_of};
 ghost use Rattle.chain_file.specs.Draft.{block_of};
-ghost use Rattle.chain_file.specs.Chain.{Position, Walked, ended_blocks, walk, with_blocks};
-ghost use Rattle.chain_file.specs.Following.{Reads, StandsAt};
+ghost use Rattle.chain_file.specs.Chain.{Position, ended_blocks, walk, with_blocks};
+ghost use Rattle.chain_file.specs.Following.{StandsAt};
 ghost use Rattle.chain_file.specs.Resumed.{Begins, Counts, Fits, Resumes, behind_end, going_at, txs_in};
 
 use crate::advance::behind_block;
@@ -198,111 +198,4 @@ pub fn read_more(alloc: Global, going: Going, bytes: &[u8]) -> Result<More, NoMe
         rest = after;
     }
     hold_going(alloc, block, rest)
-}
-
-/// Takes out the transactions of the block that has begun, with more behind them. Where memory is wanting, all is as before.
-fn take_txs(standing: &mut Standing, more: List<Tx>) -> Result<List<Tx>, NoMemory>
-    ensures all { IfOk result (λ all. all ≡ txs_in standing.old.place ++ more) }
-    ensures err { OnErr result (standing.new ≡ standing.old) }
-{
-    let Standing {
-        line,
-        place,
-        digits,
-        hash,
-    } = std::mem::replace(standing, Standing::front());
-    match place {
-        Place::Start | Place::Between { .. } => Ok(more),
-        Place::Within {
-            form,
-            count,
-            mut txs,
-        } => {
-            let appended = txs.append(more);
-            if appended.is_ok() {
-                return Ok(txs);
-            }
-            *standing = Standing {
-                line,
-                place: Place::Within { form, count, txs },
-                digits,
-                hash,
-            };
-            Err(NoMemory)
-        }
-    }
-}
-
-/// The block goes on: it keeps its transactions of the piece too.
-#[tactic(auto, using(crate::proofs::Near::going_near))]
-fn keep_going(
-    alloc: Global,
-    standing: &mut Standing,
-    going: Going,
-    held: List<u8>,
-) -> Result<Read, NoMemory>
-    requires { going.before ≡ length (txs_in standing.old.place) }
-    ensures reads { (bytes : List ℕ) → Holds256 going.hash bytes → parts_of held ≡ held ∷ [] → IfOk result (λ read. Reads read ([], Ok (going_at (txs_in standing.old.place) going bytes, held))) }
-    ensures err { OnErr result (standing.new ≡ standing.old) }
-{
-    let Going {
-        form,
-        count,
-        line,
-        digits,
-        hash,
-        txs,
-        ..
-    } = going;
-    let txs = take_txs(standing, txs)?;
-    let standing = Standing {
-        line,
-        place: Place::Within { form, count, txs },
-        digits,
-        hash,
-    };
-    Ok(Read {
-        blocks: List::new(alloc),
-        state: State::Open { standing, held },
-    })
-}
-
-/// Puts a block of these transactions into the first place.
-fn put_block(blocks: &mut List<Block>, number: u64, txs: List<Tx>)
-    requires few { length txs ≤ 1024 }
-    requires place { 0 < length blocks.old }
-    ensures { (blank : Block) (following : List Block) → blocks.old ≡ blank ∷ following → blocks.new ≡ ended_blocks (block_of number txs) ++ following }
-{
-    match Block::new(number, 0, txs) {
-        Ok(block) => {
-            let _blank = blocks.replace(0, block);
-        }
-        Err(_) => unreachable!(),
-    }
-}
-
-/// Moves the transactions that the block had before, where it goes on, or to those of the piece, where it ended. Where memory is
-/// wanting, all is as before.
-pub fn finish(alloc: Global, standing: &mut Standing, more: More) -> Result<Read, NoMemory>
-    requires { Fits (txs_in standing.old.place) more }
-    ensures reads { (meant : Walked) → Resumes (txs_in standing.old.place) more meant → IfOk result (λ read. Reads read meant) }
-    ensures err { OnErr result (standing.new ≡ standing.old) }
-{
-    match more {
-        More::Stopped(fault) => Ok(Read {
-            blocks: List::new(alloc),
-            state: State::Stopped(fault),
-        }),
-        More::Goes { going, held } => keep_going(alloc, standing, going, held),
-        More::Ends {
-            number,
-            txs,
-            mut blocks,
-            state,
-        } => {
-            let all = take_txs(standing, txs)?;
-            put_block(&mut blocks, number, all);
-            Ok(Read { blocks, state })
-        }
-    }
 }
