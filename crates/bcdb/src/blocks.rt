@@ -75,16 +75,16 @@ fn read_piece<S: Shelf>(
     reader: &mut Reader,
     blocks: &mut List<Block>,
 ) -> Result<Step, FilesFault>
+    requires read { IsRead (S.told shelf.old) name.now at reader.old blocks.old }
     requires allowed { AllowsBlocks (S.told shelf.old) (S.may_read shelf.old) name.now }
     requires room { length buffer.old ≡ 65536 }
     requires bounded { FilesAreBounded }
     requires numbered { FilesAreNumbered }
     requires lasting { FaultsLast }
-    requires read { IsRead (S.told shelf.old) name.now at reader.old blocks.old }
-    ensures goes { IfOk result (λ step. Goes step (S.told shelf.old) name.now at reader.new blocks.new) }
     ensures told { S.told shelf.new ≡ S.told shelf.old }
     ensures allowed { Keeps (S.may_read shelf.old) (S.may_read shelf.new) }
     ensures counted { Counted result (Rose (S.faults shelf.old name.now) (S.faults shelf.new name.now)) (S.faults shelf.old) (S.faults shelf.new) }
+    ensures goes { IfOk result (λ step. Goes step (S.told shelf.old) name.now at reader.new blocks.new) }
 {
     let Ok(count) = shelf.read_at(name, at, buffer) else {
         return Err(FilesFault::Failed);

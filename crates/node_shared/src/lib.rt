@@ -4,6 +4,7 @@
 //! do between two turns of a pass, it finds the jobs that it holds as it left them (`laws`).
 #![tactic(auto)]
 
+pub mod arriving;
 pub mod laws;
 pub mod ordering;
 pub mod shared;

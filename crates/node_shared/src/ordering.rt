@@ -1,14 +1,14 @@
-//! The turns that bring transactions and blocks, and decide and seal them.
+//! The turns of the processor, which bring blocks, decide their transactions and seal them.
 
 ghost use Rattle.std.specs.Prelude.{◌≡◌, IfOk, OnErr, map};
 ghost use mathlib.Core.List.{IsPrefix};
-ghost use Rattle.node_core.specs.Answers.{arrived_as, decided_as, delivered_as, sealed_as};
+ghost use Rattle.node_core.specs.Answers.{decided_as, delivered_as, sealed_as};
 ghost use Rattle.node_model.specs.Steps.{ToCommit, ToSeal};
-ghost use Rattle.node_shared.specs.Turn.{IsArrival, IsDelivery, IsLook, IsTurn};
+ghost use Rattle.node_shared.specs.Turn.{IsDelivery, IsLook, IsTurn};
 ghost use Rattle.turn_lock.specs.Passes.{HoldsNoTurn, IsPassOf, IsSamePass, pass_number, seen};
 
 use crate::shared::{NodePass, SharedNode};
-use node_core::{Arrived, Decided, Delivered, Sealed, share_block, share_tx, share_txs};
+use node_core::{Decided, Delivered, Sealed, share_block, share_txs};
 use proc_syntax::{Block, Tx};
 use rel_base::NoMemory;
 use row_sets::Versions;
@@ -26,55 +26,6 @@ fn share_whole(alloc: Global, block: &Block) -> Result<(Arc<Block>, Vec<Arc<Tx>>
 }
 
 impl<V: Versions> SharedNode<V> {
-    /// A transaction comes before its block. It is copied before the turn.
-    pub fn arrive<R: Wait>(
-        &self,
-        rt: &R,
-        pass: &mut NodePass<V>,
-        tx: &Tx,
-    ) -> Result<Arrived, NoMemory>
-        requires lock { IsPassOf self.now.lock pass.old }
-        requires no_turn { HoldsNoTurn pass.old }
-        ensures same { IsSamePass pass.old pass.new }
-        ensures no_turn { HoldsNoTurn pass.new }
-        ensures later { IsPrefix (seen pass.old) (seen pass.new) }
-        ensures turn { IfOk result (λ got. IsArrival pass.old pass.new tx.now (arrived_as got)) }
-        ensures err { OnErr result (IsLook pass.old pass.new) }
-    {
-        match share_tx(self.alloc, tx) {
-            Ok(shared) => self.arrive_shared(rt, pass, &shared),
-            Err(refused) => {
-                let _ = self.height(rt, pass);
-                Err(refused)
-            }
-        }
-    }
-
-    /// The same of a transaction in memory of its own, which the node shares where it waits as a new job. What is not used of it stays with
-    /// the caller.
-    pub fn arrive_shared<R: Wait>(
-        &self,
-        rt: &R,
-        pass: &mut NodePass<V>,
-        tx: &Arc<Tx>,
-    ) -> Result<Arrived, NoMemory>
-        requires lock { IsPassOf self.now.lock pass.old }
-        requires no_turn { HoldsNoTurn pass.old }
-        ensures same { IsSamePass pass.old pass.new }
-        ensures no_turn { HoldsNoTurn pass.new }
-        ensures later { IsPrefix (seen pass.old) (seen pass.new) }
-        ensures turn { IfOk result (λ got. IsArrival pass.old pass.new tx.now.value (arrived_as got)) }
-        ensures err { OnErr result (IsLook pass.old pass.new) }
-    {
-        let number = pass.number();
-        let mut core = self.lock.take(rt, pass);
-        let _ = core.journal_len();
-        let answer = core.arrive_shared(number, tx);
-        let _ = core.journal_len();
-        self.lock.give(pass, core);
-        answer
-    }
-
     /// The next block of the chain comes. It is copied before the turn, and what is not used of the copies is dropped after it.
     pub fn deliver<R: Wait>(
         &self,
@@ -133,11 +84,11 @@ impl<V: Versions> SharedNode<V> {
         requires lock { IsPassOf self.now.lock pass.old }
         requires no_turn { HoldsNoTurn pass.old }
         requires processor { pass_number pass.old ≡ 0 }
+        ensures turn { IfOk result (λ got. IsTurn pass.old pass.new ToCommit (decided_as got)) }
+        ensures err { OnErr result (IsLook pass.old pass.new) }
         ensures same { IsSamePass pass.old pass.new }
         ensures no_turn { HoldsNoTurn pass.new }
         ensures later { IsPrefix (seen pass.old) (seen pass.new) }
-        ensures turn { IfOk result (λ got. IsTurn pass.old pass.new ToCommit (decided_as got)) }
-        ensures err { OnErr result (IsLook pass.old pass.new) }
     {
         let number = pass.number();
         let mut core = self.lock.take(rt, pass);

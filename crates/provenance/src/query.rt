@@ -2,7 +2,6 @@
 
 use literals::LiteralFault;
 use rel_base::{Id, Key, Name, NoMemory};
-use std::alloc::AllocError;
 
 /// What is asked of the versions of rows.
 #[derive(Drop)]
@@ -37,17 +36,6 @@ impl From<NoMemory> for QueryFault {
     ghost from_gives = { λ _ e. e ≡ fault.NoMemory };
 
     fn from(_error: NoMemory) -> QueryFault {
-        QueryFault::NoMemory
-    }
-}
-
-impl From<AllocError> for QueryFault {
-    ghost use Rattle.std.specs.Prelude.{◌≡◌};
-    ghost use Rattle.provenance.specs.declared.query.QueryFault.TheVariants as fault;
-
-    ghost from_gives = { λ _ e. e ≡ fault.NoMemory };
-
-    fn from(_error: AllocError) -> QueryFault {
         QueryFault::NoMemory
     }
 }

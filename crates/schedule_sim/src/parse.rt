@@ -13,9 +13,6 @@ use rel_base::{List, NoMemory};
 use std::alloc::Global;
 use tx_text::{MOST_LINE_BYTES, split_line};
 
-/// The number of steps that a schedule may have.
-pub const MOST_STEPS: u64 = 1_000_000;
-
 /// Why a text is no schedule.
 #[derive(Clone, Copy, Debug, PartialEq, Eq)]
 pub enum ScheduleFault {
@@ -35,6 +32,9 @@ impl From<NoMemory> for ScheduleFault {
         ScheduleFault::NoMemory
     }
 }
+
+/// The number of steps that a schedule may have.
+pub const MOST_STEPS: u64 = 1_000_000;
 
 /// The step of a line behind the first.
 fn take_step(line: u64, text: &[u8]) -> Result<Step, ScheduleFault>

@@ -99,11 +99,11 @@ impl<V: Versions> Simulation<V> {
 
     // A work that is out of its actor's hand is finished, where its run is at its end.
     fn finish_work(&mut self, actor: u32, mut work: Work) -> Result<(), NoMemory>
-        requires actor { IsActor actor }
         requires work { IsWorkOf self.old.node actor work }
         requires others { AreInHandsBut self.old.node actor self.old.hands }
-        ensures takes { OnOk result (Takes self.old.node actor (to_finish self.old.node.app (state_of self.old.node) actor) self.new.node) }
+        requires actor { IsActor actor }
         ensures hands { OnOk result (AreInHands self.new.node self.new.hands) }
+        ensures takes { OnOk result (Takes self.old.node actor (to_finish self.old.node.app (state_of self.old.node) actor) self.new.node) }
     {
         match work.advance()? {
             Next::Ready => self.end_work(actor, work),
@@ -116,10 +116,10 @@ impl<V: Versions> Simulation<V> {
 
     /// The run of an actor's job is at its end.
     pub fn finish(&mut self, actor: u32) -> Result<(), NoMemory>
-        requires actor { IsActor actor }
         requires hands { AreInHands self.old.node self.old.hands }
-        ensures takes { OnOk result (Takes self.old.node actor (to_finish self.old.node.app (state_of self.old.node) actor) self.new.node) }
+        requires actor { IsActor actor }
         ensures hands { OnOk result (AreInHands self.new.node self.new.hands) }
+        ensures takes { OnOk result (Takes self.old.node actor (to_finish self.old.node.app (state_of self.old.node) actor) self.new.node) }
     {
         match take_work(&mut self.hands, actor) {
             None => Ok(()),
