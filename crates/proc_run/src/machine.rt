@@ -5,6 +5,8 @@ ghost use Rattle.rel_base.specs.Tables.{Tables};
 ghost use Rattle.proc_syntax.specs.Declaring.{tables_of};
 ghost use Rattle.proc_syntax.specs.Run.{run};
 ghost use Rattle.proc_run.specs.Remains.{StandInOrder};
+ghost use Rattle.proc_run.specs.declared.place.Branch.TheVariants.{Whole};
+ghost use Rattle.proc_run.specs.declared.place.Spot.TheVariants.{Block};
 ghost use Rattle.proc_run.specs.Told.{Agrees, IsNext, Tells, WantFits};
 
 use crate::going::{gives, go_to_read, keep, wanted};
@@ -52,6 +54,25 @@ impl Model for Machine {
     ghost invariant = { λ m. IsSound m.app.value.app m.tx m.time m.number m.phase m.spots.items m.run m.told };
 }
 
+/// An application and a call to be kept, with the path to the first statement of a procedure.
+fn hold_call(
+    alloc: Global,
+    app: &Arc<Checked>,
+    tx: &Tx,
+) -> Result<(Arc<Checked>, Tx, Vec<Spot>), NoMemory>
+    ensures app { IfOk result (λ held. held.0.value ≡ app.now.value) }
+    ensures tx { IfOk result (λ held. held.1 ≡ tx.now) }
+    ensures spots { IfOk result (λ held. held.2.items ≡ Block 0 Whole 0 ∷ []) }
+{
+    let mut spots = Vec::new(alloc);
+    spots.push(Spot::Block {
+        at: 0,
+        branch: Branch::Whole,
+        next: 0,
+    })?;
+    Ok((app.clone()?, tx.copy(alloc)?, spots))
+}
+
 impl Machine {
     /// A machine before its first step, with the call at a time in seconds. The run of a call that can not begin, which
     /// `Checked::call_fault` tells, has no read and is ill typed.
@@ -59,16 +80,11 @@ impl Machine {
         ensures { IfOk result (λ machine. machine ≡ record { app = app.now.value.app; tx = tx.now; time = time; fed = []; asks = None; ended = false }) }
     {
         let begun = begin_call(alloc, app.code(), tx)?;
-        let mut spots = Vec::new(alloc);
-        spots.push(Spot::Block {
-            at: 0,
-            branch: Branch::Whole,
-            next: 0,
-        })?;
+        let (app, tx, spots) = hold_call(alloc, app, tx)?;
         Ok(Machine {
             alloc,
-            app: app.clone()?,
-            tx: tx.copy(alloc)?,
+            app,
+            tx,
             time,
             number: begun.number,
             spots,
