@@ -36,8 +36,8 @@ fn is_escaped(byte: u8) -> bool
 fn unquote(alloc: Global, bytes: &[u8]) -> Result<(Vec<u8>, &[u8]), LiteralFault>
     ensures { Reads (items_of result) (quoted bytes.now) }
 {
-    let mut value = Vec::new(alloc);
     let mut rest = bytes;
+    let mut value = Vec::new(alloc);
     loop {
         match next_part(rest) {
             Part::Close(after) => return Ok((value, after)),
@@ -107,16 +107,27 @@ fn read_escaped(alloc: Global, bytes: &[u8]) -> Result<(Str, &[u8]), LiteralFaul
     Ok((text, rest))
 }
 
-/// Writes a byte of a text at the end, as it stands between quotes.
-fn push_byte(out: &mut Vec<u8>, byte: u8) -> Result<(), NoMemory>
-    ensures ok { OnOk result (out.new.items ≡ out.old.items ++ quoted_byte byte) }
+/// Writes a text in quotes at the end, or nothing where memory runs out.
+pub fn push_text(out: &mut Vec<u8>, text: &str) -> Result<(), NoMemory>
+    ensures ok { OnOk result (out.new.items ≡ out.old.items ++ text_literal text.now) }
     ensures err { OnErr result (out.new.items ≡ out.old.items) }
 {
-    if is_escaped(byte) {
-        out.extend_from_slice(&[b'\\', byte])?;
-    } else {
-        out.push(byte)?;
+    let start = out.len();
+    let pushed = push_quoted(out, text.as_bytes());
+    if pushed.is_err() {
+        out.truncate(start);
     }
+    pushed
+}
+
+/// Writes a text in quotes at the end, or a part of it.
+fn push_quoted(out: &mut Vec<u8>, bytes: &[u8]) -> Result<(), NoMemory>
+    ensures ok { OnOk result (out.new.items ≡ out.old.items ++ text_literal bytes.now) }
+    ensures front { take (length out.old.items) out.new.items ≡ out.old.items }
+{
+    out.push(b'"')?;
+    push_inside(out, bytes)?;
+    out.push(b'"')?;
     Ok(())
 }
 
@@ -131,26 +142,15 @@ fn push_inside(out: &mut Vec<u8>, bytes: &[u8]) -> Result<(), NoMemory>
     Ok(())
 }
 
-/// Writes a text in quotes at the end, or a part of it.
-fn push_quoted(out: &mut Vec<u8>, bytes: &[u8]) -> Result<(), NoMemory>
-    ensures ok { OnOk result (out.new.items ≡ out.old.items ++ text_literal bytes.now) }
-    ensures front { take (length out.old.items) out.new.items ≡ out.old.items }
-{
-    out.push(b'"')?;
-    push_inside(out, bytes)?;
-    out.push(b'"')?;
-    Ok(())
-}
-
-/// Writes a text in quotes at the end, or nothing where memory runs out.
-pub fn push_text(out: &mut Vec<u8>, text: &str) -> Result<(), NoMemory>
-    ensures ok { OnOk result (out.new.items ≡ out.old.items ++ text_literal text.now) }
+/// Writes a byte of a text at the end, as it stands between quotes.
+fn push_byte(out: &mut Vec<u8>, byte: u8) -> Result<(), NoMemory>
+    ensures ok { OnOk result (out.new.items ≡ out.old.items ++ quoted_byte byte) }
     ensures err { OnErr result (out.new.items ≡ out.old.items) }
 {
-    let start = out.len();
-    let pushed = push_quoted(out, text.as_bytes());
-    if pushed.is_err() {
-        out.truncate(start);
+    if is_escaped(byte) {
+        out.extend_from_slice(&[b'\\', byte])?;
+    } else {
+        out.push(byte)?;
     }
-    pushed
+    Ok(())
 }

@@ -11,6 +11,13 @@ pub struct AppCode {
     pub columns: List<List<Option<usize>>>,
 }
 
+/// A parameter: the number of its variable, and the kind of its arguments.
+#[derive(Drop)]
+pub struct Param {
+    pub slot: usize,
+    pub kind: Kind,
+}
+
 /// A procedure.
 #[derive(Drop)]
 pub struct ProcCode {
@@ -19,13 +26,6 @@ pub struct ProcCode {
     pub slots: usize,
     pub params: List<Param>,
     pub body: List<Action>,
-}
-
-/// A parameter: the number of its variable, and the kind of its arguments.
-#[derive(Drop)]
-pub struct Param {
-    pub slot: usize,
-    pub kind: Kind,
 }
 
 /// A statement. A variable is given by its number, its slot. So is a table; where no table has the name, the number is that of no

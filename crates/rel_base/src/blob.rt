@@ -1,15 +1,10 @@
 //! Byte strings of the database.
 
-ghost use Rattle.std.specs.Prelude.{◌≡◌, ◌≤◌, ◌<◌, ◌↔◌, length, IfOk, IsErrOf, nat_eq};
-ghost use Rattle.std.proofs.Common.{rules};
-ghost use Rattle.std.specs.Cmp.{partial_equiv_from_equiv, partial_order_from_own_ties};
-ghost use Rattle.std.specs.Cmp.Lexicographic.{pointwise, slice_cmp, nat_list_cmp_total, nat_list_eq_equiv};
-ghost use Rattle.std.specs.Cmp.Rules.{comparing};
-ghost use Rattle.std.specs.Ordering.{nat_cmp, as_partial_cmp};
+ghost use Rattle.std.specs.Prelude.{◌≡◌, ◌≤◌, ◌<◌, ◌↔◌, length, IfOk, IsErrOf};
 
+use crate::list::List;
 use crate::memory::{NoMemory, Twin};
 use std::alloc::Global;
-use std::cmp::Ordering;
 use std::marker::Model;
 
 /// Why there is no byte string.
@@ -22,9 +17,9 @@ pub enum BlobFault {
 }
 
 /// A byte string of at most 255 bytes.
-#[derive(Drop)]
+#[derive(Drop, PartialEq, Eq, PartialOrd, Ord)]
 pub struct Blob {
-    bytes: Vec<u8>,
+    bytes: List<u8>,
 }
 
 impl Model for Blob {
@@ -32,9 +27,11 @@ impl Model for Blob {
 
     ghost Value = { List ℕ };
 
-    ghost view = { λ a. a.bytes.items };
+    ghost view = { λ a. a.bytes };
 
-    ghost invariant = { λ a. length a.bytes.items ≤ 255 };
+    ghost invariant = { λ a. length a.bytes ≤ 255 };
+
+    ghost inverse = { λ bytes. record { bytes = bytes } };
 }
 
 impl Blob {
@@ -47,7 +44,9 @@ impl Blob {
             return Err(BlobFault::TooLong);
         }
         match Vec::from_slice(alloc, bytes) {
-            Ok(bytes) => Ok(Blob { bytes }),
+            Ok(bytes) => Ok(Blob {
+                bytes: List::from_vec(bytes),
+            }),
             Err(_) => Err(BlobFault::NoMemory),
         }
     }
@@ -64,44 +63,8 @@ impl Blob {
 impl Twin for Blob {
     fn copy(&self, alloc: Global) -> Result<Self, NoMemory> {
         let bytes = Vec::from_slice(alloc, self.bytes.as_slice())?;
-        Ok(Blob { bytes })
-    }
-}
-
-impl PartialEq for Blob {
-    ghost eq = { pointwise nat_eq };
-
-    ghost laws = { partial_equiv_from_equiv nat_list_eq_equiv };
-
-    fn eq(&self, other: &Self) -> bool {
-        self.bytes.as_slice() == other.bytes.as_slice()
-    }
-}
-
-impl Eq for Blob {
-    ghost laws = { nat_list_eq_equiv };
-}
-
-impl PartialOrd for Blob {
-    ghost partial_cmp = { as_partial_cmp (slice_cmp nat_cmp) };
-
-    ghost laws = { partial_order_from_own_ties (Prim.search (comparing, rules)) (Prim.search (comparing, rules)) };
-
-    fn partial_cmp(&self, other: &Self) -> Option<Ordering> {
-        Some(self.cmp(other))
-    }
-}
-
-impl Ord for Blob {
-    ghost cmp = { slice_cmp nat_cmp };
-
-    ghost total = { nat_list_cmp_total };
-
-    ghost matches_partial_cmp = { Prim.search (comparing, rules) };
-
-    ghost matches_eq = { Prim.search (comparing, rules) };
-
-    fn cmp(&self, other: &Self) -> Ordering {
-        self.bytes.as_slice().cmp(&other.bytes.as_slice())
+        Ok(Blob {
+            bytes: List::from_vec(bytes),
+        })
     }
 }

@@ -70,7 +70,7 @@ fn has_none(edges: &Edges) -> bool
     edges.out.least_from(0).is_none() && edges.into.least_from(0).is_none()
 }
 
-/// The same. Most positions have no edge, and then no row of another changes.
+/// Marks a position in the rows of the positions that its edges name. Most positions have no edge, and then no row of another changes.
 fn mark_if_any(rows: &mut [Edges], edges: &Edges, pos: u32)
     requires counts { 1 ≤ pos }
     requires upto { pos ≤ 1024 }
