@@ -23,7 +23,7 @@ use Rattle.schedule_sim.specs.Running.{Given, scheduled, simulated, told_of}
 use Rattle.schedule_sim.specs.Schedules.{schedule_of}
 use Rattle.schedule_sim.specs.declared.step.Step.{Step}
 use Rattle.serial_laws.specs.InOrder.{EachInOrder}
-use Rattle.serial_laws.proofs.Told.{results_run}
+use Rattle.serial_laws.proofs.Results.{results_run}
 use Rattle.serial_laws.specs.Chained.{AreNumbered}
 
 numbered : (number : ℕ) (blocks : List Block) → NumberedFrom number blocks → AreNumbered number blocks

@@ -6,13 +6,13 @@ use Rattle.bcdb.specs.declared.arrivals.Step.{Step}
 use Rattle.edge_traits.specs.Shelf.{Files}
 use Rattle.proc_syntax.specs.declared.call.Tx.{Tx}
 use Rattle.tx_text.specs.Arrivals.{arrivals, arrived}
-use Rattle.tx_text.specs.Feeding.{Follows, so_far}
+use Rattle.tx_text.specs.Feeding.{WasFed, so_far}
 use Rattle.tx_text.specs.Listing.{longest_listing}
 use Rattle.tx_text.specs.declared.arrival_reader.ArrivalReader.{ArrivalReader}
 
 -- these bytes were read, with no fault yet: the transactions of their lines
 pub record HasRead (bytes : List ℕ) (reader : ArrivalReader) (txs : List Tx) : Type 0 where
-  pub follows : Follows reader bytes
+  pub follows : WasFed reader bytes
   pub clear : IsOk (arrived bytes)
   pub txs_are : so_far (arrived bytes) ≡ txs
 
@@ -35,7 +35,7 @@ pub record IsWhole (told : Option Files) (name : List ℕ) (reader : ArrivalRead
   pub whole : IfSome told (λ files. bytes ≡ files name)
 
 -- what one more piece of a file comes to, where so many bytes were read before it
-abbrev pub Goes : Step → Option Files → List ℕ → ℕ → ArrivalReader → List Tx → Type 0
-Goes (step.More count) told name at reader txs = (0 < count) × (at + count ≤ longest_listing) × IsRead told name (at + count) reader txs
-Goes step.End told name at reader txs = IsWhole told name reader txs
-Goes (step.Stop line) told name at reader txs = IfSome told (λ files. arrivals (files name) ≡ Err line)
+abbrev pub LeadsTo : Step → Option Files → List ℕ → ℕ → ArrivalReader → List Tx → Type 0
+LeadsTo (step.More count) told name at reader txs = (0 < count) × (at + count ≤ longest_listing) × IsRead told name (at + count) reader txs
+LeadsTo step.End told name at reader txs = IsWhole told name reader txs
+LeadsTo (step.Stop line) told name at reader txs = IfSome told (λ files. arrivals (files name) ≡ Err line)

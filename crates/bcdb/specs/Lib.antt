@@ -1,7 +1,7 @@
 pub mod Refusals
 pub mod Accepted
 pub mod Selected
-pub mod Told
+pub mod Application
 pub mod Answer
 pub mod Causes
 pub mod Reply

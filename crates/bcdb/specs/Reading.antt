@@ -3,7 +3,7 @@ use Rattle.std.specs.Prelude.{◌≡◌, ◌<◌, ◌≤◌, ◌+◌, ℕ, List,
 use Rattle.bcdb.specs.declared.blocks.Step.{Step}
 use Rattle.bcdb.specs.declared.blocks.Step.TheVariants as step
 use Rattle.chain_file.specs.Chain.{chain, lasting}
-use Rattle.chain_file.specs.Following.{Follows}
+use Rattle.chain_file.specs.Following.{WasFed}
 use Rattle.chain_file.specs.Numbered.{NumberedFrom}
 use Rattle.chain_file.specs.Text.{longest_draft}
 use Rattle.chain_file.specs.declared.reader.Reader.{Reader}
@@ -13,7 +13,7 @@ use Rattle.proc_syntax.specs.declared.chain_fault.ChainFault.{ChainFault}
 
 -- these bytes were read: their blocks, and their fault if no more bytes can heal it
 pub record TakesPiece (bytes : List ℕ) (reader : Reader) (blocks : List Block) (fault : Option ChainFault) : Type 0 where
-  pub follows : Follows reader bytes
+  pub follows : WasFed reader bytes
   pub blocks_are : (chain bytes).0 ≡ blocks
   pub fault_is : fault ≡ lasting (chain bytes).1
 
@@ -21,7 +21,7 @@ pub record TakesPiece (bytes : List ℕ) (reader : Reader) (blocks : List Block)
 pub record IsRead (told : Option Files) (name : List ℕ) (count : ℕ) (reader : Reader) (blocks : List Block) : Type 0 where
   pub bytes : List ℕ
   pub size : length bytes ≡ count
-  pub follows : Follows reader bytes
+  pub follows : WasFed reader bytes
   pub blocks_are : (chain bytes).0 ≡ blocks
   pub clear : lasting (chain bytes).1 ≡ None
   pub front : IfSome told (λ files. bytes ≡ take count (files name))
@@ -29,7 +29,7 @@ pub record IsRead (told : Option Files) (name : List ℕ) (count : ℕ) (reader 
 -- the whole file was read
 pub record IsWhole (told : Option Files) (name : List ℕ) (reader : Reader) (blocks : List Block) : Type 0 where
   pub bytes : List ℕ
-  pub follows : Follows reader bytes
+  pub follows : WasFed reader bytes
   pub blocks_are : (chain bytes).0 ≡ blocks
   pub whole : IfSome told (λ files. bytes ≡ files name)
 
@@ -38,7 +38,7 @@ abbrev pub HasFault : Option Files → List ℕ → List Block → ChainFault �
 HasFault told name blocks fault = IfSome told (λ files. chain (files name) ≡ (blocks, Some fault))
 
 -- what one more piece of a file comes to, where so many bytes were read before it
-abbrev pub Goes : Step → Option Files → List ℕ → ℕ → Reader → List Block → Type 0
-Goes (step.More count) told name at reader blocks = (0 < count) × (at + count ≤ longest_draft) × IsRead told name (at + count) reader blocks
-Goes step.End told name at reader blocks = IsWhole told name reader blocks × NumberedFrom 1 blocks
-Goes (step.Stop fault) told name at reader blocks = HasFault told name blocks fault × NumberedFrom 1 blocks
+abbrev pub LeadsTo : Step → Option Files → List ℕ → ℕ → Reader → List Block → Type 0
+LeadsTo (step.More count) told name at reader blocks = (0 < count) × (at + count ≤ longest_draft) × IsRead told name (at + count) reader blocks
+LeadsTo step.End told name at reader blocks = IsWhole told name reader blocks × NumberedFrom 1 blocks
+LeadsTo (step.Stop fault) told name at reader blocks = HasFault told name blocks fault × NumberedFrom 1 blocks

@@ -2,7 +2,7 @@
 
 ghost use Rattle.std.specs.Prelude.{◌≡◌, ◌++◌, List, ℕ, IfOk, IfSome, length};
 ghost use Rattle.bcdb.specs.Answer.{arrived_in};
-ghost use Rattle.bcdb.specs.ArrivalReading.{Goes, HasRead, IsRead, TakesLines};
+ghost use Rattle.bcdb.specs.ArrivalReading.{LeadsTo, HasRead, IsRead, TakesLines};
 ghost use Rattle.bcdb.specs.Causes.{AllowsArrivals, Counted, RoseAtGiven};
 ghost use Rattle.edge_traits.specs.Causes.{Keeps, Rose};
 ghost use Rattle.tx_text.specs.Arrivals.{ArrivalFaultsLast, ArrivalsAreBounded, arrivals};
@@ -72,7 +72,7 @@ fn read_piece<S: Shelf>(
     requires bounded { ArrivalsAreBounded }
     requires lasting { ArrivalFaultsLast }
     requires read { IsRead (S.told shelf.old) name.now at reader.old txs.old }
-    ensures goes { IfOk result (λ step. Goes step (S.told shelf.old) name.now at reader.new txs.new) }
+    ensures goes { IfOk result (λ step. LeadsTo step (S.told shelf.old) name.now at reader.new txs.new) }
     ensures told { S.told shelf.new ≡ S.told shelf.old }
     ensures allowed { Keeps (S.may_read shelf.old) (S.may_read shelf.new) }
     ensures counted { Counted result (Rose (S.faults shelf.old name.now) (S.faults shelf.new name.now)) (S.faults shelf.old) (S.faults shelf.new) }

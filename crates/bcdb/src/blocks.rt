@@ -2,10 +2,10 @@
 
 ghost use Rattle.std.specs.Prelude.{◌≡◌, ◌≤◌, ◌<◌, ◌++◌, List, ℕ, IfOk, IfSome, Option, length};
 ghost use Rattle.bcdb.specs.Causes.{AllowsBlocks, Counted};
-ghost use Rattle.bcdb.specs.Reading.{Goes, IsRead, TakesPiece};
+ghost use Rattle.bcdb.specs.Reading.{LeadsTo, IsRead, TakesPiece};
 ghost use Rattle.chain_file.specs.Chain.{chain};
 ghost use Rattle.chain_file.specs.Files.{FaultsLast, FilesAreBounded, FilesAreNumbered};
-ghost use Rattle.chain_file.specs.Following.{EndsAs, Follows};
+ghost use Rattle.chain_file.specs.Following.{EndsAs, WasFed};
 ghost use Rattle.chain_file.specs.Numbered.{NumberedFrom};
 ghost use Rattle.edge_traits.specs.Causes.{Keeps, Rose};
 
@@ -33,7 +33,7 @@ fn take_piece(
     blocks: &mut List<Block>,
     piece: &[u8],
 ) -> Result<Option<ChainFault>, NoMemory>
-    ensures { (bytes : List ℕ) → Follows reader.old bytes → (chain bytes).0 ≡ blocks.old → IfOk result (TakesPiece (bytes ++ piece.now) reader.new blocks.new) }
+    ensures { (bytes : List ℕ) → WasFed reader.old bytes → (chain bytes).0 ≡ blocks.old → IfOk result (TakesPiece (bytes ++ piece.now) reader.new blocks.new) }
 {
     let fed = reader.feed(piece)?;
     let Fed {
@@ -46,7 +46,7 @@ fn take_piece(
 
 // The fault of a file that ends here.
 fn end_fault(mut reader: Reader) -> Option<ChainFault>
-    ensures { (bytes : List ℕ) → Follows reader bytes → (chain bytes).1 ≡ result }
+    ensures { (bytes : List ℕ) → WasFed reader bytes → (chain bytes).1 ≡ result }
 {
     match reader.end() {
         Ok(()) => None,
@@ -84,7 +84,7 @@ fn read_piece<S: Shelf>(
     ensures told { S.told shelf.new ≡ S.told shelf.old }
     ensures allowed { Keeps (S.may_read shelf.old) (S.may_read shelf.new) }
     ensures counted { Counted result (Rose (S.faults shelf.old name.now) (S.faults shelf.new name.now)) (S.faults shelf.old) (S.faults shelf.new) }
-    ensures goes { IfOk result (λ step. Goes step (S.told shelf.old) name.now at reader.new blocks.new) }
+    ensures goes { IfOk result (λ step. LeadsTo step (S.told shelf.old) name.now at reader.new blocks.new) }
 {
     let Ok(count) = shelf.read_at(name, at, buffer) else {
         return Err(FilesFault::Failed);

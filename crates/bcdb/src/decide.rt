@@ -15,7 +15,7 @@ use crate::blocks::read_blocks;
 use crate::cluster::cluster_of;
 use crate::clustering::answer_cluster;
 use crate::fault::FilesFault;
-use crate::files::{AppFault, LONGEST_APPLICATION, read_application};
+use crate::application::{AppFault, LONGEST_APPLICATION, read_application};
 use crate::load::answer_load;
 use crate::refusal::{BadArrivals, Refusal, TOO_LONG, arrivals_refusal, refusal_line};
 use crate::run::{answer_blocks, answer_seal};

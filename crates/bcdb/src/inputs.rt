@@ -12,7 +12,7 @@ use crate::all_arrivals::read_all_arrivals;
 use crate::blocks::read_blocks;
 use crate::cluster::Cluster;
 use crate::fault::FilesFault;
-use crate::files::fetch_application;
+use crate::application::fetch_application;
 use crate::refusal::{BadArrivals, Refusal};
 use chain_file::Fed;
 use edge_traits::Shelf;

@@ -10,7 +10,7 @@ pub mod cluster;
 pub mod clustering;
 pub mod decide;
 pub mod fault;
-pub mod files;
+pub mod application;
 pub mod inputs;
 pub mod load;
 pub mod query;

@@ -20,7 +20,7 @@ use crate::arrivals::read_arrivals;
 use crate::blocks::read_blocks;
 use crate::decide::{Reply, refuse_app, refuse_arrivals};
 use crate::fault::FilesFault;
-use crate::files::fetch_application;
+use crate::application::fetch_application;
 use crate::refusal::{BadArrivals, Refusal, schedule_refusal, short_refusal};
 use crate::run::report_nodes;
 use crate::schedule::read_schedule;

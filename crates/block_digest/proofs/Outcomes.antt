@@ -10,7 +10,7 @@ use Rattle.canon_code.specs.Values.{is_text, text_at}
 use Rattle.canon_code.proofs.Exact.{IsExact, bytes_tail, u32_exact, u64_exact}
 use Rattle.canon_code.proofs.Things.{row_exact}
 use Rattle.node_model.specs.BlockCode.{small_code, fault_code, clash_code, danger_code, outcome_code}
-use Rattle.node_model.specs.declared.dangerous.Danger.TheVariants as danger
+use Rattle.node_model.specs.declared.danger.Danger.TheVariants as danger
 use Rattle.node_model.specs.declared.outcome.Late.{Late}
 use Rattle.node_model.specs.declared.outcome.Outcome.TheVariants as outcome
 use Rattle.proc_syntax.specs.declared.fault.Fault.TheVariants as fault

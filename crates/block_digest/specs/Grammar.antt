@@ -4,8 +4,8 @@ use Rattle.canon_code.specs.Codes.{HasCounted}
 use Rattle.canon_code.specs.Rows.{HasRowCode}
 use Rattle.canon_code.specs.Values.{is_text}
 use Rattle.canon_code.specs.Writes.{HasWriteCode}
-use Rattle.node_model.specs.declared.dangerous.Danger.TheVariants as danger
-use Rattle.node_model.specs.declared.dangerous.Danger.{Danger}
+use Rattle.node_model.specs.declared.danger.Danger.TheVariants as danger
+use Rattle.node_model.specs.declared.danger.Danger.{Danger}
 use Rattle.node_model.specs.declared.outcome.Clash.{Clash}
 use Rattle.node_model.specs.declared.outcome.Late.{Late}
 use Rattle.node_model.specs.declared.outcome.Outcome.TheVariants as outcome

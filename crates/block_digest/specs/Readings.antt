@@ -5,8 +5,8 @@ use Rattle.canon_code.specs.Parts.{counted_at, number_at, short_at}
 use Rattle.canon_code.specs.Rows.{row_at}
 use Rattle.canon_code.specs.Values.{text_at}
 use Rattle.canon_code.specs.Writes.{write_at}
-use Rattle.node_model.specs.declared.dangerous.Danger.TheVariants as danger
-use Rattle.node_model.specs.declared.dangerous.Danger.{Danger}
+use Rattle.node_model.specs.declared.danger.Danger.TheVariants as danger
+use Rattle.node_model.specs.declared.danger.Danger.{Danger}
 use Rattle.node_model.specs.declared.outcome.Clash.{Clash}
 use Rattle.node_model.specs.declared.outcome.Late.{Late}
 use Rattle.node_model.specs.declared.outcome.Outcome.TheVariants as outcome

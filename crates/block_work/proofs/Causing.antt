@@ -5,7 +5,7 @@ use Rattle.std.specs.List.{filter}
 use Rattle.std.specs.Option.{option_map}
 use Rattle.std.specs.Ordering.{is_gt}
 use Rattle.std.specs.Prelude.{slice_get}
-use Rattle.block_work.proofs.Few.{at_place, fitting_few}
+use Rattle.block_work.proofs.Bounds.{at_place, fitting_few}
 use Rattle.block_work.specs.Causes.{IsCause, before_edges, is_commit}
 use Rattle.node_model.specs.Danger.{danger}
 use Rattle.node_model.specs.Decide.{by_run, clash, conflict_outcome, danger_outcome, fault_outcome, late_outcome, or_committed, or_else}

@@ -26,7 +26,7 @@ use Rattle.rw_graph.specs.Held.{holds}
 use Rattle.rw_graph.specs.Laws.{places}
 use Rattle.rw_graph.specs.Sets.{AreAmong, is_among}
 use Rattle.rw_graph.specs.declared.edge_set.EdgeSet.{EdgeSet}
-use Rattle.rw_graph.specs.declared.row.Edges.{Edges}
+use Rattle.rw_graph.specs.declared.edges.Edges.{Edges}
 
 -- ---- positions
 

@@ -2,7 +2,7 @@ pub mod Answering
 pub mod Applied
 pub mod Causing
 pub mod Consistent
-pub mod Few
+pub mod Bounds
 pub mod Fitting
 pub mod Grown
 pub mod Outcomes

@@ -1,7 +1,7 @@
 -- The orders that a chain tells.
 use Rattle.std.proofs.Common.{subst, sym}
 use Rattle.block_work.specs.Laws.{ResultsRunAgain}
-use Rattle.serial_laws.proofs.Told.{results_run}
+use Rattle.serial_laws.proofs.Results.{results_run}
 use Rattle.serial_laws.specs.InOrder.{EachInOrder}
 
 pub results_run_again : ResultsRunAgain

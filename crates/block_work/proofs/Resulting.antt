@@ -12,7 +12,7 @@ use Rattle.node_model.specs.Order.{is_free, order, order_from, place, serial_ord
 use Rattle.node_model.specs.declared.result.BlockResult.{BlockResult}
 use Rattle.node_model.specs.declared.result.Committed.{Committed}
 use Rattle.node_model.specs.declared.result.Told.{Told}
-use Rattle.block_work.proofs.Few.{fitting_few}
+use Rattle.block_work.proofs.Bounds.{fitting_few}
 use Rattle.block_work.proofs.Consistent.{fewer, rising}
 use Rattle.block_work.specs.Block.{IsConsistent, KeepsEdges, StandInOrder}
 use Rattle.block_work.specs.Results.{HasFewWrites, IsWithinLimits, placed_at}

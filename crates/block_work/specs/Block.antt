@@ -16,7 +16,7 @@ use Rattle.rw_graph.specs.Fitting.{ReadsFit}
 use Rattle.rw_graph.specs.Graph.{HasRoomAt, has_edge, positions_of}
 use Rattle.rw_graph.specs.Laws.{places}
 use Rattle.rw_graph.specs.declared.edge_set.EdgeSet.{EdgeSet}
-use Rattle.rw_graph.specs.declared.row.Edges.{Edges}
+use Rattle.rw_graph.specs.declared.edges.Edges.{Edges}
 use Rattle.std.specs.Prelude.{All, IsTrue, List, [], length, vec_capacity, vec_len, ◌+◌, ◌++◌, ◌<◌, ◌≡◌, ◌≤◌, ◌∷◌, ℕ}
 
 -- ---- what it stands for

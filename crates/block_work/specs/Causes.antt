@@ -18,7 +18,7 @@ use Rattle.rel_base.specs.Tables.{Stamped}
 use Rattle.rel_base.specs.declared.schema.TableDef.{TableDef}
 use Rattle.row_sets.specs.Versions.{are_rising}
 use Rattle.rw_graph.specs.Held.{holds}
-use Rattle.rw_graph.specs.declared.row.Edges.{Edges}
+use Rattle.rw_graph.specs.declared.edges.Edges.{Edges}
 use Rattle.std.specs.Prelude.{All, Bool, IsTrue, List, None, Option, Some, cond, false, length, map, true, ◌<◌, ◌^◌, ◌≡◌, ◌≤◌, ℕ}
 
 -- whether an outcome is that the transaction commits

@@ -6,7 +6,7 @@ use Rattle.cause_laws.specs.Dangers.{AreInFormOne, AreInFormTwo, HasNoDanger, Is
 use Rattle.cause_laws.specs.Laws.{DangerIsLeast}
 use Rattle.node_model.specs.Danger.{first_pair, is_form_one, is_form_two}
 use Rattle.node_model.specs.Edges.{edge, touches}
-use Rattle.node_model.specs.declared.dangerous.Danger.TheVariants.{One, Two}
+use Rattle.node_model.specs.declared.danger.Danger.TheVariants.{One, Two}
 use Rattle.node_model.specs.declared.result.Committed.{Committed}
 use Rattle.rel_base.proofs.Bits.{both_true, first_true, second_true}
 use Rattle.rel_base.specs.declared.access.Made.{Made}

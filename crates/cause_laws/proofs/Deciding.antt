@@ -9,7 +9,7 @@ use Rattle.node_model.specs.Danger.{danger}
 use Rattle.node_model.specs.Decide.{bad_call, by_run, clash, conflict_outcome, danger_outcome, decide, duplicate, early, fault_outcome, future, late_outcome, or_committed, or_else, run_at, writes_since}
 use Rattle.node_model.specs.Fold.{Work, fold, join_committed, no_work, work_on, work_through}
 use Rattle.node_model.specs.History.{Sealed, ids_of, ids_told, snapshot, time_at}
-use Rattle.node_model.specs.declared.dangerous.Danger.{Danger}
+use Rattle.node_model.specs.declared.danger.Danger.{Danger}
 use Rattle.node_model.specs.declared.outcome.Outcome.TheVariants as outcome
 use Rattle.node_model.specs.declared.outcome.Outcome.{Outcome}
 use Rattle.node_model.specs.declared.result.Committed.{Committed}

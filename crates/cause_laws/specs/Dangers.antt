@@ -2,8 +2,8 @@
 -- (Where they come from is said with `danger` of node_model.)
 use Rattle.cause_laws.specs.Least.{IsLeastPair, NoPair}
 use Rattle.node_model.specs.Edges.{comes_from, edge_at, leads_to}
-use Rattle.node_model.specs.declared.dangerous.Danger.TheVariants.{One, Two}
-use Rattle.node_model.specs.declared.dangerous.Danger.{Danger}
+use Rattle.node_model.specs.declared.danger.Danger.TheVariants.{One, Two}
+use Rattle.node_model.specs.declared.danger.Danger.{Danger}
 use Rattle.node_model.specs.declared.result.Committed.{Committed}
 use Rattle.rel_base.specs.declared.access.Made.{Made}
 use Rattle.rel_base.specs.declared.access.Write.{Write}

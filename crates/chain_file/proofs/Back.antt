@@ -23,9 +23,9 @@ use Rattle.tx_text.proofs.Again.{tx_again, word_again, past_again}
 use Rattle.proc_syntax.specs.declared.chain_fault.ChainKind.{ChainKind}
 use Rattle.proc_syntax.specs.declared.chain_fault.ChainKind.TheVariants as kind
 use Rattle.proc_syntax.specs.declared.chain_fault.ChainFault.{ChainFault}
-use Rattle.chain_file.specs.declared.place.FileForm.TheVariants as form
-use Rattle.chain_file.specs.declared.place.Place.TheVariants as place
-use Rattle.chain_file.specs.declared.place.Taken.{Taken}
+use Rattle.chain_file.specs.declared.section.FileForm.TheVariants as form
+use Rattle.chain_file.specs.declared.section.Section.TheVariants as place
+use Rattle.chain_file.specs.declared.section.Taken.{Taken}
 use Rattle.tx_text.specs.Parts.{parts_of, line_text, is_long}
 use Rattle.chain_file.specs.Numbered.{NumberedFrom}
 use Rattle.chain_file.specs.Text.{tx_line, CanStand}

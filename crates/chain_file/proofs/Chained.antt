@@ -14,10 +14,10 @@ use Rattle.proc_syntax.specs.declared.chain_fault.ChainKind.TheVariants as kind
 use Rattle.tx_text.specs.Fields.{is_space, after, word, past_word}
 use Rattle.tx_text.specs.Lines.{tx_of, tx_text}
 use Rattle.tx_text.proofs.Takes.{IsWhole, tx_takes}
-use Rattle.chain_file.specs.declared.place.FileForm.TheVariants as form
-use Rattle.chain_file.specs.declared.place.Place.{Place}
-use Rattle.chain_file.specs.declared.place.Place.TheVariants as place
-use Rattle.chain_file.specs.declared.place.Taken.{Taken}
+use Rattle.chain_file.specs.declared.section.FileForm.TheVariants as form
+use Rattle.chain_file.specs.declared.section.Section.{Section}
+use Rattle.chain_file.specs.declared.section.Section.TheVariants as place
+use Rattle.chain_file.specs.declared.section.Taken.{Taken}
 use Rattle.chain_file.specs.Chain.{Position, Walked, bytes_in, chain, fault, fault_at_end, front, hash_digits, is_between, onward, position_after, told, walk}
 use Rattle.chain_file.specs.ChainText.{blocks_text, chain_text, chained_text}
 use Rattle.chain_file.specs.Draft.{block_of}
@@ -30,7 +30,7 @@ use Rattle.chain_file.proofs.Drafts.{IsBehind, behind_if}
 use Rattle.chain_file.proofs.Spelled.{IsOf, block_is, flat_more}
 
 -- in a chain: the bytes of a block that has begun are its lines so far
-abbrev Stands : Place → List ℕ → List ℕ → Type 0
+abbrev Stands : Section → List ℕ → List ℕ → Type 0
 Stands place.Start digits bytes = ⊥
 Stands (place.Between form.Draft count) digits bytes = ⊥
 Stands (place.Between form.Chain count) digits bytes = bytes ≡ []
@@ -38,7 +38,7 @@ Stands (place.Within form.Draft count txs) digits bytes = ⊥
 Stands (place.Within form.Chain count txs) digits bytes = bytes ≡ line_text (block_line (count + 1) digits) ++ flat_map tx_line txs
 
 -- what a line leaves: it belongs to the block that has begun, or it ended this block
-abbrev Leaves : List ℕ → List ℕ → Place → Option Block → Type 0
+abbrev Leaves : List ℕ → List ℕ → Section → Option Block → Type 0
 Leaves digits bytes next None = Stands next digits bytes
 Leaves digits bytes next (Some block) = Stands next (hash_digits bytes) [] × (chained_text digits block ≡ bytes)
 
@@ -110,7 +110,7 @@ within_leaves count txs digits bytes line false so_far is = tx_leaves count txs 
 
 -- ---- any line
 
-line_leaves : (at : Place) (digits bytes line : List ℕ) → Stands at digits bytes → LeavesIf digits (bytes ++ line_text line) (line_step at digits line)
+line_leaves : (at : Section) (digits bytes line : List ℕ) → Stands at digits bytes → LeavesIf digits (bytes ++ line_text line) (line_step at digits line)
 line_leaves place.Start digits bytes line stands = absurd stands
 line_leaves (place.Between form.Draft count) digits bytes line stands = absurd stands
 line_leaves (place.Between form.Chain count) digits bytes line stands =
@@ -118,7 +118,7 @@ line_leaves (place.Between form.Chain count) digits bytes line stands =
 line_leaves (place.Within form.Draft count txs) digits bytes line stands = absurd stands
 line_leaves (place.Within form.Chain count txs) digits bytes line stands = within_leaves count txs digits bytes line (bytes_eq line (codes "end")) stands refl
 
-step_leaves : (at : Place) (digits bytes line : List ℕ) (long : Bool) → Stands at digits bytes
+step_leaves : (at : Section) (digits bytes line : List ℕ) (long : Bool) → Stands at digits bytes
     → LeavesIf digits (bytes ++ line_text line) (cond long (Err kind.LineTooLong) (line_step at digits line))
 step_leaves at digits bytes line true stands = tt
 step_leaves at digits bytes line false stands = line_leaves at digits bytes line stands
@@ -141,13 +141,13 @@ abbrev AllWhole : List (List ℕ) → Type 0
 AllWhole parts = (at : Position) → Stands at.place at.digits at.bytes → Whole (at.bytes ++ join_with_byte 10 parts) at.digits (judged (walk at parts))
 
 -- only in a block a position has bytes
-kept : (at : Place) (digits bytes : List ℕ) → Stands at digits bytes → bytes_in at bytes ≡ bytes
+kept : (at : Section) (digits bytes : List ℕ) → Stands at digits bytes → bytes_in at bytes ≡ bytes
 kept place.Start digits bytes stands = absurd stands
 kept (place.Between form.Draft count) digits bytes stands = absurd stands
 kept (place.Between form.Chain count) digits bytes stands = sym stands
 kept (place.Within f count txs) digits bytes stands = refl
 
-after_whole : (line : ℕ) (digits bytes : List ℕ) (next : Place) (ended : Option Block) (parts : List (List ℕ)) → Leaves digits bytes next ended → AllWhole parts
+after_whole : (line : ℕ) (digits bytes : List ℕ) (next : Section) (ended : Option Block) (parts : List (List ℕ)) → Leaves digits bytes next ended → AllWhole parts
     → Whole (bytes ++ join_with_byte 10 parts) digits (judged (onward (Ok (position_after line digits bytes next ended, ended)) (λ at. walk at parts)))
 after_whole line digits bytes next None parts leaves more =
     let at : Position = position_after line digits bytes next None in
@@ -166,7 +166,7 @@ told_whole at line parts (Ok taken) leaves more =
     after_whole (at.line + 1) at.digits (at.bytes ++ line_text line) taken.place taken.ended parts leaves more
 
 -- the bytes behind the last newline: none
-last_whole : (at : Place) (digits bytes rest : List ℕ) (cut : ChainFault) (none : Bool) → Stands at digits bytes → (length rest == 0) ≡ none
+last_whole : (at : Section) (digits bytes rest : List ℕ) (cut : ChainFault) (none : Bool) → Stands at digits bytes → (length rest == 0) ≡ none
     → Whole (bytes ++ rest) digits ([], cond (is_between at && none) None (Some cut))
 last_whole place.Start digits bytes rest cut none stands is = tt
 last_whole (place.Between form.Draft count) digits bytes rest cut none stands is = absurd stands

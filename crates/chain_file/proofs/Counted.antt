@@ -6,11 +6,11 @@ use Rattle.proc_syntax.specs.declared.call.Tx.{Tx}
 use Rattle.proc_syntax.specs.declared.call.Block.{Block}
 use Rattle.proc_syntax.specs.declared.chain_fault.ChainKind.{ChainKind}
 use Rattle.proc_syntax.specs.declared.chain_fault.ChainKind.TheVariants as kind
-use Rattle.chain_file.specs.declared.place.FileForm.{FileForm}
-use Rattle.chain_file.specs.declared.place.FileForm.TheVariants as form
-use Rattle.chain_file.specs.declared.place.Place.{Place}
-use Rattle.chain_file.specs.declared.place.Place.TheVariants as place
-use Rattle.chain_file.specs.declared.place.Taken.{Taken}
+use Rattle.chain_file.specs.declared.section.FileForm.{FileForm}
+use Rattle.chain_file.specs.declared.section.FileForm.TheVariants as form
+use Rattle.chain_file.specs.declared.section.Section.{Section}
+use Rattle.chain_file.specs.declared.section.Section.TheVariants as place
+use Rattle.chain_file.specs.declared.section.Taken.{Taken}
 use Rattle.tx_text.specs.Fields.{after, word, past_word}
 use Rattle.tx_text.specs.Lines.{tx_of}
 use Rattle.tx_text.specs.Parts.{parts_of, line_text, is_long}
@@ -21,13 +21,13 @@ use Rattle.chain_file.specs.Chain.{Position, chain, front, onward, position_afte
 use Rattle.chain_file.proofs.Numbered.{Holds, IsOf, block_is}
 
 -- how many blocks ended
-abbrev count_at : Place → ℕ
+abbrev count_at : Section → ℕ
 count_at place.Start = 0
 count_at (place.Between f count) = count
 count_at (place.Within f count txs) = count
 
 -- a line ends no block, or the next one
-abbrev EndsNext : ℕ → Place → Option Block → Type 0
+abbrev EndsNext : ℕ → Section → Option Block → Type 0
 EndsNext n at None = count_at at ≡ n
 EndsNext n at (Some block) = IsOf (n + 1) block × (count_at at ≡ n + 1)
 
@@ -68,17 +68,17 @@ inside_counts : (f : FileForm) (count : ℕ) (txs : List Tx) (line : List ℕ) (
 inside_counts f count txs line true = ends_counts f count (block_of (count + 1) txs) (block_is (count + 1) txs)
 inside_counts f count txs line false = tx_counts f count txs (tx_of line)
 
-line_counts : (at : Place) (digits line : List ℕ) → Counts (count_at at) (line_step at digits line)
+line_counts : (at : Section) (digits line : List ℕ) → Counts (count_at at) (line_step at digits line)
 line_counts place.Start digits line = header_counts (bytes_eq line (codes "draft 1")) (bytes_eq line (codes "chain 1"))
 line_counts (place.Between f count) digits line = begin_counts f count digits (after (codes "block ") line)
 line_counts (place.Within f count txs) digits line = inside_counts f count txs line (bytes_eq line (codes "end"))
 
-step_counts : (at : Place) (digits line : List ℕ) (long : Bool) → Counts (count_at at) (cond long (Err kind.LineTooLong) (line_step at digits line))
+step_counts : (at : Section) (digits line : List ℕ) (long : Bool) → Counts (count_at at) (cond long (Err kind.LineTooLong) (line_step at digits line))
 step_counts at digits line true = tt
 step_counts at digits line false = line_counts at digits line
 
 -- what follows a line
-after_counts : (n line : ℕ) (digits bytes : List ℕ) (next : Place) (ended : Option Block) (parts : List (List ℕ)) → EndsNext n next ended
+after_counts : (n line : ℕ) (digits bytes : List ℕ) (next : Section) (ended : Option Block) (parts : List (List ℕ)) → EndsNext n next ended
     → ((m : ℕ) (at : Position) → count_at at.place ≡ m → NumberedFrom (m + 1) (walk at parts).0)
     → NumberedFrom (n + 1) (onward (Ok (position_after line digits bytes next ended, ended)) (λ at. walk at parts)).0
 after_counts n line digits bytes next None parts is more = more n (position_after line digits bytes next None) is

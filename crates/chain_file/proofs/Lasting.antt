@@ -9,11 +9,11 @@ use Rattle.tx_text.specs.Lines.{tx_of}
 use Rattle.proc_syntax.specs.declared.chain_fault.ChainFault.{ChainFault}
 use Rattle.proc_syntax.specs.declared.chain_fault.ChainKind.{ChainKind}
 use Rattle.proc_syntax.specs.declared.chain_fault.ChainKind.TheVariants as kind
-use Rattle.chain_file.specs.declared.place.FileForm.{FileForm}
-use Rattle.chain_file.specs.declared.place.FileForm.TheVariants as form
-use Rattle.chain_file.specs.declared.place.Place.{Place}
-use Rattle.chain_file.specs.declared.place.Place.TheVariants as place
-use Rattle.chain_file.specs.declared.place.Taken.{Taken}
+use Rattle.chain_file.specs.declared.section.FileForm.{FileForm}
+use Rattle.chain_file.specs.declared.section.FileForm.TheVariants as form
+use Rattle.chain_file.specs.declared.section.Section.{Section}
+use Rattle.chain_file.specs.declared.section.Section.TheVariants as place
+use Rattle.chain_file.specs.declared.section.Taken.{Taken}
 use Rattle.tx_text.specs.Parts.{parts_of, is_long}
 use Rattle.chain_file.specs.Draft.{block_of}
 use Rattle.chain_file.specs.Steps.{goes_on, is_number, has_end, is_next, has_digits, numbered, begun_by, ends, end_block, add_tx, line_step, step}
@@ -57,12 +57,12 @@ inside_lasts : (f : FileForm) (count : ℕ) (txs : List Tx) (line : List ℕ) (t
 inside_lasts f count txs line true = ends_lasts f (count + 1) (block_of (count + 1) txs)
 inside_lasts f count txs line false = tx_lasts f count txs (tx_of line)
 
-line_lasts : (at : Place) (digits line : List ℕ) → Lasts (line_step at digits line)
+line_lasts : (at : Section) (digits line : List ℕ) → Lasts (line_step at digits line)
 line_lasts place.Start digits line = header_lasts (bytes_eq line (codes "draft 1")) (bytes_eq line (codes "chain 1"))
 line_lasts (place.Between f count) digits line = begin_lasts f count digits (after (codes "block ") line)
 line_lasts (place.Within f count txs) digits line = inside_lasts f count txs line (bytes_eq line (codes "end"))
 
-step_lasts : (at : Place) (digits line : List ℕ) (long : Bool) → Lasts (cond long (Err kind.LineTooLong) (line_step at digits line))
+step_lasts : (at : Section) (digits line : List ℕ) (long : Bool) → Lasts (cond long (Err kind.LineTooLong) (line_step at digits line))
 step_lasts at digits line true = refl
 step_lasts at digits line false = line_lasts at digits line
 

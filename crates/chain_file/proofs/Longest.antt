@@ -8,8 +8,8 @@ use Rattle.proc_syntax.specs.declared.call.Block.{Block}
 use Rattle.proc_syntax.specs.declared.chain_fault.ChainFault.{ChainFault}
 use Rattle.proc_syntax.specs.declared.chain_fault.ChainKind.{ChainKind}
 use Rattle.proc_syntax.specs.declared.chain_fault.ChainKind.TheVariants as kind
-use Rattle.chain_file.specs.declared.place.Place.{Place}
-use Rattle.chain_file.specs.declared.place.Taken.{Taken}
+use Rattle.chain_file.specs.declared.section.Section.{Section}
+use Rattle.chain_file.specs.declared.section.Taken.{Taken}
 use Rattle.tx_text.specs.Parts.{parts_of, line_text, is_long}
 use Rattle.chain_file.specs.Text.{longest_draft}
 use Rattle.chain_file.specs.Near.{is_near}
@@ -19,7 +19,7 @@ use Rattle.chain_file.proofs.Lasting.{fault_so_far, so_far_lasts}
 use Rattle.chain_file.proofs.Near.{near_few, near_step}
 
 -- a line that is taken is short
-taken_short : (at : Place) (digits line : List ℕ) (taken : Taken) (long : Bool) → is_long line ≡ long → cond long (Err kind.LineTooLong) (line_step at digits line) ≡ Ok taken → length line ≤ 4096
+taken_short : (at : Section) (digits line : List ℕ) (taken : Taken) (long : Bool) → is_long line ≡ long → cond long (Err kind.LineTooLong) (line_step at digits line) ≡ Ok taken → length line ≤ 4096
 taken_short at digits line taken true e told = absurd (cc)
 taken_short at digits line taken false e told = ltb-false 4096 (length line) e
 
@@ -38,7 +38,7 @@ last_few n at rest true stands e = tt
 last_few n at rest false stands e = omega (arith, stands.low, near_few at.line at.place stands.near, ltb-false 4096 (length rest) e)
 
 -- what is known before a line of this number
-after_stands : (n line : ℕ) (digits bytes : List ℕ) (next : Place) (ended : Option Block) → is_near line next ≡ true → n + 4097 ≤ line * 4097 → Stands n (position_after line digits bytes next ended)
+after_stands : (n line : ℕ) (digits bytes : List ℕ) (next : Section) (ended : Option Block) → is_near line next ≡ true → n + 4097 ≤ line * 4097 → Stands n (position_after line digits bytes next ended)
 after_stands n line digits bytes next None near low = record { near = near; low = low }
 after_stands n line digits bytes next (Some block) near low = record { near = near; low = low }
 

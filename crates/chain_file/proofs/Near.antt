@@ -9,11 +9,11 @@ use Rattle.tx_text.specs.Fields.{after, word, past_word}
 use Rattle.tx_text.specs.Lines.{tx_of}
 use Rattle.proc_syntax.specs.declared.chain_fault.ChainKind.{ChainKind}
 use Rattle.proc_syntax.specs.declared.chain_fault.ChainKind.TheVariants as kind
-use Rattle.chain_file.specs.declared.place.FileForm.{FileForm}
-use Rattle.chain_file.specs.declared.place.FileForm.TheVariants as form
-use Rattle.chain_file.specs.declared.place.Place.{Place}
-use Rattle.chain_file.specs.declared.place.Place.TheVariants as place
-use Rattle.chain_file.specs.declared.place.Taken.{Taken}
+use Rattle.chain_file.specs.declared.section.FileForm.{FileForm}
+use Rattle.chain_file.specs.declared.section.FileForm.TheVariants as form
+use Rattle.chain_file.specs.declared.section.Section.{Section}
+use Rattle.chain_file.specs.declared.section.Section.TheVariants as place
+use Rattle.chain_file.specs.declared.section.Taken.{Taken}
 use Rattle.chain_file.specs.Draft.{block_of}
 use Rattle.chain_file.specs.Near.{is_near, is_within_near}
 use Rattle.chain_file.specs.Steps.{goes_on, is_number, has_end, is_next, has_digits, numbered, begun_by, ends, end_block, add_tx, line_step, step, HasRoom}
@@ -83,32 +83,32 @@ inside_near : (f : FileForm) (line count : ℕ) (txs : List Tx) (text : List ℕ
 inside_near f line count txs text true h = ends_near f line count (block_of (count + 1) txs) h.0 (omega (arith, h.1, h.2))
 inside_near f line count txs text false h = tx_near f line count txs (tx_of text) h.0 h.2
 
-line_near : (line : ℕ) (at : Place) (digits text : List ℕ) → is_near line at ≡ true → IsNear (line + 1) (line_step at digits text)
+line_near : (line : ℕ) (at : Section) (digits text : List ℕ) → is_near line at ≡ true → IsNear (line + 1) (line_step at digits text)
 line_near line place.Start digits text e = header_near line (bytes_eq text (codes "draft 1")) (bytes_eq text (codes "chain 1")) (leb-true line 1 e)
 line_near line (place.Between f count) digits text e = begin_near f line count digits (after (codes "block ") text) (between_facts f line count e).1
 line_near line (place.Within f count txs) digits text e = inside_near f line count txs text (bytes_eq text (codes "end")) (within_facts f line count txs e)
 
-long_near : (line : ℕ) (at : Place) (digits text : List ℕ) (test : Bool) → is_near line at ≡ true → IsNear (line + 1) (cond test (Err kind.LineTooLong) (line_step at digits text))
+long_near : (line : ℕ) (at : Section) (digits text : List ℕ) (test : Bool) → is_near line at ≡ true → IsNear (line + 1) (cond test (Err kind.LineTooLong) (line_step at digits text))
 long_near line at digits text true e = tt
 long_near line at digits text false e = line_near line at digits text e
 
 -- a line more is near
-pub near_step : (line : ℕ) (at : Place) (digits text : List ℕ) (taken : Taken) → is_near line at ≡ true → step at digits text ≡ Ok taken → is_near (line + 1) taken.place ≡ true
+pub near_step : (line : ℕ) (at : Section) (digits text : List ℕ) (taken : Taken) → is_near line at ≡ true → step at digits text ≡ Ok taken → is_near (line + 1) taken.place ≡ true
 near_step line at digits text taken e told = subst (IsNear (line + 1)) told (long_near line at digits text (is_long text) e)
 
 -- its number has 64 bits, and a block that has begun is one of the 1,000,000
-pub near_low : (line : ℕ) (at : Place) → is_near line at ≡ true → line + 1 < 2 ^ 64
+pub near_low : (line : ℕ) (at : Section) → is_near line at ≡ true → line + 1 < 2 ^ 64
 near_low line place.Start e = omega (arith, leb-true line 1 e)
 near_low line (place.Between f count) e = let facts = between_facts f line count e in omega (arith, facts.0, facts.1)
 near_low line (place.Within f count txs) e = let facts = within_facts f line count txs e in omega (arith, facts.0, facts.1, facts.2)
 
-pub near_room : (line : ℕ) (at : Place) → is_near line at ≡ true → HasRoom at
+pub near_room : (line : ℕ) (at : Section) → is_near line at ≡ true → HasRoom at
 near_room line place.Start e = tt
 near_room line (place.Between f count) e = tt
 near_room line (place.Within f count txs) e = (within_facts f line count txs e).0
 
 -- no line stands behind the last one that a file can have
-pub near_few : (line : ℕ) (at : Place) → is_near line at ≡ true → line ≤ 1026000002
+pub near_few : (line : ℕ) (at : Section) → is_near line at ≡ true → line ≤ 1026000002
 near_few line place.Start e = omega (arith, leb-true line 1 e)
 near_few line (place.Between f count) e = let facts = between_facts f line count e in omega (arith, facts.0, facts.1)
 near_few line (place.Within f count txs) e = let facts = within_facts f line count txs e in omega (arith, facts.0, facts.1, facts.2)
@@ -164,8 +164,8 @@ going_near line count before kept txs all e same is =
     subst (λ n. is_within_near line count n ≡ true) both e
 
 -- where a piece begins within it
-pub going_begun : (f : FileForm) (line count : ℕ) (p : Place) (txs more : List Tx) → is_near line p ≡ true → p ≡ place.Within f count txs → more ≡ [] → is_within_near line count (length txs + length more) ≡ true
+pub going_begun : (f : FileForm) (line count : ℕ) (p : Section) (txs more : List Tx) → is_near line p ≡ true → p ≡ place.Within f count txs → more ≡ [] → is_within_near line count (length txs + length more) ≡ true
 going_begun f line count p txs more near is none =
-    let at : is_within_near line count (length txs) ≡ true = subst (λ (q : Place). is_near line q ≡ true) is near in
+    let at : is_within_near line count (length txs) ≡ true = subst (λ (q : Section). is_near line q ≡ true) is near in
     let same : length txs ≡ length txs + length more = omega (arith, ap length none) in
     subst (λ n. is_within_near line count n ≡ true) same at

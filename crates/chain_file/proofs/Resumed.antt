@@ -10,10 +10,10 @@ use Rattle.proc_syntax.specs.declared.chain_fault.ChainKind.{ChainKind}
 use Rattle.proc_syntax.specs.declared.chain_fault.ChainKind.TheVariants as kind
 use Rattle.tx_text.specs.Lines.{tx_of}
 use Rattle.tx_text.specs.Parts.{parts_of, line_text, is_long}
-use Rattle.chain_file.specs.declared.place.FileForm.{FileForm}
-use Rattle.chain_file.specs.declared.place.Place.{Place}
-use Rattle.chain_file.specs.declared.place.Place.TheVariants as place
-use Rattle.chain_file.specs.declared.place.Taken.{Taken}
+use Rattle.chain_file.specs.declared.section.FileForm.{FileForm}
+use Rattle.chain_file.specs.declared.section.Section.{Section}
+use Rattle.chain_file.specs.declared.section.Section.TheVariants as place
+use Rattle.chain_file.specs.declared.section.Taken.{Taken}
 use Rattle.chain_file.specs.declared.going.Going.{Going}
 use Rattle.chain_file.specs.declared.standing.Standing.{Standing}
 use Rattle.chain_file.specs.declared.reader.Read.{Read}
@@ -67,10 +67,10 @@ told_going kept g bytes line saying before e =
 
 -- ---- the three kinds of lines
 
-abbrev pub at_line : ℕ → Place → List ℕ → List ℕ → Position
+abbrev pub at_line : ℕ → Section → List ℕ → List ℕ → Position
 at_line line p digits bytes = record { line = line; place = p; digits = digits; bytes = bytes }
 
-same_at : (l m : ℕ) (p q : Place) (d e bytes : List ℕ) → l ≡ m → p ≡ q → d ≡ e → at_line l p d bytes ≡ at_line m q e bytes
+same_at : (l m : ℕ) (p q : Section) (d e bytes : List ℕ) → l ≡ m → p ≡ q → d ≡ e → at_line l p d bytes ≡ at_line m q e bytes
 same_at l m p q d e bytes lines places digits =
     ap (λ n. at_line n p d bytes) lines ∙ ap (λ r. at_line m r d bytes) places ∙ ap (λ f. at_line m q f bytes) digits
 
@@ -129,14 +129,14 @@ walk_stops at kept g k bytes rest line after known before so_far split e =
 -- ---- where a piece begins within a block
 
 -- the block without its transactions, at the place where the code stands
-pub at_begun : (at : Position) (l : ℕ) (p : Place) (d : List ℕ) (f : FileForm) (count : ℕ) (txs rest : List Tx) → l ≡ at.line → p ≡ at.place → d ≡ at.digits
+pub at_begun : (at : Position) (l : ℕ) (p : Section) (d : List ℕ) (f : FileForm) (count : ℕ) (txs rest : List Tx) → l ≡ at.line → p ≡ at.place → d ≡ at.digits
     → p ≡ place.Within f count txs → rest ≡ [] → at ≡ at_line l (place.Within f count (txs_in p ++ rest)) d at.bytes
 at_begun at l p d f count txs rest line where_at digits is none =
     let all : txs ≡ txs_in p ++ rest = sym (ap (λ some. txs_in p ++ some) none ∙ append-nil (txs_in p) ∙ ap txs_in is) in
     same_at at.line l at.place (place.Within f count (txs_in p ++ rest)) at.digits d at.bytes (sym line) (sym where_at ∙ is ∙ ap (λ some. place.Within f count some) all) (sym digits)
 
-pub count_begun : (p : Place) (f : FileForm) (count : ℕ) (txs : List Tx) → p ≡ place.Within f count txs → length txs ≡ length (txs_in p)
-count_begun p f count txs is = sym (ap (λ (q : Place). length (txs_in q)) is)
+pub count_begun : (p : Section) (f : FileForm) (count : ℕ) (txs : List Tx) → p ≡ place.Within f count txs → length txs ≡ length (txs_in p)
+count_begun p f count txs is = sym (ap (λ (q : Section). length (txs_in q)) is)
 
 -- what follows the line that ends the block
 pub ends_resume : (kept : List Tx) (g : Going) (bytes after : List ℕ) (read : Read) (blank : Block) (blocks : List Block) → Reads read (walk (behind_end g bytes) (parts_of after)) → blocks ≡ blank ∷ read.blocks
@@ -146,7 +146,7 @@ ends_resume kept g bytes after read blank blocks reads is =
 
 -- ---- the standing is as before
 
-abbrev again : (s : Standing) (p : Place) → is_near s.line p ≡ true → Standing
+abbrev again : (s : Standing) (p : Section) → is_near s.line p ≡ true → Standing
 again s p near = record { line = s.line; place = p; digits = s.digits; hash = s.hash; near = near }
 
 same_near : (s : Standing) (near : is_near s.line s.place ≡ true) → again s s.place near ≡ s
@@ -154,5 +154,5 @@ same_near s near =
     let one : IsProp (is_near s.line s.place ≡ true) = hlevel (Bool-set) in
     ap (again s s.place) (one near s.near)
 
-pub same_standing : (s : Standing) (p : Place) (near : is_near s.line p ≡ true) → p ≡ s.place → record { line = s.line; place = p; digits = s.digits; hash = s.hash; near = near } ≡ s
-same_standing s p near is = subst (λ (q : Place). (n : is_near s.line q ≡ true) → again s q n ≡ s) (sym is) (same_near s) near
+pub same_standing : (s : Standing) (p : Section) (near : is_near s.line p ≡ true) → p ≡ s.place → record { line = s.line; place = p; digits = s.digits; hash = s.hash; near = near } ≡ s
+same_standing s p near is = subst (λ (q : Section). (n : is_near s.line q ≡ true) → again s q n ≡ s) (sym is) (same_near s) near

@@ -6,9 +6,9 @@ use Rattle.proc_syntax.specs.declared.call.Block.{Block}
 use Rattle.proc_syntax.specs.declared.chain_fault.ChainFault.{ChainFault}
 use Rattle.proc_syntax.specs.declared.chain_fault.ChainKind.{ChainKind}
 use Rattle.proc_syntax.specs.declared.chain_fault.ChainKind.TheVariants as kind
-use Rattle.chain_file.specs.declared.place.Place.{Place}
-use Rattle.chain_file.specs.declared.place.Place.TheVariants as place
-use Rattle.chain_file.specs.declared.place.Taken.{Taken}
+use Rattle.chain_file.specs.declared.section.Section.{Section}
+use Rattle.chain_file.specs.declared.section.Section.TheVariants as place
+use Rattle.chain_file.specs.declared.section.Taken.{Taken}
 use Rattle.tx_text.specs.Parts.{parts_of, line_text, is_long}
 use Rattle.chain_file.specs.Steps.{step}
 
@@ -16,7 +16,7 @@ use Rattle.chain_file.specs.Steps.{step}
 -- block that has begun, from its `block` line on
 pub record Position : Type 0 where
   pub line : ℕ
-  pub place : Place
+  pub place : Section
   pub digits : List ℕ
   pub bytes : List ℕ
 
@@ -33,13 +33,13 @@ abbrev pub hash_digits : List ℕ → List ℕ
 hash_digits bytes = encode_lower (sha256 bytes)
 
 -- only a block that has begun has bytes
-abbrev pub bytes_in : Place → List ℕ → List ℕ
+abbrev pub bytes_in : Section → List ℕ → List ℕ
 bytes_in place.Start bytes = []
 bytes_in (place.Between f count) bytes = []
 bytes_in (place.Within f count txs) bytes = bytes
 
 -- what is known before a line of this number, by whether the line before ended a block, of which these are the bytes so far
-abbrev pub position_after : ℕ → List ℕ → List ℕ → Place → Option Block → Position
+abbrev pub position_after : ℕ → List ℕ → List ℕ → Section → Option Block → Position
 position_after line digits bytes next None = record { line = line; place = next; digits = digits; bytes = bytes_in next bytes }
 position_after line digits bytes next (Some block) = record { line = line; place = next; digits = hash_digits bytes; bytes = [] }
 
@@ -80,7 +80,7 @@ walk at (rest ∷ []) = ([], cond (is_long rest) (Err (fault at kind.LineTooLong
 walk at (line ∷ part ∷ parts) = onward (take_line at line) (λ next. walk next (part ∷ parts))
 
 -- the file may end between blocks
-abbrev pub is_between : Place → Bool
+abbrev pub is_between : Section → Bool
 is_between place.Start = false
 is_between (place.Between f count) = true
 is_between (place.Within f count txs) = false

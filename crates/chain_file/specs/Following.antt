@@ -30,8 +30,8 @@ Keeps (state.Open s held) meant = (at : Position) × StandsAt s at × (parts_of 
 Keeps (state.Stopped found) meant = meant ≡ Err found
 
 -- the reader was fed these bytes
-abbrev pub Follows : Reader → List ℕ → Type 0
-Follows reader bytes = Keeps reader.state (walked bytes).1
+abbrev pub WasFed : Reader → List ℕ → Type 0
+WasFed reader bytes = Keeps reader.state (walked bytes).1
 
 -- the fault that the reader met
 abbrev pub fault_met : State → Option ChainFault

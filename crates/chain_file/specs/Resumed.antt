@@ -4,8 +4,8 @@ use Rattle.sha2.specs.Hashers.{Holds256}
 use Rattle.proc_syntax.specs.declared.call.Tx.{Tx}
 use Rattle.proc_syntax.specs.declared.call.Block.{Block}
 use Rattle.tx_text.specs.Parts.{parts_of}
-use Rattle.chain_file.specs.declared.place.Place.{Place}
-use Rattle.chain_file.specs.declared.place.Place.TheVariants as place
+use Rattle.chain_file.specs.declared.section.Section.{Section}
+use Rattle.chain_file.specs.declared.section.Section.TheVariants as place
 use Rattle.chain_file.specs.declared.going.Going.{Going}
 use Rattle.chain_file.specs.declared.resume.Before.{Before}
 use Rattle.chain_file.specs.declared.resume.Before.TheVariants as before
@@ -16,7 +16,7 @@ use Rattle.chain_file.specs.Chain.{Position, Walked, ended_blocks, hash_digits, 
 use Rattle.chain_file.specs.Following.{Keeps, StandsAt}
 
 -- the transactions of the block that has begun
-abbrev pub txs_in : Place → List Tx
+abbrev pub txs_in : Section → List Tx
 txs_in place.Start = []
 txs_in (place.Between f count) = []
 txs_in (place.Within f count txs) = txs

@@ -11,17 +11,17 @@ use Rattle.tx_text.specs.Lines.{tx_of}
 use Rattle.tx_text.specs.Parts.{is_long}
 use Rattle.proc_syntax.specs.declared.chain_fault.ChainKind.{ChainKind}
 use Rattle.proc_syntax.specs.declared.chain_fault.ChainKind.TheVariants as kind
-use Rattle.chain_file.specs.declared.place.FileForm.{FileForm}
-use Rattle.chain_file.specs.declared.place.FileForm.TheVariants as form
-use Rattle.chain_file.specs.declared.place.Place.{Place}
-use Rattle.chain_file.specs.declared.place.Place.TheVariants as place
-use Rattle.chain_file.specs.declared.place.Taken.{Taken}
+use Rattle.chain_file.specs.declared.section.FileForm.{FileForm}
+use Rattle.chain_file.specs.declared.section.FileForm.TheVariants as form
+use Rattle.chain_file.specs.declared.section.Section.{Section}
+use Rattle.chain_file.specs.declared.section.Section.TheVariants as place
+use Rattle.chain_file.specs.declared.section.Taken.{Taken}
 use Rattle.chain_file.specs.declared.step.StepFault.{StepFault}
 use Rattle.chain_file.specs.declared.step.StepFault.TheVariants as stop
 use Rattle.chain_file.specs.Draft.{block_of}
 
 -- a line that ends no block
-abbrev pub goes_on : Place → Taken
+abbrev pub goes_on : Section → Taken
 goes_on p = record { place = p; ended = None }
 
 -- the first line is one of two
@@ -93,17 +93,17 @@ abbrev pub within : FileForm → ℕ → List Tx → List ℕ → Result Taken C
 within f count txs line = cond (bytes_eq line (codes "end")) (end_block f count txs) (add_tx f count txs (tx_of line))
 
 -- a line of any length, by where it stands; the digits are those that a hash has there
-abbrev pub line_step : Place → List ℕ → List ℕ → Result Taken ChainKind
+abbrev pub line_step : Section → List ℕ → List ℕ → Result Taken ChainKind
 line_step place.Start digits line = header line
 line_step (place.Between f count) digits line = begin f count digits line
 line_step (place.Within f count txs) digits line = within f count txs line
 
 -- a line
-abbrev pub step : Place → List ℕ → List ℕ → Result Taken ChainKind
+abbrev pub step : Section → List ℕ → List ℕ → Result Taken ChainKind
 step at digits line = cond (is_long line) (Err kind.LineTooLong) (line_step at digits line)
 
 -- a block that has begun is at most the 1,000,000th
-abbrev pub HasRoom : Place → Type 0
+abbrev pub HasRoom : Section → Type 0
 HasRoom place.Start = Unit {0}
 HasRoom (place.Between f count) = Unit {0}
 HasRoom (place.Within f count txs) = count < 1000000

@@ -8,7 +8,7 @@ ghost use Rattle.chain_file.specs.Chain.{Position, bytes_in, front, hash_digits,
 ghost use Rattle.chain_file.specs.Following.{StandsAt, TakesLine};
 
 use crate::hash::{NO_DIGITS, digits_of, with_line};
-use crate::place::{Place, Taken};
+use crate::section::{Section, Taken};
 use crate::standing::Standing;
 use crate::step::{StepFault, step};
 use proc_syntax::{Block, ChainFault};
@@ -22,7 +22,7 @@ impl Standing {
     {
         Standing {
             line: 1,
-            place: Place::Start,
+            place: Section::Start,
             digits: NO_DIGITS,
             hash: Sha256::new(),
         }
@@ -39,12 +39,12 @@ pub enum LineStop {
 }
 
 /// Behind a line in which or before which a block has begun, or behind the header.
-fn behind_line(line: u64, place: Place, digits: [u8; 64], hash: Sha256) -> Standing
+fn behind_line(line: u64, place: Section, digits: [u8; 64], hash: Sha256) -> Standing
     requires { is_near line place ≡ true }
     ensures { (bytes : List ℕ) → Holds256 hash bytes → StandsAt result (record { line = line; place = place; digits = digits; bytes = bytes_in place bytes }) }
 {
     let hash = match &place {
-        Place::Within { .. } => hash,
+        Section::Within { .. } => hash,
         _ => Sha256::new(),
     };
     Standing {
@@ -56,7 +56,7 @@ fn behind_line(line: u64, place: Place, digits: [u8; 64], hash: Sha256) -> Stand
 }
 
 /// Behind the last line of a block.
-pub fn behind_block(line: u64, place: Place, hash: Sha256) -> Standing
+pub fn behind_block(line: u64, place: Section, hash: Sha256) -> Standing
     requires { is_near line place ≡ true }
     ensures { (bytes : List ℕ) → Holds256 hash bytes → StandsAt result (record { line = line; place = place; digits = hash_digits bytes; bytes = [] }) }
 {

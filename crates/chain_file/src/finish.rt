@@ -11,7 +11,7 @@ ghost use Rattle.chain_file.specs.Following.{Reads};
 ghost use Rattle.chain_file.specs.Resumed.{Fits, Resumes, going_at, txs_in};
 
 use crate::going::Going;
-use crate::place::Place;
+use crate::section::Section;
 use crate::reader::{Read, State};
 use crate::resume::More;
 use crate::standing::Standing;
@@ -31,8 +31,8 @@ fn take_txs(standing: &mut Standing, more: List<Tx>) -> Result<List<Tx>, NoMemor
         hash,
     } = std::mem::replace(standing, Standing::front());
     match place {
-        Place::Start | Place::Between { .. } => Ok(more),
-        Place::Within {
+        Section::Start | Section::Between { .. } => Ok(more),
+        Section::Within {
             form,
             count,
             mut txs,
@@ -43,7 +43,7 @@ fn take_txs(standing: &mut Standing, more: List<Tx>) -> Result<List<Tx>, NoMemor
             }
             *standing = Standing {
                 line,
-                place: Place::Within { form, count, txs },
+                place: Section::Within { form, count, txs },
                 digits,
                 hash,
             };
@@ -76,7 +76,7 @@ fn keep_going(
     let txs = take_txs(standing, txs)?;
     let standing = Standing {
         line,
-        place: Place::Within { form, count, txs },
+        place: Section::Within { form, count, txs },
         digits,
         hash,
     };

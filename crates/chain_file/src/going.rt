@@ -6,7 +6,7 @@ ghost use Rattle.tx_text.specs.Parts.{line_text};
 ghost use Rattle.chain_file.specs.Near.{is_within_near};
 
 use crate::hash::with_line;
-use crate::place::FileForm;
+use crate::section::FileForm;
 use proc_syntax::Tx;
 use rel_base::{List, NoMemory};
 use sha2::Sha256;

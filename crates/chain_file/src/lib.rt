@@ -9,7 +9,7 @@ pub mod finish;
 pub mod going;
 pub mod hash;
 pub mod laws;
-pub mod place;
+pub mod section;
 pub mod reader;
 pub mod resume;
 pub mod sealing;

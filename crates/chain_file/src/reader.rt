@@ -5,11 +5,11 @@ ghost use Rattle.std.specs.List.{flat_map};
 ghost use Rattle.std.specs.Prelude.{Option};
 ghost use Rattle.tx_text.specs.Parts.{parts_of};
 ghost use Rattle.chain_file.specs.Chain.{Position, chain, ended_blocks, fault_at_end, is_between, open_length, walk, walked};
-ghost use Rattle.chain_file.specs.Following.{Answers, EndsAs, Follows, Keeps, Reads, StandsAt, fault_met};
+ghost use Rattle.chain_file.specs.Following.{Answers, EndsAs, WasFed, Keeps, Reads, StandsAt, fault_met};
 
 use crate::advance::{LineStop, take_line};
 use crate::finish::finish;
-use crate::place::Place;
+use crate::section::Section;
 use crate::resume::{Before, before_piece, read_more};
 use crate::standing::Standing;
 use proc_syntax::{Block, ChainFault, ChainKind};
@@ -146,7 +146,7 @@ fn fault_at_end(state: &State) -> Option<ChainFault>
     match state {
         State::Stopped(fault) => Some(*fault),
         State::Open { standing, held } => {
-            if held.is_empty() && matches!(standing.place, Place::Between { .. }) {
+            if held.is_empty() && matches!(standing.place, Section::Between { .. }) {
                 return None;
             }
             Some(ChainFault {
@@ -160,7 +160,7 @@ fn fault_at_end(state: &State) -> Option<ChainFault>
 /// A reader of a block file, which is fed with the file piece by piece.
 ///
 /// It keeps the bytes after the last newline, the block that has begun and the hash of that block's bytes. Contracts say that it
-/// `Follows` the bytes that it was fed.
+/// `WasFed` the bytes that it was fed.
 #[derive(Drop)]
 pub struct Reader {
     alloc: Global,
@@ -170,7 +170,7 @@ pub struct Reader {
 impl Reader {
     /// A reader that was fed with nothing yet.
     pub fn new(alloc: Global) -> Reader
-        ensures { Follows result [] }
+        ensures { WasFed result [] }
     {
         Reader {
             alloc,
@@ -184,8 +184,8 @@ impl Reader {
     /// How many bytes stand behind the last newline, which the reader keeps: at most 4,096, and none behind a fault.
     #[tactic(auto, using(crate::proofs::Held::open_held, crate::proofs::Held::stopped_held))]
     pub fn held(&self) -> usize
-        ensures held { (bytes : List ℕ) → Follows self.now bytes → result ≡ open_length (walked bytes).1 }
-        ensures most { (bytes : List ℕ) → Follows self.now bytes → result ≤ 4096 }
+        ensures held { (bytes : List ℕ) → WasFed self.now bytes → result ≡ open_length (walked bytes).1 }
+        ensures most { (bytes : List ℕ) → WasFed self.now bytes → result ≤ 4096 }
         ensures stopped { (found : ChainFault) → fault_met self.now.state ≡ Some found → result ≡ 0 }
     {
         match &self.state {
@@ -197,8 +197,8 @@ impl Reader {
     /// Takes the next piece of the file, and answers the blocks whose last line ended in it, and the fault that was met in it or
     /// before. Where memory runs out, the reader is as before.
     pub fn feed(&mut self, piece: &[u8]) -> Result<Fed, NoMemory>
-        ensures follows { (bytes : List ℕ) → Follows self.old bytes → OnOk result (Follows self.new (bytes ++ piece.now)) }
-        ensures fed { (bytes : List ℕ) → Follows self.old bytes → IfOk result (Answers bytes piece.now) }
+        ensures follows { (bytes : List ℕ) → WasFed self.old bytes → OnOk result (WasFed self.new (bytes ++ piece.now)) }
+        ensures fed { (bytes : List ℕ) → WasFed self.old bytes → IfOk result (Answers bytes piece.now) }
         ensures stopped { (found : ChainFault) → fault_met self.old.state ≡ Some found → (self.new ≡ self.old) × (result ≡ Ok (record { blocks = []; fault = Some found })) }
         ensures err { OnErr result (self.new ≡ self.old) }
     {
@@ -220,7 +220,7 @@ impl Reader {
     /// Ends the file: nothing where the bytes so far are a whole file, and else its first fault. Behind a fault a reader answers
     /// that fault alone.
     pub fn end(&mut self) -> Result<(), ChainFault>
-        ensures whole { (bytes : List ℕ) → Follows self.old bytes → EndsAs result (chain bytes).1 }
+        ensures whole { (bytes : List ℕ) → WasFed self.old bytes → EndsAs result (chain bytes).1 }
         ensures stopped { (found : ChainFault) → fault_met self.old.state ≡ Some found → result ≡ Err found }
         ensures same { OnOk result (self.new ≡ self.old) }
         ensures stops { IfErr result (λ found. fault_met self.new.state ≡ Some found) }

@@ -13,7 +13,7 @@ ghost use Rattle.chain_file.specs.Resumed.{Begins, Counts, Fits, Resumes, behind
 use crate::advance::behind_block;
 use crate::going::Going;
 use crate::hash::with_line;
-use crate::place::{FileForm, Place};
+use crate::section::{FileForm, Section};
 use crate::reader::{Read, State, read_lines};
 use crate::standing::Standing;
 use crate::step::{StepFault, told_within};
@@ -51,7 +51,7 @@ pub enum More {
 }
 
 /// The same standing again, outside of blocks.
-fn outside(standing: &Standing, place: Place) -> Result<Standing, NoMemory>
+fn outside(standing: &Standing, place: Section) -> Result<Standing, NoMemory>
     requires { place ≡ standing.now.place }
     ensures { (at : Position) → StandsAt standing.now at → IfOk result (λ twin. StandsAt twin at) }
 {
@@ -72,7 +72,7 @@ fn begun(
     count: u64,
     txs: &List<Tx>,
 ) -> Result<Going, NoMemory>
-    requires { standing.now.place ≡ Place.Within form count txs.now }
+    requires { standing.now.place ≡ Section.Within form count txs.now }
     ensures begins { (at : Position) → StandsAt standing.now at → IfOk result (λ going. (at ≡ going_at (txs_in standing.now.place) going at.bytes) × Holds256 going.hash at.bytes) }
     ensures before { IfOk result (λ going. going.before ≡ length (txs_in standing.now.place)) }
 {
@@ -93,16 +93,16 @@ pub fn before_piece(alloc: Global, standing: &Standing) -> Result<Before, NoMemo
     ensures counts { IfOk result (λ before. Counts (txs_in standing.now.place) before) }
 {
     match &standing.place {
-        Place::Start => {
-            let twin = outside(standing, Place::Start)?;
+        Section::Start => {
+            let twin = outside(standing, Section::Start)?;
             Ok(Before::Between(twin))
         }
-        Place::Between { form, count } => {
+        Section::Between { form, count } => {
             let (form, count) = (*form, *count);
-            let twin = outside(standing, Place::Between { form, count })?;
+            let twin = outside(standing, Section::Between { form, count })?;
             Ok(Before::Between(twin))
         }
-        Place::Within { form, count, txs } => {
+        Section::Within { form, count, txs } => {
             let going = begun(alloc, standing, *form, *count, txs)?;
             Ok(Before::Within(going))
         }
@@ -141,7 +141,7 @@ fn end_going(alloc: Global, going: Going, line: &[u8], after: &[u8]) -> Result<M
         txs,
         ..
     } = going;
-    let place = Place::Between {
+    let place = Section::Between {
         form,
         count: count + 1,
     };

@@ -3,7 +3,7 @@
 ghost use Rattle.std.specs.Prelude.{◌≡◌, true};
 ghost use Rattle.chain_file.specs.Near.{is_near};
 
-use crate::place::Place;
+use crate::section::Section;
 use sha2::Sha256;
 
 /// What is known before a line.
@@ -11,7 +11,7 @@ use sha2::Sha256;
 pub struct Standing {
     /// The line's number, from 1.
     pub line: u64,
-    pub place: Place,
+    pub place: Section,
     /// The digits of the hash of the block before.
     pub digits: [u8; 64],
     /// The hash of the block that has begun, as far as it goes.

@@ -8,7 +8,7 @@ ghost use Rattle.std.specs.List.{list_all};
 ghost use Rattle.tx_text.specs.Lines.{tx_of};
 
 use crate::draft::MOST_BLOCKS;
-use crate::place::{FileForm, Place, Taken};
+use crate::section::{FileForm, Section, Taken};
 use itoa::Buffer;
 use literals::number::is_canonical;
 use proc_syntax::call::MOST_TRANSACTIONS;
@@ -56,7 +56,7 @@ fn header(line: &[u8]) -> Result<Taken, StepFault>
         return Err(StepFault::Kind(ChainKind::BadHeader));
     };
     Ok(Taken {
-        place: Place::Between { form, count: 0 },
+        place: Section::Between { form, count: 0 },
         ended: None,
     })
 }
@@ -151,7 +151,7 @@ fn numbered(
         return Err(StepFault::Kind(ChainKind::WrongPrev));
     }
     Ok(Taken {
-        place: Place::Within {
+        place: Section::Within {
             form,
             count,
             txs: List::new(alloc),
@@ -184,7 +184,7 @@ fn end_block(form: FileForm, count: u64, txs: List<Tx>) -> Result<Taken, StepFau
 {
     match Block::new(count + 1, 0, txs) {
         Ok(block) => Ok(Taken {
-            place: Place::Between {
+            place: Section::Between {
                 form,
                 count: count + 1,
             },
@@ -244,7 +244,7 @@ fn add_tx(
     }
     txs.push(tx)?;
     Ok(Taken {
-        place: Place::Within { form, count, txs },
+        place: Section::Within { form, count, txs },
         ended: None,
     })
 }
@@ -268,19 +268,19 @@ fn within(
 }
 
 /// A line of any length.
-fn line_step(alloc: Global, place: Place, digits: &[u8], line: &[u8]) -> Result<Taken, StepFault>
+fn line_step(alloc: Global, place: Section, digits: &[u8], line: &[u8]) -> Result<Taken, StepFault>
     requires { HasRoom place }
     ensures { GivesStep result (line_step place digits.now line.now) }
 {
     match place {
-        Place::Start => header(line),
-        Place::Between { form, count } => begin(alloc, form, count, digits, line),
-        Place::Within { form, count, txs } => within(alloc, form, count, txs, line),
+        Section::Start => header(line),
+        Section::Between { form, count } => begin(alloc, form, count, digits, line),
+        Section::Within { form, count, txs } => within(alloc, form, count, txs, line),
     }
 }
 
 /// A line: what it leaves, where it has no fault. The digits are those that a hash has there.
-pub fn step(alloc: Global, place: Place, digits: &[u8], line: &[u8]) -> Result<Taken, StepFault>
+pub fn step(alloc: Global, place: Section, digits: &[u8], line: &[u8]) -> Result<Taken, StepFault>
     requires { HasRoom place }
     ensures { GivesStep result (step place digits.now line.now) }
 {

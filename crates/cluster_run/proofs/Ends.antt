@@ -17,7 +17,7 @@ use Rattle.proc_syntax.specs.declared.tree.App.{App}
 use Rattle.rel_base.specs.declared.storied.Storied.{Ghosts}
 use Rattle.schedule_laws.proofs.Asking.{fold_of_own, own_deliveries}
 use Rattle.schedule_laws.specs.Stable.{entries_by}
-use Rattle.serial_laws.proofs.Told.{results_run}
+use Rattle.serial_laws.proofs.Results.{results_run}
 use Rattle.serial_laws.specs.Chained.{AreNumbered}
 use Rattle.serial_laws.specs.InOrder.{EachInOrder}
 use Rattle.turn_lock.specs.Passes.{mine, pass_base, pass_number, seen}

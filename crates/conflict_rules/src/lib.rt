@@ -2,9 +2,9 @@
 #![tactic(auto)]
 
 pub mod clash;
-pub mod find_late;
+pub mod late_reads;
 pub mod overtaken;
 
 pub use clash::{ClashRef, first_conflict, first_shared, write_conflict};
-pub use find_late::late;
+pub use late_reads::late;
 pub use overtaken::LateRef;

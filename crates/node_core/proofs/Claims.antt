@@ -33,7 +33,7 @@ use Rattle.node_model.specs.declared.outcome.Outcome.{Outcome}
 use Rattle.node_model.specs.declared.journal.Event.TheVariants.{Claim}
 use Rattle.node_model.specs.declared.journal.Pick.TheVariants as pick
 use Rattle.node_model.specs.declared.journal.Pick.{Pick}
-use Rattle.proc_run.specs.Told.{Told}
+use Rattle.proc_run.specs.MachineView.{MachineView}
 use Rattle.proc_syntax.specs.Declaring.{tables_of}
 use Rattle.proc_syntax.specs.declared.call.Tx.{Tx}
 use Rattle.schedule_laws.proofs.Allowing.{steps_are_allowed}
@@ -185,12 +185,12 @@ module _ (kept : Kept) (node : IsNode kept) where
           (subst (λ rs. AreRowsOf (tables_of kept.app) (told_in kept.work) rs (change_job (claimed actor) (world_in kept).jobs job)) (sym are)
           (rows_put (tables_of kept.app) (told_in kept.work) kept.rows (world_in kept).jobs job (stage.Held actor) (claimed actor) free.job free.stands refl refl node.rows))
 
-      pub claim_held : (work : InHand) (told : Told) (tx : Tx) (time : ℤ) → work ≡ record { job = job; actor = actor; told = told; cut = false; gone = false }
+      pub claim_held : (work : InHand) (told : MachineView) (tx : Tx) (time : ℤ) → work ≡ record { job = job; actor = actor; told = told; cut = false; gone = false }
           → told ≡ record { app = kept.app; tx = tx; time = time; fed = []; asks = None; ended = false }
           → option_map (λ (row : Row). row.tx.value) (row_at kept.rows job) ≡ Some tx → time ≡ time_at tx.height (world_in kept).sealed → IsHeld (record { app = kept.app; journal = journal' }) work
       claim_held work told tx time work_is told_is shares at =
           subst (λ (w : InHand). IsHeld (record { app = kept.app; journal = journal' }) w) (sym work_is)
-          (subst (λ (t : Told). IsHeld (record { app = kept.app; journal = journal' }) (record { job = job; actor = actor; told = t; cut = false; gone = false })) (sym told_is) (record {
+          (subst (λ (t : MachineView). IsHeld (record { app = kept.app; journal = journal' }) (record { job = job; actor = actor; told = t; cut = false; gone = false })) (sym told_is) (record {
             app = refl;
             holds = record {
               stands = ap (λ (w : World). job_at w.jobs job) after_it

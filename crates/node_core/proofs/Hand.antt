@@ -2,7 +2,7 @@
 use Rattle.std.proofs.Common.{Bool, Option, Some, ap, false, refl, subst, sym, ◌||◌, ◌∙◌, ◌≡◌}
 use Rattle.std.proofs.lemmas.Bool.{false≢true}
 use Rattle.node_core.specs.InHand.{IsInHand, run_on}
-use Rattle.proc_run.specs.Told.{Agrees, IsNext, Tells, Told, WantFits}
+use Rattle.proc_run.specs.MachineView.{Agrees, IsNextWant, Tells, MachineView, WantFits}
 use Rattle.proc_run.specs.declared.state.Want.TheVariants as want
 use Rattle.proc_run.specs.declared.state.Want.{Want}
 use Rattle.proc_syntax.specs.Declaring.{tables_of}
@@ -11,11 +11,11 @@ use Rattle.rel_base.specs.Tables.{Tables}
 use Rattle.rel_base.specs.declared.access.Read.{Read}
 
 -- what a machine answers is the next of its run
-abbrev IsRight : Want → Told → Type 0
-IsRight answer told = (tables : Tables) → Agrees (tables_of told.app) tables told.fed → IsNext answer (tables_of told.app) tables told.fed (run_on told tables).reads
+abbrev IsRight : Want → MachineView → Type 0
+IsRight answer told = (tables : Tables) → Agrees (tables_of told.app) tables told.fed → IsNextWant answer (tables_of told.app) tables told.fed (run_on told tables).reads
 
 -- the machine asks for a read
-pub asked : (tx : Tx) (old new : Told) (wants : Option Read) (ended cut : Bool) (answer : Want) (read : Read) → IsInHand tx old wants ended cut → ended ≡ false → cut ≡ false
+pub asked : (tx : Tx) (old new : MachineView) (wants : Option Read) (ended cut : Bool) (answer : Want) (read : Read) → IsInHand tx old wants ended cut → ended ≡ false → cut ≡ false
     → answer ≡ want.Rows read → Tells answer old new → IsRight answer old → WantFits (tables_of old.app) answer → IsInHand tx new (Some read) ended cut
 asked tx old new wants ended cut answer read hand goes whole is tells right fits =
     let tells_so : Tells (want.Rows read) old new = subst (λ a. Tells a old new) is tells in

@@ -19,7 +19,7 @@ use Rattle.node_model.specs.Decide.{run_at}
 use Rattle.node_model.specs.Events.{next_read}
 use Rattle.node_model.specs.History.{snapshot, time_at}
 use Rattle.node_model.specs.World.{is_held}
-use Rattle.proc_run.specs.Told.{Agrees}
+use Rattle.proc_run.specs.MachineView.{Agrees}
 use Rattle.proc_syntax.proofs.Runs.{few_reads, reads_fit}
 use Rattle.proc_syntax.specs.Declaring.{tables_of}
 use Rattle.proc_syntax.specs.Run.{run}

@@ -2,9 +2,9 @@
 use Rattle.node_core.specs.declared.jobs.Record.{Record}
 use Rattle.node_model.specs.World as world
 use Rattle.node_model.specs.World.{Job}
-use Rattle.proc_run.specs.Told.{Agrees, Told}
+use Rattle.proc_run.specs.MachineView.{Agrees, MachineView}
 use Rattle.proc_run.specs.declared.state.Want.TheVariants as want
-use Rattle.proc_run.specs.Told as machine
+use Rattle.proc_run.specs.MachineView as machine
 use Rattle.proc_syntax.specs.Declaring.{tables_of}
 use Rattle.proc_syntax.specs.Run.{run}
 use Rattle.proc_syntax.specs.declared.call.Tx.{Tx}
@@ -22,7 +22,7 @@ use Rattle.std.specs.Prelude.{Bool, IfSome, IsSome, List, None, Option, [], fals
 pub record InHand : Type 0 where
   pub job : ℕ
   pub actor : ℕ
-  pub told : Told
+  pub told : MachineView
   pub cut : Bool
   pub gone : Bool
 
@@ -53,20 +53,20 @@ job_in work = record { tx = work.told.tx; status = world.Held work.actor; record
 -- ---- what holds of each
 
 -- the run of a machine's call on some tables
-abbrev pub run_on : Told → Tables → Ran
+abbrev pub run_on : MachineView → Tables → Ran
 run_on told tables = run told.app told.tx told.time tables
 
 -- a read is the next of the run, on all tables on which the reads so far have their rows
-abbrev pub IsNextRead : Told → Read → Type 0
+abbrev pub IsNextRead : MachineView → Read → Type 0
 IsNextRead told read = (tables : Tables) → Agrees (tables_of told.app) tables told.fed
-    → machine.IsNext (want.Rows read) (tables_of told.app) tables told.fed (run_on told tables).reads
+    → machine.IsNextWant (want.Rows read) (tables_of told.app) tables told.fed (run_on told tables).reads
 
 -- the reads so far are all of the run, on all such tables
-abbrev pub AreAllReads : Told → Type 0
+abbrev pub AreAllReads : MachineView → Type 0
 AreAllReads told = (tables : Tables) → Agrees (tables_of told.app) tables told.fed → (run_on told tables).reads ≡ told.fed
 
 -- what is kept of a machine beside it is what the machine tells
-pub record IsInHand (tx : Tx) (told : Told) (wants : Option Read) (ended cut : Bool) : Type 0 where
+pub record IsInHand (tx : Tx) (told : MachineView) (wants : Option Read) (ended cut : Bool) : Type 0 where
   pub same : told.tx ≡ tx
   pub asks : told.asks ≡ wants
   pub ends : told.ended ≡ ended

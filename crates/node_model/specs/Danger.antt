@@ -3,8 +3,8 @@
 -- (Two such edges are the dangerous structure of Fekete and others, TODS 30(2), 2005, and Cahill and others, SIGMOD 2008; the two
 -- forms, by position in the block, are this project's own.)
 use Rattle.node_model.specs.Edges.{edge, touches}
-use Rattle.node_model.specs.declared.dangerous.Danger.TheVariants.{One, Two}
-use Rattle.node_model.specs.declared.dangerous.Danger.{Danger}
+use Rattle.node_model.specs.declared.danger.Danger.TheVariants.{One, Two}
+use Rattle.node_model.specs.declared.danger.Danger.{Danger}
 use Rattle.node_model.specs.declared.result.Committed.{Committed}
 use Rattle.rel_base.specs.declared.access.Made.{Made}
 use Rattle.rel_base.specs.declared.access.Write.{Write}

@@ -2,7 +2,7 @@
 -- (The flow is that of Nathan and others, PVLDB 12(11), 2019; the causes and their order are this project's own.)
 use Rattle.node_model.specs.Danger.{danger}
 use Rattle.node_model.specs.History.{Sealed, history_of, ids_of, ids_told, snapshot, time_at}
-use Rattle.node_model.specs.declared.dangerous.Danger.{Danger}
+use Rattle.node_model.specs.declared.danger.Danger.{Danger}
 use Rattle.node_model.specs.declared.outcome.Outcome.{Outcome}
 use Rattle.node_model.specs.declared.outcome.Outcome.TheVariants as outcome
 use Rattle.node_model.specs.declared.result.Committed.{Committed}

@@ -1,13 +1,13 @@
 //! What the chain of blocks means: the outcome of each transaction, and the fold of the blocks to their results.
 #![tactic(auto)]
 
-pub mod dangerous;
+pub mod danger;
 pub mod journal;
 pub mod outcome;
 pub mod result;
 pub mod version;
 
-pub use dangerous::Danger;
+pub use danger::Danger;
 pub use journal::{Entry, Event, Pick};
 pub use outcome::{Clash, Late, Outcome};
 pub use result::{BlockResult, Committed, NO_DIGEST, NodeResult, TableRows, Told};

@@ -1,6 +1,6 @@
 //! Outcomes of transactions, each abort with its cause.
 
-use crate::dangerous::Danger;
+use crate::danger::Danger;
 use proc_syntax::Fault;
 use rel_base::{Key, NoMemory, Place, Twin};
 use std::alloc::Global;

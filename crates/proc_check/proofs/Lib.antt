@@ -1,5 +1,5 @@
 pub mod Limits
-pub mod Few
+pub mod Bounds
 pub mod Operators
 pub mod Columns
 pub mod Names

@@ -29,7 +29,7 @@ pub struct Checked {
 }
 
 /// Checks an application, up to its first fault, and resolves its names.
-#[tactic(auto, using(crate::proofs::Few::few_enough))]
+#[tactic(auto, using(crate::proofs::Bounds::few_enough))]
 pub fn check(alloc: Global, app: App) -> Result<Checked, CheckFault>
     ensures ok { IfOk result (λ checked. checked.app ≡ app) }
     ensures fine { IfOk result (λ checked. first_fault app ≡ None) }
@@ -53,7 +53,7 @@ impl Checked {
 
     /// The declarations of its tables, with the names of key and index as the numbers of columns. There are at most 64, each of at
     /// most 32 columns with at most 8 in its key.
-    #[tactic(auto, using(crate::proofs::Few::few_tables, crate::proofs::Few::small_tables))]
+    #[tactic(auto, using(crate::proofs::Bounds::few_tables, crate::proofs::Bounds::small_tables))]
     pub fn tables(&self) -> &List<TableDef>
         ensures tables { result.now ≡ tables_of self.now.app }
         ensures few { length (tables_of self.now.app) ≤ 64 }

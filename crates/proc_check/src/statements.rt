@@ -25,7 +25,7 @@ impl HasName for Change {
 }
 
 /// A place for a value among the columns of a table.
-pub trait Place {
+pub trait ColumnRef {
     ghost kind_among: { Self → List ColumnText → Option Kind };
 
     /// The kind of the value that it needs. No value fits a place that names no column.
@@ -33,7 +33,7 @@ pub trait Place {
         ensures { result ≡ kind_among self.now columns.now };
 }
 
-impl Place for ColumnText {
+impl ColumnRef for ColumnText {
     ghost kind_among = { λ a columns. Some a.kind };
 
     fn kind_among(&self, _columns: &[ColumnText]) -> Option<Kind> {
@@ -41,7 +41,7 @@ impl Place for ColumnText {
     }
 }
 
-impl Place for Named {
+impl ColumnRef for Named {
     ghost kind_among = { λ a columns. column_kind columns a.name };
 
     fn kind_among(&self, columns: &[ColumnText]) -> Option<Kind> {
@@ -50,7 +50,7 @@ impl Place for Named {
 }
 
 /// Checks values for places, each of which needs a kind.
-fn each_fits<T: Place>(
+fn each_fits<T: ColumnRef>(
     tables: &[TableText],
     scope: &Scope,
     columns: &[ColumnText],
@@ -68,7 +68,7 @@ fn each_fits<T: Place>(
 }
 
 /// Checks values for places: as many, and each of the kind that its place needs.
-fn all_fit<T: Place>(
+fn all_fit<T: ColumnRef>(
     tables: &[TableText],
     scope: &Scope,
     name: &Named,

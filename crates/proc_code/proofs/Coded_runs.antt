@@ -20,7 +20,7 @@ use Rattle.proc_code.specs.Coded.{Slots, given, begin, code_named, accepts, code
 use Rattle.proc_code.specs.Laws.{CodeRunsAreRuns}
 use Rattle.proc_code.specs.Numbers.{Names, bound_names, column_names, column_places, joined, slots_of}
 use Rattle.proc_code.specs.Resolved.{action_of, param_of, proc_of, code_of}
-use Rattle.proc_code.proofs.Following.{Follows, Known, over, follows_block}
+use Rattle.proc_code.proofs.Following.{Mirrors, Known, over, follows_block}
 use Rattle.proc_code.proofs.Numbered.{all_met, all_front, all_back}
 use Rattle.proc_code.proofs.Slotted.{slotted_none, slotted_given}
 
@@ -29,7 +29,7 @@ over_ran : (declared : List TableDef) (S : Tables) (o : Outcome) (slots : Slots)
 over_ran declared S (Going st) slots = refl
 over_ran declared S (Stopped st why) slots = refl
 
-follows_ran : (names : Names) (declared : List TableDef) (S : Tables) (o : Outcome) (c : coded.Outcome) → Follows names o c → ran declared S c ≡ ran declared S o
+follows_ran : (names : Names) (declared : List TableDef) (S : Tables) (o : Outcome) (c : coded.Outcome) → Mirrors names o c → ran declared S c ≡ ran declared S o
 follows_ran names declared S o c k = ap (ran declared S) k.is ∙ over_ran declared S o k.slots
 
 kinds_are : (names : Names) (params : List ColumnText) → map (λ param. param.kind) (map (param_of names) params) ≡ map (λ param. param.kind) params
@@ -58,7 +58,7 @@ module _ (tables : List TableDef) (S : Tables) (procedure : ProcDef) (values : L
   known : Known names (param_names ++ body_names)
   known = all_met [] (param_names ++ body_names)
 
-  follows_procedure : Follows names (block tables S procedure.body (start procedure values)) (do_all tables (column_places tables) S (map (action_of tables (column_names tables) names) procedure.body) (begin (proc_of tables procedure) values))
+  follows_procedure : Mirrors names (block tables S procedure.body (start procedure values)) (do_all tables (column_places tables) S (map (action_of tables (column_names tables) names) procedure.body) (begin (proc_of tables procedure) values))
   follows_procedure = follows_block names tables S procedure.body (all_back _ param_names body_names known) (start procedure values) _
       (slotted_given names procedure.params values [] (replicate (length names) None) (all_front _ param_names body_names known) (slotted_none names))
 

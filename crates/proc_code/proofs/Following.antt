@@ -42,27 +42,27 @@ over (Stopped st why) slots = Stopped (with_slots st slots) why
 
 module _ (names : Names) where
   -- c is o, with its variables in slots
-  pub record Follows (o : Outcome) (c : coded.Outcome) : Type 0 where
+  pub record Mirrors (o : Outcome) (c : coded.Outcome) : Type 0 where
     pub slots : Slots
     pub slotted : Slotted names (state_of o).variables slots
     pub is : c ≡ over o slots
 
   abbrev pub Alike : (State → Outcome) → (coded.State → coded.Outcome) → Type 0
-  Alike f g = (st : State) (slots : Slots) → Slotted names st.variables slots → Follows (f st) (g (with_slots st slots))
+  Alike f g = (st : State) (slots : Slots) → Slotted names st.variables slots → Mirrors (f st) (g (with_slots st slots))
 
-  going : (st : State) (slots : Slots) → Slotted names st.variables slots → Follows (Going st) (Going (with_slots st slots))
+  going : (st : State) (slots : Slots) → Slotted names st.variables slots → Mirrors (Going st) (Going (with_slots st slots))
   going st slots s = record { slots = slots; slotted = s; is = refl }
 
-  stopped : (st : State) (slots : Slots) (why : Stop) → Slotted names st.variables slots → Follows (Stopped st why) (Stopped (with_slots st slots) why)
+  stopped : (st : State) (slots : Slots) (why : Stop) → Slotted names st.variables slots → Mirrors (Stopped st why) (Stopped (with_slots st slots) why)
   stopped st slots why s = record { slots = slots; slotted = s; is = refl }
 
   -- ---- each combinator
 
-  follows_then : (o : Outcome) (c : coded.Outcome) (f : State → Outcome) (g : coded.State → coded.Outcome) → Follows o c → Alike f g → Follows (then_do o f) (then_do c g)
-  follows_then (Going st) c f g k h = subst (λ c. Follows (f st) (then_do c g)) (sym k.is) (h st k.slots k.slotted)
+  follows_then : (o : Outcome) (c : coded.Outcome) (f : State → Outcome) (g : coded.State → coded.Outcome) → Mirrors o c → Alike f g → Mirrors (then_do o f) (then_do c g)
+  follows_then (Going st) c f g k h = subst (λ c. Mirrors (f st) (then_do c g)) (sym k.is) (h st k.slots k.slotted)
   follows_then (Stopped st why) c f g k h = record { slots = k.slots; slotted = k.slotted; is = ap (λ c. then_do c g) k.is }
 
-  follows_cond : (b : Bool) (o p : Outcome) (c d : coded.Outcome) → Follows o c → Follows p d → Follows (cond b o p) (cond b c d)
+  follows_cond : (b : Bool) (o p : Outcome) (c d : coded.Outcome) → Mirrors o c → Mirrors p d → Mirrors (cond b o p) (cond b c d)
   follows_cond true o p c d k h = k
   follows_cond false o p c d k h = h
 
@@ -71,13 +71,13 @@ module _ (names : Names) where
       follows_cond (nat_lt st.steps 100000) _ _ _ _ (h (record st { steps = st.steps + 1 }) slots s) (stopped st slots (stop.Fault fault.Steps) s)
 
   module _ (st : State) (slots : Slots) (s : Slotted names st.variables slots) where
-    follows_value : {A : Type 0} (r r' : Result A Stop) (f : A → Outcome) (g : A → coded.Outcome) → r' ≡ r → ((v : A) → Follows (f v) (g v)) → Follows (with_value r st f) (with_value r' (with_slots st slots) g)
-    follows_value (Ok v) r' f g e h = subst (λ r'. Follows (f v) (with_value r' (with_slots st slots) g)) (sym e) (h v)
-    follows_value (Err why) r' f g e h = subst (λ r'. Follows (Stopped st why) (with_value r' (with_slots st slots) g)) (sym e) (stopped st slots why s)
+    follows_value : {A : Type 0} (r r' : Result A Stop) (f : A → Outcome) (g : A → coded.Outcome) → r' ≡ r → ((v : A) → Mirrors (f v) (g v)) → Mirrors (with_value r st f) (with_value r' (with_slots st slots) g)
+    follows_value (Ok v) r' f g e h = subst (λ r'. Mirrors (f v) (with_value r' (with_slots st slots) g)) (sym e) (h v)
+    follows_value (Err why) r' f g e h = subst (λ r'. Mirrors (Stopped st why) (with_value r' (with_slots st slots) g)) (sym e) (stopped st slots why s)
 
-    follows_some : {A : Type 0} (o o' : Option A) (f : A → Outcome) (g : A → coded.Outcome) → o' ≡ o → ((v : A) → o ≡ Some v → Follows (f v) (g v)) → Follows (with_some o st f) (with_some o' (with_slots st slots) g)
-    follows_some (Some v) o' f g e h = subst (λ o'. Follows (f v) (with_some o' (with_slots st slots) g)) (sym e) (h v refl)
-    follows_some None o' f g e h = subst (λ o'. Follows (Stopped st stop.IllTyped) (with_some o' (with_slots st slots) g)) (sym e) (stopped st slots stop.IllTyped s)
+    follows_some : {A : Type 0} (o o' : Option A) (f : A → Outcome) (g : A → coded.Outcome) → o' ≡ o → ((v : A) → o ≡ Some v → Mirrors (f v) (g v)) → Mirrors (with_some o st f) (with_some o' (with_slots st slots) g)
+    follows_some (Some v) o' f g e h = subst (λ o'. Mirrors (f v) (with_some o' (with_slots st slots) g)) (sym e) (h v refl)
+    follows_some None o' f g e h = subst (λ o'. Mirrors (Stopped st stop.IllTyped) (with_some o' (with_slots st slots) g)) (sym e) (stopped st slots stop.IllTyped s)
 
     -- a variable gets something
     follows_put : (name : List ℕ) (binding : Binding) → has_name names name ≡ true → Slotted names (bound st name binding).variables (slice_set slots (number_of names name) (Some binding))

@@ -22,7 +22,7 @@ use Rattle.proc_parse.specs.Statements.{keys, let_statement, assignment, some_bl
 use Rattle.proc_parse.specs.Grammar.{table, parameters, procedure, is_end, application}
 use Rattle.proc_parse.specs.declared.lexer.Piece.{Piece}
 use Rattle.proc_parse.specs.declared.lexer.Piece.TheVariants as piece
-use Rattle.proc_parse.specs.declared.lexer.Place.{Place}
+use Rattle.proc_parse.specs.declared.lexer.Position.{Position}
 use Rattle.proc_parse.specs.Tokens.{start, piece_at, is_last, ends, put, tokens_in, tokens_of}
 use Rattle.proc_parse.specs.Faults.{place_of, IsRefused}
 use Rattle.proc_parse.proofs.Pieces.{piece_shorter}
@@ -322,12 +322,12 @@ put_last : (last : Bool) (behind : List Token) → (last ≡ false → has_last 
 put_last true behind h = refl
 put_last false behind h = h refl
 
-piece_last : (p : Piece) (place : Place) (behind : List Token) → (ends p ≡ false → has_last behind ≡ true) → has_last (put p place behind) ≡ true
+piece_last : (p : Piece) (place : Position) (behind : List Token) → (ends p ≡ false → has_last behind ≡ true) → has_last (put p place behind) ≡ true
 piece_last piece.Newline place behind h = h refl
 piece_last piece.Blank place behind h = h refl
 piece_last (piece.Token l) place behind h = put_last (is_last l) behind h
 
-tokens_last : (steps : ℕ) (place : Place) (bytes : List ℕ) → length bytes < steps → has_last (tokens_in steps place bytes) ≡ true
+tokens_last : (steps : ℕ) (place : Position) (bytes : List ℕ) → length bytes < steps → has_last (tokens_in steps place bytes) ≡ true
 tokens_last zero place bytes h = absurd (omega (arith, h))
 tokens_last (suc steps) place [] h = refl
 tokens_last (suc steps) place (b ∷ bs) h =

@@ -14,7 +14,7 @@ use Rattle.proc_parse.specs.declared.token.Lexeme.{Lexeme}
 use Rattle.proc_parse.specs.declared.token.Lexeme.TheVariants as lexeme
 use Rattle.proc_parse.specs.declared.lexer.Piece.{Piece}
 use Rattle.proc_parse.specs.declared.lexer.Piece.TheVariants as piece
-use Rattle.proc_parse.specs.declared.lexer.Place.{Place}
+use Rattle.proc_parse.specs.declared.lexer.Position.{Position}
 use Rattle.proc_parse.specs.Words.{mark, signs}
 use Rattle.proc_parse.specs.Tokens.{Found, run_piece, opens_bytes, literal_piece, word_piece, int_piece, sign_in, sign_or_bad, newline, is_space, hash, is_comment, piece_at, moved, ends, put, unless_last, tokens_in}
 
@@ -138,7 +138,7 @@ found_less bytes rest p e = subst (λ (found : Found). ends found.0 ≡ false �
 
 -- ---- the tokens from a place on
 
-tokens_enough : (n m : ℕ) (place : Place) (bytes : List ℕ) → length bytes < n → length bytes < m → tokens_in n place bytes ≡ tokens_in m place bytes
+tokens_enough : (n m : ℕ) (place : Position) (bytes : List ℕ) → length bytes < n → length bytes < m → tokens_in n place bytes ≡ tokens_in m place bytes
 tokens_enough zero m place bytes h k = absurd (omega (arith, h))
 tokens_enough (suc n) zero place bytes h k = absurd (omega (arith, k))
 tokens_enough (suc n) (suc m) place [] h k = refl
@@ -146,23 +146,23 @@ tokens_enough (suc n) (suc m) place (b ∷ bs) h k =
     ap (put (piece_at (b ∷ bs)).0 place) (tokens_enough n m _ (piece_at (b ∷ bs)).1 (omega (arith, piece_shorter b bs, h)) (omega (arith, piece_shorter b bs, k)))
 
 -- the token of a piece, if it has one, and the tokens behind it
-tokens_step : (place : Place) (bytes : List ℕ) → tokens_in (suc (length bytes)) place bytes
+tokens_step : (place : Position) (bytes : List ℕ) → tokens_in (suc (length bytes)) place bytes
     ≡ put (piece_at bytes).0 place (tokens_in (suc (length (piece_at bytes).1)) (moved (piece_at bytes).0 (length bytes - length (piece_at bytes).1) place) (piece_at bytes).1)
 tokens_step place [] = refl
 tokens_step place (b ∷ bs) =
     ap (put (piece_at (b ∷ bs)).0 place) (tokens_enough (length (b ∷ bs)) (suc (length (piece_at (b ∷ bs)).1)) _ (piece_at (b ∷ bs)).1 (omega (arith, piece_shorter b bs)) (omega arith))
 
-pub found_step : (place : Place) (bytes rest : List ℕ) (p : Piece) → piece_at bytes ≡ (p, rest)
+pub found_step : (place : Position) (bytes rest : List ℕ) (p : Piece) → piece_at bytes ≡ (p, rest)
     → tokens_in (suc (length bytes)) place bytes ≡ put p place (tokens_in (suc (length rest)) (moved p (length bytes - length rest) place) rest)
 found_step place bytes rest p e =
     tokens_step place bytes ∙ ap (λ (found : Found). put found.0 place (tokens_in (suc (length found.1)) (moved found.0 (length bytes - length found.1) place) found.1)) e
 
-moved_line : (p : Piece) (n : ℕ) (place : Place) → (p ≡ piece.Newline → 0 < n) → (moved p n place).line ≤ place.line + n
+moved_line : (p : Piece) (n : ℕ) (place : Position) → (p ≡ piece.Newline → 0 < n) → (moved p n place).line ≤ place.line + n
 moved_line piece.Newline n place h = omega (arith, h refl)
 moved_line piece.Blank n place h = omega arith
 moved_line (piece.Token l) n place h = omega arith
 
-moved_col : (p : Piece) (n : ℕ) (place : Place) → (p ≡ piece.Newline → 0 < n) → (moved p n place).col ≤ place.col + n
+moved_col : (p : Piece) (n : ℕ) (place : Position) → (p ≡ piece.Newline → 0 < n) → (moved p n place).col ≤ place.col + n
 moved_col piece.Newline n place h = omega (arith, h refl)
 moved_col piece.Blank n place h = omega arith
 moved_col (piece.Token l) n place h = omega arith
@@ -171,12 +171,12 @@ pub newline_some : (bytes rest : List ℕ) (p : Piece) → piece_at bytes ≡ (p
 newline_some bytes rest p e n = omega (arith, found_less bytes rest p e (ap ends n))
 
 -- behind a piece that does not end the text, the tokens are those of the rest, and its place has as much room
-pub record GoesOn (new all : List Token) (next : Place) (rest : List ℕ) (room : ℕ) : Type 0 where
+pub record GoesOn (new all : List Token) (next : Position) (rest : List ℕ) (room : ℕ) : Type 0 where
   pub read : new ++ tokens_in (suc (length rest)) next rest ≡ all
   pub line : next.line + length rest ≤ room
   pub col : next.col + length rest ≤ room
 
-pub goes_on : (old new all : List Token) (last : Bool) (bytes rest : List ℕ) (p : Piece) (place next : Place) (room : ℕ) → piece_at bytes ≡ (p, rest)
+pub goes_on : (old new all : List Token) (last : Bool) (bytes rest : List ℕ) (p : Piece) (place next : Position) (room : ℕ) → piece_at bytes ≡ (p, rest)
     → next ≡ moved p (length bytes - length rest) place → last ≡ false → ((behind : List Token) → old ++ put p place behind ≡ new ++ unless_last last behind)
     → GoesOn old all place bytes room → GoesOn new all next rest room
 goes_on old new all last bytes rest p place next room e m l h was = record {
@@ -186,6 +186,6 @@ goes_on old new all last bytes rest p place next room e m l h was = record {
       ∙ ap (λ next. old ++ put p place (tokens_in (suc (length rest)) next rest)) m
       ∙ ap (λ ts. old ++ ts) (sym (found_step place bytes rest p e))
       ∙ was.read;
-  line = omega (arith, ap (λ (x : Place). x.line) m, moved_line p (length bytes - length rest) place (newline_some bytes rest p e), found_most bytes rest p e, was.line);
-  col = omega (arith, ap (λ (x : Place). x.col) m, moved_col p (length bytes - length rest) place (newline_some bytes rest p e), found_most bytes rest p e, was.col);
+  line = omega (arith, ap (λ (x : Position). x.line) m, moved_line p (length bytes - length rest) place (newline_some bytes rest p e), found_most bytes rest p e, was.line);
+  col = omega (arith, ap (λ (x : Position). x.col) m, moved_col p (length bytes - length rest) place (newline_some bytes rest p e), found_most bytes rest p e, was.col);
 }

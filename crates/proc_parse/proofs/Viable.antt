@@ -15,14 +15,14 @@ pub record Completion {A : Type 0} (q : Reader A) (stop : Lexeme → Bool) (fron
   pub reads : (s : Token) → stop s.lexeme ≡ true → Accepts q (front ++ more) tree s
 
 -- the same of what was read, if anything was
-abbrev pub Goes : {A : Type 0} → Reader A → (Lexeme → Bool) → List Token → Type 0
-Goes q stop [] = Unit {0}
-Goes q stop (h ∷ t) = Completion q stop (h ∷ t)
+abbrev pub MayContinue : {A : Type 0} → Reader A → (Lexeme → Bool) → List Token → Type 0
+MayContinue q stop [] = Unit {0}
+MayContinue q stop (h ∷ t) = Completion q stop (h ∷ t)
 
 pub record Stopped {A : Type 0} (q : Reader A) (stop : Lexeme → Bool) (ts rest : List Token) : Type 0 where
   pub front : List Token
   pub split : ts ≡ front ++ rest
-  pub goes : Goes q stop front
+  pub goes : MayContinue q stop front
 
 -- what was read is read up to the token that follows it, and up to any that may follow it
 pub record Was {A : Type 0} (q : Reader A) (stop : Lexeme → Bool) (ts : List Token) (x : A) (rest : List Token) : Type 0 where
@@ -63,7 +63,7 @@ pub record Whole {A : Type 0} (p q : Reader A) (stop : Lexeme → Bool) (first :
 abbrev pub any : Lexeme → Bool
 any l = true
 
-goes_of : {A : Type 0} → (q : Reader A) (stop : Lexeme → Bool) (front : List Token) → Completion q stop front → Goes q stop front
+goes_of : {A : Type 0} → (q : Reader A) (stop : Lexeme → Bool) (front : List Token) → Completion q stop front → MayContinue q stop front
 goes_of q stop [] c = tt
 goes_of q stop (h ∷ t) c = c
 
@@ -134,7 +134,7 @@ module _ {A B : Type 0} (q : Reader A) (f g : A → Reader B) (inner stop : Lexe
   heads_at : (x : A) (s : Token) → stop s.lexeme ≡ true → inner (first_of (links.phrase x).tokens s).lexeme ≡ true
   heads_at x s k = subst (λ (t : Token). inner t.lexeme ≡ true) (sym ((links.phrase x).starts s)) (links.heads s k)
 
-  stopped_behind : (ts mid rest front2 : List Token) (x : A) → Was q inner ts x mid → mid ≡ front2 ++ rest → Goes (g x) stop front2 → Stopped (q >>= g) stop ts rest
+  stopped_behind : (ts mid rest front2 : List Token) (x : A) → Was q inner ts x mid → mid ≡ front2 ++ rest → MayContinue (g x) stop front2 → Stopped (q >>= g) stop ts rest
   stopped_behind ts mid rest [] x w e v = record {
     front = w.front;
     split = w.split ∙ ap (λ m. w.front ++ m) e;
@@ -155,7 +155,7 @@ module _ {A B : Type 0} (q : Reader A) (f g : A → Reader B) (inner stop : Lexe
     });
   }
 
-  stopped_first : (ts rest front : List Token) → ts ≡ front ++ rest → Goes q inner front → Stopped (q >>= g) stop ts rest
+  stopped_first : (ts rest front : List Token) → ts ≡ front ++ rest → MayContinue q inner front → Stopped (q >>= g) stop ts rest
   stopped_first ts rest [] e v = record { front = []; split = e; goes = tt }
   stopped_first ts rest (h ∷ t) e v = record {
     front = h ∷ t;
@@ -237,7 +237,7 @@ whole_maybe {p = p} {q = q} {f = f} {g = g} {stop = stop} {own = Some t} h k =
 
 -- fewer tokens may follow
 module _ {A : Type 0} (q : Reader A) (inner stop : Lexeme → Bool) (under : (l : Lexeme) → stop l ≡ true → inner l ≡ true) where
-  goes_under : (front : List Token) → Goes q inner front → Goes q stop front
+  goes_under : (front : List Token) → MayContinue q inner front → MayContinue q stop front
   goes_under [] v = tt
   goes_under (h ∷ t) v = record { more = v.more; tree = v.tree; reads = λ s k. v.reads s (under s.lexeme k) }
 

@@ -12,7 +12,7 @@ use Rattle.proc_parse.specs.Lists.{list_from, list_of, many_from, many_of}
 use Rattle.proc_parse.specs.Shorter.{IsWithin, keeps_many_from}
 use Rattle.proc_parse.specs.Expressions.{op_before, if_op, with_op, without_op, chain_from, chain_of}
 use Rattle.proc_parse.proofs.Lists.{list_more, list_step, many_more, many_step}
-use Rattle.proc_parse.proofs.Viable.{Accepts, Goes, Stopped, Case, Viable, Phrase, Whole, Links, Behind, any, either, first_of, viable_refuse, whole_done, phrase_done, whole_maybe, case_then, phrase_then, takes_some}
+use Rattle.proc_parse.proofs.Viable.{Accepts, MayContinue, Stopped, Case, Viable, Phrase, Whole, Links, Behind, any, either, first_of, viable_refuse, whole_done, phrase_done, whole_maybe, case_then, phrase_then, takes_some}
 
 -- ---- a reader that is another one, for the tokens that begin so
 
@@ -24,7 +24,7 @@ module _ {A : Type 0} (q q' : Reader A) (stop : Lexeme → Bool) (At : List Toke
   at_more ts rest [] s e here k ys = k refl ys
   at_more ts rest (h ∷ t) s e here k ys = at_front h (t ++ rest) (t ++ (s ∷ ys)) (subst At e here)
 
-  stopped_via : (ts rest front : List Token) → ts ≡ front ++ rest → At ts → Goes q' stop front → Stopped q stop ts rest
+  stopped_via : (ts rest front : List Token) → ts ≡ front ++ rest → At ts → MayContinue q' stop front → Stopped q stop ts rest
   stopped_via ts rest [] e here v = record { front = []; split = e; goes = tt }
   stopped_via ts rest (h ∷ t) e here v = record {
     front = h ∷ t;
@@ -68,7 +68,7 @@ module _ {A : Type 0} (q q' : Reader A) (stop : Lexeme → Bool) (t : Token) (sa
   accepts_past : (front : List Token) (x : A) (s : Token) → Accepts q' front x s → Accepts q (t ∷ front) x s
   accepts_past front x s a = record { reads = λ ys. same (front ++ (s ∷ ys)) ∙ a.reads ys }
 
-  stopped_past : (ts rest front : List Token) → ts ≡ front ++ rest → Goes q' stop front → Stopped q stop (t ∷ ts) rest
+  stopped_past : (ts rest front : List Token) → ts ≡ front ++ rest → MayContinue q' stop front → Stopped q stop (t ∷ ts) rest
   stopped_past ts rest [] e v = record {
     front = t ∷ [];
     split = ap (λ ts. t ∷ ts) e;

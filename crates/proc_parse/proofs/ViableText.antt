@@ -18,7 +18,7 @@ use Rattle.proc_parse.specs.Grammar.{table, parameters, procedure_of, procedure,
 use Rattle.proc_parse.specs.Shorter.{shortens_word, shortens_named, shortens_table, shortens_procedure, keeps_of, keeps_then, keeps_done, keeps_parameters, keeps_block}
 use Rattle.proc_parse.specs.Faults.{place_of, IsViable, IsBehindViable}
 use Rattle.proc_parse.proofs.Halts.{has_last, some_left}
-use Rattle.proc_parse.proofs.Viable.{Accepts, Goes, Case, Whole, any, whole_done, whole_maybe}
+use Rattle.proc_parse.proofs.Viable.{Accepts, MayContinue, Case, Whole, any, whole_done, whole_maybe}
 use Rattle.proc_parse.proofs.ViableForms.{whole_many}
 use Rattle.proc_parse.proofs.ViableRules.{token, viable_table, viable_procedure}
 
@@ -71,7 +71,7 @@ end_token = token lexeme.End
 finished : (front : List Token) (app : App) → Accepts (body_of deeper_procedure) front app end_token → deeper_application (front ++ (end_token ∷ [])) ≡ Ok (app, [])
 finished front app a = by_body deeper_procedure (front ++ (end_token ∷ [])) ∙ ap (λ (r : Read App). on_read r finish) (a.reads [])
 
-goes_viable : (front : List Token) → Goes (body_of deeper_procedure) is_end front → IsViable front
+goes_viable : (front : List Token) → MayContinue (body_of deeper_procedure) is_end front → IsViable front
 goes_viable [] v = record {
   more = whole_body.phrase.tokens ++ (end_token ∷ []);
   app = whole_body.phrase.tree;

@@ -2,7 +2,7 @@
 use Rattle.std.specs.Prelude.{◌≡◌, ℕ, List, [], ◌∷◌, ◌++◌, Option, Some, None, Result, Ok, Err}
 use Rattle.proc_syntax.specs.declared.tree.App.{App}
 use Rattle.proc_parse.specs.declared.token.Token.{Token}
-use Rattle.proc_parse.specs.declared.lexer.Place.{Place}
+use Rattle.proc_parse.specs.declared.lexer.Position.{Position}
 use Rattle.proc_parse.specs.declared.parser.ParseFault.{ParseFault}
 use Rattle.proc_parse.specs.declared.parser.ParseFault.TheVariants as fault
 use Rattle.proc_parse.specs.Tokens.{start, tokens_of}
@@ -10,16 +10,16 @@ use Rattle.proc_parse.specs.Reading.{Read}
 use Rattle.proc_parse.specs.Grammar.{application, deeper_application}
 
 -- the place of the first of some tokens
-abbrev pub place_of : List Token → Place
+abbrev pub place_of : List Token → Position
 place_of [] = start
 place_of (t ∷ ts) = record { line = t.line; col = t.col }
 
-abbrev pub fault_in : {A : Type 0} → Read A → Option Place
+abbrev pub fault_in : {A : Type 0} → Read A → Option Position
 fault_in (Ok x) = None
 fault_in (Err rest) = Some (place_of rest)
 
 -- the place of the first token that has none in an application
-abbrev pub fault_at : List ℕ → Option Place
+abbrev pub fault_at : List ℕ → Option Position
 fault_at text = fault_in (application (tokens_of text))
 
 -- a token of these stands at the place, and whatever follows it, the grammar stops at it: no continuation of what stands before it allows it

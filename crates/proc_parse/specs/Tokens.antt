@@ -16,7 +16,7 @@ use Rattle.proc_parse.specs.declared.token.Lexeme.TheVariants as lexeme
 use Rattle.proc_parse.specs.declared.token.Token.{Token}
 use Rattle.proc_parse.specs.declared.lexer.Piece.{Piece}
 use Rattle.proc_parse.specs.declared.lexer.Piece.TheVariants as piece
-use Rattle.proc_parse.specs.declared.lexer.Place.{Place}
+use Rattle.proc_parse.specs.declared.lexer.Position.{Position}
 use Rattle.proc_parse.specs.Words.{spelling, words, mark, signs}
 
 -- what stands at the front of some bytes, and the bytes after it
@@ -110,7 +110,7 @@ piece_at (b ∷ bs) =
     (sign_piece (b ∷ bs)))))))
 
 -- the place behind a piece of so many bytes
-abbrev pub moved : Piece → ℕ → Place → Place
+abbrev pub moved : Piece → ℕ → Position → Position
 moved piece.Newline n place = record { line = place.line + 1; col = 1 }
 moved piece.Blank n place = record { line = place.line; col = place.col + n }
 moved (piece.Token l) n place = record { line = place.line; col = place.col + n }
@@ -126,17 +126,17 @@ ends (piece.Token l) = is_last l
 ends _ = false
 
 -- a token in front of those behind it
-abbrev pub put : Piece → Place → List Token → List Token
+abbrev pub put : Piece → Position → List Token → List Token
 put piece.Newline place behind = behind
 put piece.Blank place behind = behind
 put (piece.Token l) place behind = record { lexeme = l; line = place.line; col = place.col } ∷ cond (is_last l) [] behind
 
 -- the tokens from a place on; each piece takes a byte at least, so one step more than there are bytes is enough
-abbrev pub tokens_in : ℕ → Place → List ℕ → List Token
+abbrev pub tokens_in : ℕ → Position → List ℕ → List Token
 tokens_in zero place bytes = []
 tokens_in (suc steps) place bytes = put (piece_at bytes).0 place (tokens_in steps (moved (piece_at bytes).0 (length bytes - length (piece_at bytes).1) place) (piece_at bytes).1)
 
-abbrev pub start : Place
+abbrev pub start : Position
 start = record { line = 1; col = 1 }
 
 -- the tokens of a text, of which the last is the end or the first that is bad

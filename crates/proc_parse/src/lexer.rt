@@ -30,7 +30,7 @@ pub enum Piece {
 
 /// A line and a column, from 1, columns in bytes.
 #[derive(Clone, Copy, Debug, PartialEq, Eq)]
-pub struct Place {
+pub struct Position {
     pub line: u32,
     pub col: u32,
 }
@@ -180,18 +180,18 @@ fn next_piece(alloc: Global, bytes: &[u8]) -> Result<(Piece, &[u8]), NoMemory>
 }
 
 /// The place behind a piece of so many bytes.
-fn moved(piece: &Piece, len: usize, place: Place) -> Place
+fn moved(piece: &Piece, len: usize, place: Position) -> Position
     requires line { place.line + len < 2 ^ 32 }
     requires col { place.col + len < 2 ^ 32 }
     requires newline { piece.now ≡ Piece.Newline → 0 < len }
     ensures { result ≡ moved piece.now len place }
 {
     match piece {
-        Piece::Newline => Place {
+        Piece::Newline => Position {
             line: place.line + 1,
             col: 1,
         },
-        Piece::Blank | Piece::Token(_) => Place {
+        Piece::Blank | Piece::Token(_) => Position {
             line: place.line,
             col: place.col + len as u32,
         },
@@ -206,7 +206,7 @@ fn is_last(lexeme: &Lexeme) -> bool
 }
 
 /// Puts the token of a piece at the end, and answers whether it is the last one.
-fn put(tokens: &mut List<Token>, piece: Piece, place: Place) -> Result<bool, NoMemory>
+fn put(tokens: &mut List<Token>, piece: Piece, place: Position) -> Result<bool, NoMemory>
     ensures tokens { IfOk result (λ last. (behind : List Token) → tokens.old ++ put piece place behind ≡ tokens.new ++ unless_last last behind) }
     ensures last { IfOk result (λ last. last ≡ ends piece) }
 {
@@ -232,7 +232,7 @@ pub fn tokens(alloc: Global, text: &[u8]) -> Result<List<Token>, NoMemory>
 {
     let mut tokens = List::new(alloc);
     let mut rest = text;
-    let mut place = Place { line: 1, col: 1 };
+    let mut place = Position { line: 1, col: 1 };
     loop {
         let (piece, after) = next_piece(alloc, rest)?;
         let next = moved(&piece, rest.len() - after.len(), place);

@@ -6,7 +6,7 @@ ghost use Rattle.proc_parse.specs.Grammar.{app_of};
 ghost use Rattle.proc_parse.specs.Faults.{place_of, fault_at, IfSyntax, IsBehindViable, IsRefused};
 
 use crate::declarations::application;
-use crate::lexer::{Place, tokens};
+use crate::lexer::{Position, tokens};
 use crate::phrase::Stop;
 use crate::token::Token;
 use proc_syntax::App;
@@ -33,15 +33,15 @@ impl From<NoMemory> for ParseFault {
 }
 
 /// The place of the first of some tokens.
-fn place_of(tokens: &[Token]) -> Place
+fn place_of(tokens: &[Token]) -> Position
     ensures { result ≡ place_of tokens.now }
 {
     match tokens {
-        [first, ..] => Place {
+        [first, ..] => Position {
             line: first.line,
             col: first.col,
         },
-        [] => Place { line: 1, col: 1 },
+        [] => Position { line: 1, col: 1 },
     }
 }
 
@@ -49,7 +49,7 @@ fn place_of(tokens: &[Token]) -> Place
 fn fault_at(rest: &[Token]) -> ParseFault
     ensures { result ≡ ParseFault.Syntax (place_of rest.now).line (place_of rest.now).col }
 {
-    let Place { line, col } = place_of(rest);
+    let Position { line, col } = place_of(rest);
     ParseFault::Syntax { line, col }
 }
 

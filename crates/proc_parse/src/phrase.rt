@@ -64,7 +64,7 @@ impl Token {
     }
 }
 
-/// Goes past a word, if it is the first token.
+/// MayContinue past a word, if it is the first token.
 pub fn past_word(tokens: &[Token], word: Word) -> Option<&[Token]>
     ensures { option_copied result ≡ past (is_word word) tokens.now }
 {
@@ -84,7 +84,7 @@ pub fn begins(tokens: &[Token], word: Word) -> bool
     }
 }
 
-/// Goes past a sign, if it is the first token.
+/// MayContinue past a sign, if it is the first token.
 pub fn past_sign(tokens: &[Token], sign: Sign) -> Option<&[Token]>
     ensures { option_copied result ≡ past (is_sign sign) tokens.now }
 {

@@ -9,7 +9,7 @@ use Rattle.proc_parse.specs.declared.token.Lexeme.{Lexeme}
 use Rattle.proc_parse.specs.declared.token.Lexeme.TheVariants as lexeme
 use Rattle.proc_parse.specs.declared.lexer.Piece.{Piece}
 use Rattle.proc_parse.specs.declared.lexer.Piece.TheVariants as piece
-use Rattle.proc_parse.specs.declared.lexer.Place.{Place}
+use Rattle.proc_parse.specs.declared.lexer.Position.{Position}
 use Rattle.proc_parse.specs.Words.{words}
 use Rattle.proc_parse.specs.Tokens.{word_in, piece_at, moved, is_last, put, tokens_in, tokens_of, start}
 use Rattle.proc_parse.proofs.Pieces.{piece_shorter}
@@ -33,12 +33,12 @@ lexemes_cond : (b : Bool) (ts : List Token) → lexemes (cond b [] ts) ≡ cond 
 lexemes_cond true ts = refl
 lexemes_cond false ts = refl
 
-lexemes_put : (p : Piece) (place : Place) (behind : List Token) → lexemes (put p place behind) ≡ plain p (lexemes behind)
+lexemes_put : (p : Piece) (place : Position) (behind : List Token) → lexemes (put p place behind) ≡ plain p (lexemes behind)
 lexemes_put piece.Newline place behind = refl
 lexemes_put piece.Blank place behind = refl
 lexemes_put (piece.Token l) place behind = ap (λ ls. l ∷ ls) (lexemes_cond (is_last l) behind)
 
-lexed : (steps : ℕ) (place : Place) (bytes : List ℕ) → lexemes (tokens_in steps place bytes) ≡ lex_in steps bytes
+lexed : (steps : ℕ) (place : Position) (bytes : List ℕ) → lexemes (tokens_in steps place bytes) ≡ lex_in steps bytes
 lexed zero place bytes = refl
 lexed (suc steps) place bytes =
     lexemes_put (piece_at bytes).0 place (tokens_in steps (moved (piece_at bytes).0 (length bytes - length (piece_at bytes).1) place) (piece_at bytes).1)

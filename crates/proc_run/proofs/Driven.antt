@@ -18,7 +18,7 @@ use Rattle.proc_syntax.proofs.Merging.{keyed_sorted}
 use Rattle.proc_syntax.proofs.Runs.{few_reads}
 use Rattle.proc_syntax.proofs.Sound.{all_push}
 use Rattle.proc_run.specs.Remains.{StandInOrder}
-use Rattle.proc_run.specs.Told.{Agrees}
+use Rattle.proc_run.specs.MachineView.{Agrees}
 
 -- the rows of a read of tables that fit stand in order
 pub order_of : (declared : List TableDef) (read : Read) (rows : List Seen) (S : Tables) → TablesFit declared S → rows ≡ rows_in declared read S → StandInOrder declared read rows

@@ -18,15 +18,15 @@ use Rattle.proc_syntax.specs.Values.{flag_of}
 use Rattle.proc_code.specs.declared.tree.Action.{Action, Action-F, fold-roll-Action, ind-Action, map-Action, roll-Action}
 use Rattle.proc_code.specs.declared.tree.Action.TheOpen as action
 use Rattle.proc_code.specs.Coded.{State, Outcome, hold, table_at, worth_of, worths_of, end_worth, sets_worth, do_step, do_action, do_all}
-use Rattle.proc_run.specs.declared.place.Spot.{Spot}
+use Rattle.proc_run.specs.declared.path.Spot.{Spot}
 use Rattle.proc_run.specs.declared.plan.Pending.{Pending}
 use Rattle.proc_run.specs.declared.plan.Pending.TheVariants.{Insert, Update, Delete, Get, For}
 use Rattle.proc_run.specs.declared.state.Phase.{Phase}
 use Rattle.proc_run.specs.declared.state.Phase.TheVariants as phase
-use Rattle.proc_run.specs.Place.{Frame, Rest, Rows, part_of, block_of, frames_of}
-use Rattle.proc_run.specs.declared.place.Branch.TheVariants.{First, Second}
+use Rattle.proc_run.specs.Path.{Frame, Rest, Rows, part_of, block_of, frames_of}
+use Rattle.proc_run.specs.declared.path.Branch.TheVariants.{First, Second}
 use Rattle.proc_run.specs.Remains.{waits, seen_in, resume, answered, run_frame, run_frames, remains}
-use Rattle.proc_run.specs.Told.{IsNext, want_of}
+use Rattle.proc_run.specs.MachineView.{IsNextWant, want_of}
 
 abbrev pub state_of : Outcome → State
 state_of (Going st) = st
@@ -154,7 +154,7 @@ module _ (declared : List TableDef) (columns : List (List (Option ℕ))) (S : Ta
 
   -- what a run waits for is its next read, or its end
   pub next_is : (root : List Action) (now : Phase) (path : List Spot) (st : State) → waits now ≡ true
-      → IsNext (want_of now) declared S st.made (state_of (remains declared columns S root now path st)).made
+      → IsNextWant (want_of now) declared S st.made (state_of (remains declared columns S root now path st)).made
   next_is root phase.Running path st w = cc
   next_is root (phase.Ask at read what) path st w =
       let got : Made = record { read = read; rows = rows_in declared read S } in

@@ -13,12 +13,12 @@ use Rattle.proc_syntax.specs.declared.run.Stop.TheVariants as stop
 use Rattle.proc_syntax.specs.Steps.{Going, Stopped, then_do, step_then, with_value, held_or, each_held}
 use Rattle.proc_code.specs.declared.tree.Action.{Action}
 use Rattle.proc_code.specs.Coded.{State, Outcome, hold, do_action, do_all}
-use Rattle.proc_run.specs.declared.place.Branch.{Branch}
-use Rattle.proc_run.specs.declared.place.Branch.TheVariants.{First, Second}
-use Rattle.proc_run.specs.declared.place.Spot.{Spot}
-use Rattle.proc_run.specs.declared.place.Spot.TheVariants as spot
+use Rattle.proc_run.specs.declared.path.Branch.{Branch}
+use Rattle.proc_run.specs.declared.path.Branch.TheVariants.{First, Second}
+use Rattle.proc_run.specs.declared.path.Spot.{Spot}
+use Rattle.proc_run.specs.declared.path.Spot.TheVariants as spot
 use Rattle.proc_run.specs.declared.plan.Plan.{Plan}
-use Rattle.proc_run.specs.Place.{Frame, part_of, step_into, block_of, frame_at, frames_of}
+use Rattle.proc_run.specs.Path.{Frame, part_of, step_into, block_of, frame_at, frames_of}
 use Rattle.proc_run.specs.Planned.{plan_of}
 use Rattle.proc_run.specs.Remains.{do_plan, run_frame, run_frames}
 use Rattle.proc_run.proofs.Planning.{goes_at}

@@ -21,8 +21,8 @@ use Rattle.proc_run.specs.declared.plan.Pending.{Pending}
 use Rattle.proc_run.specs.declared.plan.Pending.TheVariants as pending
 use Rattle.proc_run.specs.declared.plan.Plan.{Plan}
 use Rattle.proc_run.specs.declared.plan.Plan.TheVariants as plan
-use Rattle.proc_run.specs.declared.place.Branch.TheVariants.{First, Second}
-use Rattle.proc_run.specs.Place.{first_block, second_block, block_in, part_of}
+use Rattle.proc_run.specs.declared.path.Branch.TheVariants.{First, Second}
+use Rattle.proc_run.specs.Path.{first_block, second_block, block_in, part_of}
 use Rattle.proc_run.specs.Planned.{plan_step, plan_of, PlanFits}
 use Rattle.proc_run.specs.Remains.{seen_by, resume, do_plan}
 

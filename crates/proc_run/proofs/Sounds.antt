@@ -19,16 +19,16 @@ use Rattle.proc_code.specs.declared.tree.AppCode.{AppCode}
 use Rattle.proc_code.specs.Coded.{Outcome, State}
 use Rattle.proc_code.specs.Resolved.{code_of}
 use Rattle.proc_code.proofs.Coded_runs.{code_runs}
-use Rattle.proc_run.specs.declared.place.Branch.TheVariants.{Whole, First, Second}
-use Rattle.proc_run.specs.declared.place.Spot.{Spot}
-use Rattle.proc_run.specs.declared.place.Spot.TheVariants.{Block}
+use Rattle.proc_run.specs.declared.path.Branch.TheVariants.{Whole, First, Second}
+use Rattle.proc_run.specs.declared.path.Spot.{Spot}
+use Rattle.proc_run.specs.declared.path.Spot.TheVariants.{Block}
 use Rattle.proc_run.specs.declared.plan.Pending.{Pending}
 use Rattle.proc_run.specs.declared.state.Phase.{Phase}
 use Rattle.proc_run.specs.declared.state.Phase.TheVariants as phase
 use Rattle.proc_run.specs.declared.state.Run.{Run}
-use Rattle.proc_run.specs.Place.{body_at, block_of, frames_of, part_of}
+use Rattle.proc_run.specs.Path.{body_at, block_of, frames_of, part_of}
 use Rattle.proc_run.specs.Remains.{state, answered, remains, run_frames, waits, has_rows, PhaseFits, StandInOrder}
-use Rattle.proc_run.specs.Told.{Agrees, GivenInOrder, IsBegun, IsNext, IsSound, WantFits, given_of, held_of, want_of}
+use Rattle.proc_run.specs.MachineView.{Agrees, GivenInOrder, IsBegun, IsNextWant, IsSound, WantFits, given_of, held_of, want_of}
 use Rattle.proc_run.proofs.Growing.{next_is, reads_are, state_of}
 
 -- ---- lists of answers
@@ -157,10 +157,10 @@ module _ (app : App) (tx : Tx) (time : ℤ) (number : ℕ) where
 
   -- what a machine tells is the next read of the run, or its end
   pub next_told : (now : Phase) (path : List Spot) (going : Run) (told : Bool) (fed : List Made) (S : Tables) → IsSound app tx time number now path going told → waits now ≡ true → fed ≡ going.made.items ++ given_of now
-      → Agrees declared S fed → IsNext (want_of now) declared S fed (meaning.run app tx time S).reads
+      → Agrees declared S fed → IsNextWant (want_of now) declared S fed (meaning.run app tx time S).reads
   next_told now path going told fed S s w is a =
       let b : Agrees declared S (going.made.items ++ given_of now) = subst (Agrees declared S) is a in
       let made : going.made.items ≡ fed = sym (is ∙ ap (λ l. going.made.items ++ l) (waits_none now w) ∙ append-nil going.made.items) in
       let reads : (state_of (left S now path going)).made ≡ (meaning.run app tx time S).reads = sym (reads_are declared S (left S now path going)) ∙ ap (λ r. r.reads) (s.follows S b) in
-      subst (λ all. IsNext (want_of now) declared S fed all) reads
-      (subst (λ fed. IsNext (want_of now) declared S fed (state_of (left S now path going)).made) made (next_is declared (code_of app).columns S (body_at (code_of app) number) now path (state going) w))
+      subst (λ all. IsNextWant (want_of now) declared S fed all) reads
+      (subst (λ fed. IsNextWant (want_of now) declared S fed (state_of (left S now path going)).made) made (next_is declared (code_of app).columns S (body_at (code_of app) number) now path (state going) w))

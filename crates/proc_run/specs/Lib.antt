@@ -1,4 +1,4 @@
-pub mod Place
+pub mod Path
 pub mod Planned
 pub mod Remains
-pub mod Told
+pub mod MachineView

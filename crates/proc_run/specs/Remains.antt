@@ -19,10 +19,10 @@ use Rattle.proc_eval.specs.declared.halt.Halt.{Halt}
 use Rattle.proc_eval.specs.declared.halt.Halt.TheVariants as halt
 use Rattle.proc_code.specs.declared.tree.Action.{Action}
 use Rattle.proc_code.specs.Coded.{State, Outcome, put, hold, do_all}
-use Rattle.proc_run.specs.declared.place.Branch.{Branch}
-use Rattle.proc_run.specs.declared.place.Branch.TheVariants.{First, Second}
-use Rattle.proc_run.specs.declared.place.Spot.{Spot}
-use Rattle.proc_run.specs.declared.place.Spot.TheVariants.{Block}
+use Rattle.proc_run.specs.declared.path.Branch.{Branch}
+use Rattle.proc_run.specs.declared.path.Branch.TheVariants.{First, Second}
+use Rattle.proc_run.specs.declared.path.Spot.{Spot}
+use Rattle.proc_run.specs.declared.path.Spot.TheVariants.{Block}
 use Rattle.proc_run.specs.declared.plan.Pending.{Pending}
 use Rattle.proc_run.specs.declared.plan.Pending.TheVariants.{Insert, Update, Delete, Get, For}
 use Rattle.proc_run.specs.declared.plan.Plan.{Plan}
@@ -30,7 +30,7 @@ use Rattle.proc_run.specs.declared.plan.Plan.TheVariants as plan
 use Rattle.proc_run.specs.declared.state.Phase.{Phase}
 use Rattle.proc_run.specs.declared.state.Phase.TheVariants as phase
 use Rattle.proc_run.specs.declared.state.Run.{Run}
-use Rattle.proc_run.specs.Place.{Frame, Rest, Rows, part_of, block_of, frames_of}
+use Rattle.proc_run.specs.Path.{Frame, Rest, Rows, part_of, block_of, frames_of}
 
 abbrev pub state : Run → State
 state run = record { variables = run.slots; own = own_of run.own; made = run.made.items; steps = run.steps }

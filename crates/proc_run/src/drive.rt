@@ -4,7 +4,7 @@ ghost use Rattle.std.specs.Prelude.{◌≡◌, ◌+◌, ◌<◌, None, IfOk, OnO
 ghost use Rattle.rel_base.specs.Among.{ReadFitsIn, TablesFit, rows_in};
 ghost use Rattle.proc_syntax.specs.Declaring.{tables_of};
 ghost use Rattle.proc_syntax.specs.Run.{run};
-ghost use Rattle.proc_run.specs.Told.{Agrees};
+ghost use Rattle.proc_run.specs.MachineView.{Agrees};
 
 use crate::machine::Machine;
 use crate::state::Want;

@@ -9,11 +9,11 @@ ghost use Rattle.proc_syntax.specs.Declaring.{tables_of};
 ghost use Rattle.proc_syntax.specs.Run.{ran, ending_of};
 ghost use Rattle.proc_code.specs.Coded.{Slots};
 ghost use Rattle.proc_code.specs.declared.tree.Action.{Action as Act};
-ghost use Rattle.proc_run.specs.declared.place.Spot.{Spot as Place};
+ghost use Rattle.proc_run.specs.declared.path.Spot.{Spot as PathStep};
 ghost use Rattle.proc_run.specs.Remains.{state, remains, waits, has_rows, PhaseFits};
-ghost use Rattle.proc_run.specs.Told.{Agrees, GivenInOrder, IsResumed, IsSound, given_of, held_of, read_of, want_of};
+ghost use Rattle.proc_run.specs.MachineView.{Agrees, GivenInOrder, IsResumed, IsSound, given_of, held_of, read_of, want_of};
 
-use crate::place::{Program, Spot, body_at};
+use crate::path::{Program, Spot, body_at};
 use crate::resume::{Answer, resume};
 use crate::state::{Phase, Run, Want};
 use crate::turn::advance;
@@ -186,7 +186,7 @@ fn ending_of(stop: Stop) -> Ending
 pub fn gives(alloc: Global, phase: Phase, own: Overlay, made: Vec<Made>) -> Ran
     requires ended { waits phase ≡ true }
     requires nothing { read_of phase ≡ None }
-    ensures { (tables : List Def) (columns : List (List (Option ℕ))) (S : Tables) (root : List Act) (spots : List Place) (slots : Slots) (steps : ℕ) → AreFound tables S own
+    ensures { (tables : List Def) (columns : List (List (Option ℕ))) (S : Tables) (root : List Act) (spots : List PathStep) (slots : Slots) (steps : ℕ) → AreFound tables S own
         → result ≡ ran tables S (remains tables columns S root phase spots (record { variables = slots; own = own_of own; made = made.items; steps = steps })) }
 {
     match phase {

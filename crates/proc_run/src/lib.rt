@@ -4,7 +4,7 @@
 pub mod drive;
 pub mod going;
 pub mod machine;
-pub mod place;
+pub mod path;
 pub mod plan;
 pub mod resume;
 pub mod start;

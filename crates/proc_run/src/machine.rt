@@ -5,12 +5,12 @@ ghost use Rattle.rel_base.specs.Tables.{Tables};
 ghost use Rattle.proc_syntax.specs.Declaring.{tables_of};
 ghost use Rattle.proc_syntax.specs.Run.{run};
 ghost use Rattle.proc_run.specs.Remains.{StandInOrder};
-ghost use Rattle.proc_run.specs.declared.place.Branch.TheVariants.{Whole};
-ghost use Rattle.proc_run.specs.declared.place.Spot.TheVariants.{Block};
-ghost use Rattle.proc_run.specs.Told.{Agrees, IsNext, Tells, WantFits};
+ghost use Rattle.proc_run.specs.declared.path.Branch.TheVariants.{Whole};
+ghost use Rattle.proc_run.specs.declared.path.Spot.TheVariants.{Block};
+ghost use Rattle.proc_run.specs.MachineView.{Agrees, IsNextWant, Tells, WantFits};
 
 use crate::going::{gives, go_to_read, keep, wanted};
-use crate::place::{Branch, Spot};
+use crate::path::{Branch, Spot};
 use crate::start::begin_call;
 use crate::state::{Phase, Run, Want};
 use proc_check::Checked;
@@ -43,9 +43,9 @@ impl Model for Machine {
     ghost use Rattle.rel_base.specs.contracts.access.Read as read_code;
     ghost use Rattle.proc_syntax.specs.contracts.call.Tx as tx_code;
     ghost use Rattle.proc_syntax.specs.contracts.tree.App as app_code;
-    ghost use Rattle.proc_run.specs.Told.{Told, IsSound, given_of, read_of};
+    ghost use Rattle.proc_run.specs.MachineView.{MachineView, IsSound, given_of, read_of};
 
-    ghost Value = { Told };
+    ghost Value = { MachineView };
 
     ghost coded = { Prim.hlevel (codes, app_code.the_row.coded, tx_code.the_row.coded, made_code.the_row.coded, read_code.the_row.coded) };
 
@@ -100,7 +100,7 @@ impl Machine {
     pub fn next(&mut self) -> Result<Want, NoMemory>
         requires { self.old.asks ≡ None }
         ensures tells { IfOk result (λ want. Tells want self.old self.new) }
-        ensures reads { IfOk result (λ want. (S : Tables) → Agrees (tables_of self.old.app) S self.old.fed → IsNext want (tables_of self.old.app) S self.old.fed (run self.old.app self.old.tx self.old.time S).reads) }
+        ensures reads { IfOk result (λ want. (S : Tables) → Agrees (tables_of self.old.app) S self.old.fed → IsNextWant want (tables_of self.old.app) S self.old.fed (run self.old.app self.old.tx self.old.time S).reads) }
         ensures fits { IfOk result (λ want. WantFits (tables_of self.old.app) want) }
         ensures err { OnErr result (self.new ≡ self.old) }
     {

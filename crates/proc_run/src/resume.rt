@@ -12,11 +12,11 @@ ghost use Rattle.proc_syntax.specs.Steps.{asked, wrote, insert_at, update_at, de
 ghost use Rattle.proc_eval.specs.declared.halt.Halt.TheVariants as halt;
 ghost use Rattle.proc_code.specs.Coded.{do_all, hold};
 ghost use Rattle.proc_code.specs.declared.tree.Action.{Action as Act};
-ghost use Rattle.proc_run.specs.declared.place.Branch.TheVariants.{First, Second};
-ghost use Rattle.proc_run.specs.Place.{part_of, block_of, frames_of};
+ghost use Rattle.proc_run.specs.declared.path.Branch.TheVariants.{First, Second};
+ghost use Rattle.proc_run.specs.Path.{part_of, block_of, frames_of};
 ghost use Rattle.proc_run.specs.Remains.{state, seen_in, StandInOrder, at_key, answered, run_frames, Ends, Comes, KeepsFound};
 
-use crate::place::{Branch, Holder, Spot};
+use crate::path::{Branch, Holder, Spot};
 use crate::plan::{Pending, find_table};
 use crate::state::Run;
 use crate::turn::{hold, push_block, push_rows};

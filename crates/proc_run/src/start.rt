@@ -12,7 +12,7 @@ ghost use Rattle.proc_syntax.specs.declared.run.Stop.TheVariants as stop;
 ghost use Rattle.proc_code.specs.Coded.{begin, given};
 ghost use Rattle.proc_run.specs.declared.state.Phase.TheVariants as phase;
 ghost use Rattle.proc_run.specs.Remains.{state};
-ghost use Rattle.proc_run.specs.Told.{IsBegun};
+ghost use Rattle.proc_run.specs.MachineView.{IsBegun};
 
 use crate::state::{Phase, Run};
 use crate::turn::put;

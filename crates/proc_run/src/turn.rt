@@ -5,14 +5,14 @@ ghost use Rattle.rel_base.specs.Tables.{Tables};
 ghost use Rattle.rel_base.specs.declared.schema.TableDef.{TableDef as Def};
 ghost use Rattle.proc_syntax.specs.declared.run.Binding.TheVariants.{Held};
 ghost use Rattle.proc_code.specs.declared.tree.Action.{Action as Act};
-ghost use Rattle.proc_run.specs.declared.place.Spot.TheVariants as spot;
-ghost use Rattle.proc_run.specs.declared.place.Branch.TheVariants.{First, Second};
+ghost use Rattle.proc_run.specs.declared.path.Spot.TheVariants as spot;
+ghost use Rattle.proc_run.specs.declared.path.Branch.TheVariants.{First, Second};
 ghost use Rattle.proc_run.specs.declared.state.Phase.TheVariants as phase;
-ghost use Rattle.proc_run.specs.Place.{frames_of};
+ghost use Rattle.proc_run.specs.Path.{frames_of};
 ghost use Rattle.proc_run.specs.Planned.{PlanFits};
 ghost use Rattle.proc_run.specs.Remains.{state, goes_past, run_frames, remains, waits, has_rows, PhaseFits};
 
-use crate::place::{Branch, Cursor, Holder, Program, Spot, block_at, part};
+use crate::path::{Branch, Cursor, Holder, Program, Spot, block_at, part};
 use crate::plan::{Plan, plan_action};
 use crate::state::{MOST_STEPS, Phase, Run};
 use proc_eval::Halt;

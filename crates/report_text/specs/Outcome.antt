@@ -1,8 +1,8 @@
 -- The text of an outcome: `committed`, or `aborted` and the cause.
 use Rattle.std.specs.Prelude.{ℕ, Bool, true, false, List, [], ◌++◌, Some, None, Option, flat_map, slice_get, codes, decimal}
 use Rattle.literals.specs.Text.{text_literal}
-use Rattle.node_model.specs.declared.dangerous.Danger.{Danger}
-use Rattle.node_model.specs.declared.dangerous.Danger.TheVariants as danger
+use Rattle.node_model.specs.declared.danger.Danger.{Danger}
+use Rattle.node_model.specs.declared.danger.Danger.TheVariants as danger
 use Rattle.node_model.specs.declared.outcome.Clash.{Clash}
 use Rattle.node_model.specs.declared.outcome.Late.{Late}
 use Rattle.node_model.specs.declared.outcome.Outcome.{Outcome}

@@ -42,7 +42,7 @@ impl Model for Overlay {
     ghost use Rattle.rel_base.specs.Tables.{ref_cmp};
     ghost use Rattle.row_sets.specs.contracts.table_writes.OwnWrite as own_write;
     ghost use Rattle.row_sets.specs.Overlay.{Written, flat};
-    ghost use Rattle.row_sets.specs.Kept.{WellKept};
+    ghost use Rattle.row_sets.specs.Kept.{IsOverlay};
 
     ghost Value = { Written };
 
@@ -50,7 +50,7 @@ impl Model for Overlay {
 
     ghost view = { λ own. map.from_entries {R = ref_cmp} (flat own.tables.entries) };
 
-    ghost invariant = { λ own. WellKept own.tables own.count own.room };
+    ghost invariant = { λ own. IsOverlay own.tables own.count own.room };
 }
 
 /// Puts a row that was left at a key, or none, among the writes of its table: whether the key was not written before.

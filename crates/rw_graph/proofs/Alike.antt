@@ -5,8 +5,8 @@ use Rattle.std.specs.List.{list_any}
 use Rattle.std.specs.Option.{option_map, option_or}
 use Rattle.std.specs.Prelude.{find}
 use Rattle.node_model.specs.Danger.{danger_among, first_pair, is_form_one, is_form_two, with_partner}
-use Rattle.node_model.specs.declared.dangerous.Danger.TheVariants.{One, Two}
-use Rattle.node_model.specs.declared.dangerous.Danger.{Danger}
+use Rattle.node_model.specs.declared.danger.Danger.TheVariants.{One, Two}
+use Rattle.node_model.specs.declared.danger.Danger.{Danger}
 use Rattle.rw_graph.proofs.Lists.{In}
 
 module _ {M N : Type 0} (f : M → N) where

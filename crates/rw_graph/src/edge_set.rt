@@ -3,11 +3,11 @@
 ghost use Rattle.std.specs.Prelude.{ℕ, ◌≡◌, ◌<◌, ◌≤◌, ◌++◌, ◌∷◌, ◌&&◌, [], All, AllPairs, MatchOption, OnErr, OnOk, false, true, vec_capacity, vec_len};
 ghost use Rattle.rw_graph.specs.Held.{holds};
 ghost use Rattle.rw_graph.specs.Sets.{AreAmong, IsLeastFrom, is_among};
-ghost use Rattle.rw_graph.specs.Sides.{comes_in, goes_out};
+ghost use Rattle.rw_graph.specs.Sides.{edge_in, edge_out};
 
 use crate::bits::Bits;
-use crate::row::Edges;
-use crate::rows::{grow, join, least_out, row_at};
+use crate::edges::Edges;
+use crate::edge_rows::{grow, join, least_out, row_at};
 use rel_base::NoMemory;
 use std::alloc::Global;
 
@@ -24,8 +24,8 @@ pub struct EdgeSet {
     ghost enough: { (pos : ℕ) → is_among positions.items pos ≡ true → pos ≤ vec_len rows },
     ghost rising: { AllPairs (λ p q. p < q) positions.items },
     ghost same_members: { (pos : ℕ) → holds members pos ≡ is_among positions.items pos },
-    ghost turned: { (from to : ℕ) → comes_in rows.items to from ≡ goes_out rows.items from to },
-    ghost between: { (from to : ℕ) → goes_out rows.items from to ≡ true → (is_among positions.items from && is_among positions.items to) ≡ true },
+    ghost turned: { (from to : ℕ) → edge_in rows.items to from ≡ edge_out rows.items from to },
+    ghost between: { (from to : ℕ) → edge_out rows.items from to ≡ true → (is_among positions.items from && is_among positions.items to) ≡ true },
 }
 
 impl EdgeSet {

@@ -9,7 +9,7 @@ ghost use Rattle.rel_base.specs.Late.{hits_in};
 ghost use Rattle.rw_graph.specs.Held.{holds};
 ghost use Rattle.rw_graph.specs.Fitting.{IsMember, ReadsFit, WritesFit};
 
-use crate::row::{Edges, no_edges};
+use crate::edges::{Edges, no_edges};
 use node_model::Committed;
 use rel_base::{List, Made, Read, TableDef, Write};
 

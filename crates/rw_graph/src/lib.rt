@@ -5,16 +5,16 @@ pub mod bits;
 pub mod edge_set;
 pub mod hits;
 pub mod laws;
-pub mod row;
-pub mod rows;
-pub mod verdict;
+pub mod edges;
+pub mod edge_rows;
+pub mod danger;
 pub mod word;
 
 pub use bits::Bits;
 pub use edge_set::EdgeSet;
 pub use hits::{edges_of, touches};
-pub use row::Edges;
-pub use verdict::danger;
+pub use edges::Edges;
+pub use danger::danger;
 
 #[cfg(test)]
 mod tests;

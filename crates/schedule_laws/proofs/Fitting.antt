@@ -35,14 +35,14 @@ abbrev read_after : List Made → List Made → Option Read
 read_after reads all = option_map (λ made. made.read) (slice_get all (length reads))
 
 -- the read that comes after the first ones, which then are one more
-record IsNext (reads all : List Made) : Type 0 where
+record IsNextMade (reads all : List Made) : Type 0 where
   pub made : Made
   pub is : slice_get all (length reads) ≡ Some made
   pub front : IsPrefix (reads ++ made ∷ []) all
 
-next_of : (reads all : List Made) → IsPrefix reads all → IsSome (read_after reads all) → IsNext reads all
+next_of : (reads all : List Made) → IsPrefix reads all → IsSome (read_after reads all) → IsNextMade reads all
 next_of reads all front some = by front.0 front.1 some where
-  by : (rest : List Made) → reads ++ rest ≡ all → IsSome (read_after reads all) → IsNext reads all
+  by : (rest : List Made) → reads ++ rest ≡ all → IsSome (read_after reads all) → IsNextMade reads all
   by [] is some = absurd (false≢true (sym (ap (λ o. is_some (option_map (λ (made : Made). made.read) o)) (ap (λ l. slice_get l (length reads)) (sym is) ∙ get-end reads)) ∙ some))
   by (y ∷ ys) is some = record {
     made = y;
@@ -146,7 +146,7 @@ module _ (app : App) (sealed : List Sealed) where
         cut = λ e. record { before = job.recorded.ran.reads; last = made_at app sealed job.tx n.made.read; ends = refl; front = front; hit = e };
       })
     where
-      n : IsNext job.recorded.ran.reads (run_at app sealed job.tx).reads
+      n : IsNextMade job.recorded.ran.reads (run_at app sealed job.tx).reads
       n = next_of job.recorded.ran.reads (run_at app sealed job.tx).reads (fits.front (ap is_held held)) some
 
       next : next_read app sealed job ≡ Some n.made.read

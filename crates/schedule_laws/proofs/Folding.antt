@@ -82,7 +82,7 @@ ready_decides app w work tx facts next ready =
 
 -- ---- what every step keeps
 
-pub record Goes (app : App) (w : World) : Type 0 where
+pub record FollowsTheFold (app : App) (w : World) : Type 0 where
   pub blocks : List Block
   pub delivered_are : delivered w.journal ≡ blocks ++ block_in w.work
   pub sealed : w.sealed ≡ fold app blocks
@@ -106,7 +106,7 @@ block_in_next : (app : App) (sealed : List Sealed) (jobs : List Job) (o : Option
 block_in_next app sealed jobs None = refl
 block_in_next app sealed jobs (Some work) = ap (λ block. block ∷ []) (block_of_due app sealed jobs work (due work))
 
-module _ (app : App) (w : World) (actor : ℕ) (facts : FactsHold app w) (goes : Goes app w) where
+module _ (app : App) (w : World) (actor : ℕ) (facts : FactsHold app w) (goes : FollowsTheFold app w) where
   abbrev with_entry : Event → List Entry
   with_entry event = w.journal ++ record { actor = actor; event = event } ∷ []
 
@@ -117,7 +117,7 @@ module _ (app : App) (w : World) (actor : ℕ) (facts : FactsHold app w) (goes :
       ∙ (ap (λ blocks. delivered w.journal ++ blocks) none ∙ (append-nil (delivered w.journal) ∙ goes.delivered_are))
 
   -- an event of jobs alone
-  of_jobs : (event : Event) (jobs : List Job) → delivery event ≡ [] → Goes app (record w { jobs = jobs; journal = with_entry event })
+  of_jobs : (event : Event) (jobs : List Job) → delivery event ≡ [] → FollowsTheFold app (record w { jobs = jobs; journal = with_entry event })
   of_jobs event jobs none = record {
     blocks = goes.blocks;
     delivered_are = quiet event none;
@@ -145,7 +145,7 @@ module _ (app : App) (w : World) (actor : ℕ) (facts : FactsHold app w) (goes :
         ∙ (ap (work_through app w.sealed number no_work) (sym first.0)
         ∙ ap (at_first app w.sealed can.work.block) (sym (one_more app w can.work can.tx)))))
 
-    committed_goes : Goes app (record w { work = commit_next app w.sealed w.jobs w.work; journal = with_entry (Commit pos) })
+    committed_goes : FollowsTheFold app (record w { work = commit_next app w.sealed w.jobs w.work; journal = with_entry (Commit pos) })
     committed_goes = record {
       blocks = goes.blocks;
       delivered_are = quiet (Commit pos) refl ∙ ap (λ blocks. goes.blocks ++ blocks) (sym (block_in_next app w.sealed w.jobs w.work));
@@ -164,7 +164,7 @@ module _ (app : App) (w : World) (actor : ℕ) (facts : FactsHold app w) (goes :
         ap (λ done. w.sealed ++ sealed_as work.block done ∷ []) whole
         ∙ (ap (λ chain. chain ++ seal app chain work.block ∷ []) goes.sealed ∙ sym (fold_more app goes.blocks work.block []))
 
-    sealed_goes : (jobs : List Job) → Goes app (record { sealed = w.sealed ++ sealed_as work.block work.done ∷ []; work = None; jobs = jobs; journal = with_entry (Seal number) })
+    sealed_goes : (jobs : List Job) → FollowsTheFold app (record { sealed = w.sealed ++ sealed_as work.block work.done ∷ []; work = None; jobs = jobs; journal = with_entry (Seal number) })
     sealed_goes jobs =
         let next = (facts.work_fits work in_work).next in
         let same = goes.count in
@@ -179,7 +179,7 @@ module _ (app : App) (w : World) (actor : ℕ) (facts : FactsHold app w) (goes :
           so_far = λ work is. absurd (none-some work is);
         }
 
-  goes_on : (event : Event) → Allows app w actor event → Goes app (after app w (record { actor = actor; event = event }))
+  goes_on : (event : Event) → Allows app w actor event → FollowsTheFold app (after app w (record { actor = actor; event = event }))
   goes_on (Arrive number tx) a = of_jobs (Arrive number tx) _ refl
   goes_on (Claim number) a = of_jobs (Claim number) _ refl
   goes_on (Read number) a = of_jobs (Read number) _ refl
@@ -197,12 +197,12 @@ module _ (app : App) (w : World) (actor : ℕ) (facts : FactsHold app w) (goes :
   }
   goes_on (Commit pos) a = committed_goes pos a.1
   goes_on (Seal number) a =
-      subst (λ o. Goes app (record { sealed = with_sealed w.sealed o; work = None; jobs = map (drop_over (with_sealed w.sealed o)) w.jobs; journal = with_entry (Seal number) })) (sym a.1.in_work)
+      subst (λ o. FollowsTheFold app (record { sealed = with_sealed w.sealed o; work = None; jobs = map (drop_over (with_sealed w.sealed o)) w.jobs; journal = with_entry (Seal number) })) (sym a.1.in_work)
       (sealed_goes number a.1.work a.1.in_work a.1.all_decided _)
 
 pub record Both (app : App) (w : World) : Type 0 where
   pub facts : FactsHold app w
-  pub goes : Goes app w
+  pub goes : FollowsTheFold app w
 
 both_from : (app : App) (w : World) (journal : List Entry) → Both app w → IsLegalFrom app w journal → Both app (world_from app w journal)
 both_from app w [] both legal = both

@@ -18,7 +18,7 @@ use Rattle.proc_syntax.specs.declared.call.Block.{Block}
 use Rattle.proc_syntax.specs.declared.call.Tx.{Tx}
 use Rattle.proc_syntax.specs.declared.tree.App.{App}
 use Rattle.rel_base.specs.declared.access.Read as access
-use Rattle.schedule_laws.proofs.Folding.{Goes, reached}
+use Rattle.schedule_laws.proofs.Folding.{FollowsTheFold, reached}
 use Rattle.schedule_laws.specs.Scheduled.{block_in}
 use Rattle.serial_laws.specs.Chained.{AreNumbered}
 use Rattle.schedule_sim.proofs.Bared.{world-more}
@@ -187,8 +187,8 @@ record IsSound (given : Given) (w : World) : Type 0 where
   pub front : IsPrefix (delivered w.journal) given.blocks
 
 module _ (given : Given) (w : World) (sound : IsSound given w) where
-  goes : Goes given.app w
-  goes = subst (Goes given.app) sound.state (reached given.app w.journal sound.legal).goes
+  goes : FollowsTheFold given.app w
+  goes = subst (FollowsTheFold given.app) sound.state (reached given.app w.journal sound.legal).goes
 
   sound_delivery : (taken : Step) (ask : Ask) (event : Event) → asked_by given w taken ≡ Some ask → (reply given.app w ask).1 ≡ Some event → IsPrefix (delivered w.journal ++ asked_block ask) given.blocks
   sound_delivery taken ask event is told = by taken is

@@ -18,7 +18,7 @@ use Rattle.schedule_sim.specs.Bare.{Tells, bare_journal, state_of}
 use Rattle.schedule_sim.specs.Running.{Given, if_all, scheduled, simulated, told_of}
 use Rattle.schedule_sim.specs.declared.simulation.SimFault.TheVariants as fault
 use Rattle.schedule_sim.specs.declared.step.Step.{Step}
-use Rattle.serial_laws.proofs.Told.{results_run}
+use Rattle.serial_laws.proofs.Results.{results_run}
 use Rattle.serial_laws.specs.InOrder.{EachInOrder}
 
 abbrev ok_with : NodeResult → Result NodeResult ℕ

@@ -15,7 +15,7 @@ use Rattle.tx_text.specs.Values.{alone}
 use Rattle.tx_text.proofs.Bytes.{same_bytes}
 use Rattle.tx_text.proofs.ListedItems.{listed_fine}
 use Rattle.tx_text.proofs.ListedText.{listed_spelled}
-use Rattle.tx_text.proofs.Takes.{Follows, after_takes}
+use Rattle.tx_text.proofs.Takes.{IsInFront, after_takes}
 use Rattle.schedule_sim.specs.declared.step.Step.{Step}
 use Rattle.schedule_sim.specs.declared.step.Step.TheVariants as step
 use Rattle.schedule_sim.specs.Steps.{IsActor, IsPick, IsStep, actor_of, as_actor, claim_of, number_of, pick_of, pick_text, step_of, step_text, step_with}
@@ -81,7 +81,7 @@ claim_both bytes rest actor (Some picked) whole same fine h = (
   (fine, h.1),
 )
 
-claim_behind : (bytes : List ℕ) (actor : ℕ) (rest : Option (List ℕ)) → word bytes ≡ decimal actor → IsActor actor → Follows (codes " ") (past_word bytes) rest
+claim_behind : (bytes : List ℕ) (actor : ℕ) (rest : Option (List ℕ)) → word bytes ≡ decimal actor → IsActor actor → IsInFront (codes " ") (past_word bytes) rest
     → SaysStep (codes "claim " ++ bytes) (option_map (λ picked. step.Claim actor picked) (option_and_then pick_of rest))
 claim_behind bytes actor None same fine h = tt
 claim_behind bytes actor (Some rest) same fine h = claim_both bytes rest actor (pick_of rest) (split bytes rest h) same fine (pick_said rest)
@@ -124,7 +124,7 @@ word_if : (line known : List ℕ) (made : Step) (test : Bool) (y : Option Step) 
 word_if line known made true y e text fine hy = (same_bytes line known e ∙ sym text, fine)
 word_if line known made false y e text fine hy = hy
 
-behind_said : (line : List ℕ) (rest : Option (List ℕ)) → Follows (codes " ") (past_word line) rest → SaysStep line (option_and_then (step_with (word line)) rest)
+behind_said : (line : List ℕ) (rest : Option (List ℕ)) → IsInFront (codes " ") (past_word line) rest → SaysStep line (option_and_then (step_with (word line)) rest)
 behind_said line None h = tt
 behind_said line (Some rest) h = with_said line (word line) rest (split line rest h)
 

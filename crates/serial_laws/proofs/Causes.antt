@@ -3,7 +3,7 @@ use Rattle.std.proofs.Common.{All, List, None, Option, Some, [], arith, cond, in
 use Rattle.node_model.specs.Danger.{danger}
 use Rattle.node_model.specs.Decide.{bad_call, by_run, clash, clash_at, conflict_outcome, danger_outcome, decide, duplicate, early, fault_outcome, first_shared, future, is_shared, late_outcome, or_committed, or_else, run_at, writes_since}
 use Rattle.node_model.specs.History.{Sealed, ids_of, ids_told}
-use Rattle.node_model.specs.declared.dangerous.Danger.{Danger}
+use Rattle.node_model.specs.declared.danger.Danger.{Danger}
 use Rattle.node_model.specs.declared.outcome.Outcome.TheVariants as outcome
 use Rattle.node_model.specs.declared.outcome.Outcome.{Outcome}
 use Rattle.node_model.specs.declared.result.Committed.{Committed}

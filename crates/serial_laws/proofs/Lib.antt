@@ -8,4 +8,4 @@ pub mod Past
 pub mod Folding
 pub mod Growing
 pub mod Positions
-pub mod Told
+pub mod Results

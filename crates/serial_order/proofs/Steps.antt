@@ -6,7 +6,7 @@ use Rattle.std.proofs.lemmas.List.{append-nil}
 use Rattle.node_model.specs.Order.{is_free, order, order_from, place, take_first}
 use Rattle.serial_order.proofs.Mapped.{take_first-map}
 use Rattle.serial_order.proofs.Taken.{IsTaken, Takes, here, taken, takes_length, there}
-use Rattle.serial_order.specs.Counts.{IsLeft, comers, entries, entry_of, has_none, lowered}
+use Rattle.serial_order.specs.Counts.{IsLeft, predecessors, entries, entry_of, has_none, lowered}
 use Rattle.serial_order.specs.declared.left.Left.{Left}
 
 sum_free : (b : Bool) (n : ℕ) (c : Bool) → (n == 0) ≡ c → ((cond b 1 0 + n) == 0) ≡ (not b && c)
@@ -14,19 +14,19 @@ sum_free true n c e = ⊎_elim (λ same. absurd (omega (arith, same.1))) (λ oth
 sum_free false n c e = let same : 0 + n ≡ n = omega arith in ap (λ m. m == 0) same ∙ e
 
 module _ (has : ℕ → ℕ → Bool) where
-  comers_free : (set : List ℕ) (to : ℕ) → (comers has set to == 0) ≡ is_free has set to
+  comers_free : (set : List ℕ) (to : ℕ) → (predecessors has set to == 0) ≡ is_free has set to
   comers_free [] to = refl
-  comers_free (from ∷ rest) to = sum_free (has from to) (comers has rest to) _ (comers_free rest to)
+  comers_free (from ∷ rest) to = sum_free (has from to) (predecessors has rest to) _ (comers_free rest to)
 
-  comers_takes : {from : ℕ} (to : ℕ) (set rest : List ℕ) → Takes from set rest → comers has set to ≡ cond (has from to) 1 0 + comers has rest to
+  comers_takes : {from : ℕ} (to : ℕ) (set rest : List ℕ) → Takes from set rest → predecessors has set to ≡ cond (has from to) 1 0 + predecessors has rest to
   comers_takes to set rest here = refl
   comers_takes to set rest (there {xs = xs} {rest = more} t) = let e = comers_takes to xs more t in omega (arith, e)
 
   lowered_entries : {from : ℕ} (set rest : List ℕ) → Takes from set rest → (ys : List ℕ) → map (lowered has from) (map (entry_of has set) ys) ≡ map (entry_of has rest) ys
   lowered_entries set rest t [] = refl
   lowered_entries {from} set rest t (y ∷ ys) =
-      let e : comers has set y - cond (has from y) 1 0 ≡ comers has rest y = omega (arith, comers_takes y set rest t) in
-      ap (λ n. record { pos = y; comers = n } ∷ map (lowered has from) (map (entry_of has set) ys)) e ∙ ap (λ l. entry_of has rest y ∷ l) (lowered_entries set rest t ys)
+      let e : predecessors has set y - cond (has from y) 1 0 ≡ predecessors has rest y = omega (arith, comers_takes y set rest t) in
+      ap (λ n. record { pos = y; predecessors = n } ∷ map (lowered has from) (map (entry_of has set) ys)) e ∙ ap (λ l. entry_of has rest y ∷ l) (lowered_entries set rest t ys)
 
   abbrev both : List ℕ → ℕ × List ℕ → Left × List Left
   both set taken = (entry_of has set taken.0, map (entry_of has set) taken.1)

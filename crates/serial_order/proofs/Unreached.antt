@@ -1,6 +1,6 @@
 -- Positions without an edge.
 use Rattle.std.proofs.Common.{ap, arith, cond, map, refl, sym, Bool, List, false, [], ◌+◌, ◌-◌, ◌∙◌, ◌≡◌, ◌∷◌, ℕ}
-use Rattle.serial_order.specs.Counts.{comers, lowered}
+use Rattle.serial_order.specs.Counts.{predecessors, lowered}
 use Rattle.serial_order.specs.declared.left.Left.{Left}
 
 plus : (n : ℕ) → 0 + n ≡ n
@@ -11,13 +11,13 @@ minus n = omega arith
 
 module _ (has : ℕ → ℕ → Bool) where
   -- no position has an edge to one to which none comes
-  pub comers_none : (to : ℕ) (set : List ℕ) → ((from : ℕ) → has from to ≡ false) → comers has set to ≡ 0
+  pub comers_none : (to : ℕ) (set : List ℕ) → ((from : ℕ) → has from to ≡ false) → predecessors has set to ≡ 0
   comers_none to [] none = refl
-  comers_none to (from ∷ rest) none = ap (λ b. cond b 1 0 + comers has rest to) (none from) ∙ plus (comers has rest to) ∙ comers_none to rest none
+  comers_none to (from ∷ rest) none = ap (λ b. cond b 1 0 + predecessors has rest to) (none from) ∙ plus (predecessors has rest to) ∙ comers_none to rest none
 
   -- an entry keeps its count when one is placed from which no edge leads
   kept : (from : ℕ) (entry : Left) → ((to : ℕ) → has from to ≡ false) → lowered has from entry ≡ entry
-  kept from entry none = ap (λ b. record { pos = entry.pos; comers = entry.comers - cond b 1 0 }) (none entry.pos) ∙ ap (λ n. record { pos = entry.pos; comers = n }) (minus entry.comers)
+  kept from entry none = ap (λ b. record { pos = entry.pos; predecessors = entry.predecessors - cond b 1 0 }) (none entry.pos) ∙ ap (λ n. record { pos = entry.pos; predecessors = n }) (minus entry.predecessors)
 
   pub lowered_none : (from : ℕ) (left : List Left) → ((to : ℕ) → has from to ≡ false) → left ≡ map (lowered has from) left
   lowered_none from [] none = refl

@@ -9,23 +9,23 @@ abbrev pub IsTakenAt : {A : Type 0} → (A → Bool) → List A → ℕ → Type
 IsTakenAt {A} test list index = (index < length list) × ((d : A) → take_first test list ≡ Some (slice_index_or list index d, remove list index))
 
 -- how many of some positions have an edge to a position
-abbrev pub comers : (ℕ → ℕ → Bool) → List ℕ → ℕ → ℕ
-comers has [] to = 0
-comers has (from ∷ rest) to = cond (has from to) 1 0 + comers has rest to
+abbrev pub predecessors : (ℕ → ℕ → Bool) → List ℕ → ℕ → ℕ
+predecessors has [] to = 0
+predecessors has (from ∷ rest) to = cond (has from to) 1 0 + predecessors has rest to
 
 -- a position among some that are left
 abbrev pub entry_of : (ℕ → ℕ → Bool) → List ℕ → ℕ → Left
-entry_of has set to = record { pos = to; comers = comers has set to }
+entry_of has set to = record { pos = to; predecessors = predecessors has set to }
 
 abbrev pub entries : (ℕ → ℕ → Bool) → List ℕ → List Left
 entries has set = map (entry_of has set) set
 
 abbrev pub has_none : Left → Bool
-has_none entry = entry.comers == 0
+has_none entry = entry.predecessors == 0
 
 -- an entry once a position is placed
 abbrev pub lowered : (ℕ → ℕ → Bool) → ℕ → Left → Left
-lowered has from entry = record { pos = entry.pos; comers = entry.comers - cond (has from entry.pos) 1 0 }
+lowered has from entry = record { pos = entry.pos; predecessors = entry.predecessors - cond (has from entry.pos) 1 0 }
 
 -- what the entries that are left and the list made so far are to the whole order
 pub record IsLeft (has : ℕ → ℕ → Bool) (all : List ℕ) (left : List Left) (list : List ℕ) : Type 0 where

@@ -4,5 +4,5 @@
 #[derive(Clone, Copy)]
 pub struct Left {
     pub pos: u32,
-    pub comers: usize,
+    pub predecessors: usize,
 }

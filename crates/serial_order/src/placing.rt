@@ -4,7 +4,7 @@ ghost use Rattle.std.specs.Prelude.{ℕ, Bool, IfOk, IfSome, List, MatchOption, 
 ghost use Rattle.node_model.specs.Order.{IsSerialOrder, order, take_first};
 ghost use Rattle.rw_graph.specs.Graph.{has_edge, positions_of};
 ghost use Rattle.serial_order.specs.Cycles.{HasNoCycle};
-ghost use Rattle.serial_order.specs.Counts.{IsTakenAt, comers, entries, has_none, lowered};
+ghost use Rattle.serial_order.specs.Counts.{IsTakenAt, predecessors, entries, has_none, lowered};
 
 use crate::left::Left;
 use rel_base::{List, NoMemory};
@@ -30,7 +30,7 @@ fn is_reached(set: &EdgeSet, to: u32) -> bool
 
 // How many edges come to a position, of which there may be some.
 fn count_each(set: &EdgeSet, to: u32) -> usize
-    ensures { result ≡ comers (has_edge set.now) (positions_of set.now) to }
+    ensures { result ≡ predecessors (has_edge set.now) (positions_of set.now) to }
 {
     let mut count = 0;
     for from in set.positions() {
@@ -43,7 +43,7 @@ fn count_each(set: &EdgeSet, to: u32) -> usize
 
 // How many edges come to a position. Most positions have none, which their row of bits tells at once.
 fn count_to(set: &EdgeSet, to: u32) -> usize
-    ensures { result ≡ comers (has_edge set.now) (positions_of set.now) to }
+    ensures { result ≡ predecessors (has_edge set.now) (positions_of set.now) to }
 {
     if is_reached(set, to) {
         count_each(set, to)
@@ -60,7 +60,7 @@ fn counted(alloc: Global, set: &EdgeSet) -> Result<Vec<Left>, NoMemory>
     for to in set.positions() {
         left.push(Left {
             pos: *to,
-            comers: count_to(set, *to),
+            predecessors: count_to(set, *to),
         })?;
     }
     Ok(left)
@@ -73,7 +73,7 @@ fn lowered_entry(set: &EdgeSet, from: u32, entry: Left) -> Left
     if set.has(from, entry.pos) {
         Left {
             pos: entry.pos,
-            comers: entry.comers.saturating_sub(1),
+            predecessors: entry.predecessors.saturating_sub(1),
         }
     } else {
         entry
@@ -105,7 +105,7 @@ fn first_free(left: &[Left]) -> Option<usize>
     ensures { MatchOption result (take_first has_none left.now ≡ None) (λ index. IsTakenAt has_none left.now index) }
 {
     for index in 0..left.len() {
-        if left[index].comers == 0 {
+        if left[index].predecessors == 0 {
             return Some(index);
         }
     }

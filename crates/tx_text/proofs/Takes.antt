@@ -64,21 +64,21 @@ int_takes [] = tt
 int_takes (b ∷ bs) = int_begins b bs (b == minus) refl
 
 -- what follows some bytes that stand in front
-abbrev pub Follows : List ℕ → List ℕ → Option (List ℕ) → Type 0
-Follows front bytes None = Unit {0}
-Follows front bytes (Some rest) = bytes ≡ front ++ rest
+abbrev pub IsInFront : List ℕ → List ℕ → Option (List ℕ) → Type 0
+IsInFront front bytes None = Unit {0}
+IsInFront front bytes (Some rest) = bytes ≡ front ++ rest
 
-follows_if : (front bytes : List ℕ) (test : Bool) → bytes_eq (take (length front) bytes) front ≡ test → Follows front bytes (cond test (Some (drop (length front) bytes)) None)
+follows_if : (front bytes : List ℕ) (test : Bool) → bytes_eq (take (length front) bytes) front ≡ test → IsInFront front bytes (cond test (Some (drop (length front) bytes)) None)
 follows_if front bytes true e = sym (take-append-drop (length front) bytes) ∙ ap (λ xs. xs ++ drop (length front) bytes) (same_bytes (take (length front) bytes) front e)
 follows_if front bytes false e = tt
 
-pub after_takes : (front bytes : List ℕ) → Follows front bytes (after front bytes)
+pub after_takes : (front bytes : List ℕ) → IsInFront front bytes (after front bytes)
 after_takes front bytes = follows_if front bytes (bytes_eq (take (length front) bytes) front) refl
 
 abbrev flag_text : Bool → List ℕ
 flag_text b = cond b (codes "true") (codes "false")
 
-flag_takes : (b : Bool) (bytes : List ℕ) (rest : Option (List ℕ)) → Follows (flag_text b) bytes rest → Spelled flag_text bytes (option_map (flag b) rest)
+flag_takes : (b : Bool) (bytes : List ℕ) (rest : Option (List ℕ)) → IsInFront (flag_text b) bytes rest → Spelled flag_text bytes (option_map (flag b) rest)
 flag_takes b bytes None h = tt
 flag_takes b bytes (Some rest) h = h
 
@@ -179,7 +179,7 @@ height_call id height bytes rest call None hb hr hc = tt
 height_call id height bytes rest call (Some tx) hb hr hc =
     (hb ∙ ap (λ xs. decimal height ++ xs) (hr ∙ ap (λ xs. 32 ∷ xs) hc.0) ∙ ap (λ k. decimal k ++ call_text tx) (sym hc.2), hc.1)
 
-height_space : (id : List ℕ) (height : ℕ) (bytes rest : List ℕ) (call : Option (List ℕ)) → bytes ≡ decimal height ++ rest → Follows (codes " ") rest call → HeightIs id bytes (option_and_then (call_of id height) call)
+height_space : (id : List ℕ) (height : ℕ) (bytes rest : List ℕ) (call : Option (List ℕ)) → bytes ≡ decimal height ++ rest → IsInFront (codes " ") rest call → HeightIs id bytes (option_and_then (call_of id height) call)
 height_space id height bytes rest None hb hf = tt
 height_space id height bytes rest (Some call) hb hf = height_call id height bytes rest call (call_of id height call) hb hf (call_takes id height call)
 
@@ -198,7 +198,7 @@ form_made line bytes id rest more (Some tx) hl hb hr hm =
     hl ∙ ap (λ xs. codes "tx " ++ xs) (hb ∙ ap (λ xs. id ++ xs) (hr ∙ ap (λ xs. 32 ∷ xs) hm.0) ∙ ap (λ xs. xs ++ (32 ∷ (decimal tx.height ++ call_text tx))) (sym hm.1)
     ∙ sym (append_assoc tx.id (32 ∷ decimal tx.height) (call_text tx)))
 
-form_space : (line bytes id rest : List ℕ) (more : Option (List ℕ)) → line ≡ codes "tx " ++ bytes → bytes ≡ id ++ rest → Follows (codes " ") rest more → IsWhole tx_text line (option_and_then (height_and_call id) more)
+form_space : (line bytes id rest : List ℕ) (more : Option (List ℕ)) → line ≡ codes "tx " ++ bytes → bytes ≡ id ++ rest → IsInFront (codes " ") rest more → IsWhole tx_text line (option_and_then (height_and_call id) more)
 form_space line bytes id rest None hl hb hf = tt
 form_space line bytes id rest (Some more) hl hb hf = form_made line bytes id rest more (height_and_call id more) hl hb hf (height_takes id more)
 
@@ -207,7 +207,7 @@ form_id : (line bytes : List ℕ) (found : Option (List ℕ × List ℕ)) → li
 form_id line bytes None hl hs = tt
 form_id line bytes (Some found) hl hs = form_space line bytes found.0 found.1 (after (codes " ") found.1) hl hs (after_takes (codes " ") found.1)
 
-form_front : (line : List ℕ) (bytes : Option (List ℕ)) → Follows (codes "tx ") line bytes
+form_front : (line : List ℕ) (bytes : Option (List ℕ)) → IsInFront (codes "tx ") line bytes
     → IsWhole tx_text line (option_and_then (λ rest. option_and_then (λ id. option_and_then (height_and_call id.0) (after (codes " ") id.1)) (id_at rest)) bytes)
 form_front line None h = tt
 form_front line (Some bytes) h = form_id line bytes (id_at bytes) h (word_takes bytes (has_id_form (word bytes)))

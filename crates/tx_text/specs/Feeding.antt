@@ -34,8 +34,8 @@ Keeps (state.Open line held) meant = (txs : List Tx) × (meant ≡ Ok (record { 
 Keeps (state.Stopped line) meant = meant ≡ Err line
 
 -- the reader was fed these bytes
-abbrev pub Follows : ArrivalReader → List ℕ → Type 0
-Follows reader bytes = Keeps reader.state (arrived bytes)
+abbrev pub WasFed : ArrivalReader → List ℕ → Type 0
+WasFed reader bytes = Keeps reader.state (arrived bytes)
 
 -- the line of the fault that was met
 abbrev pub fault_in : State → Option ℕ
@@ -59,9 +59,9 @@ Answers bytes piece (Err (fault.Bad line)) = arrived (bytes ++ piece) ≡ Err li
 
 -- and unless memory ran out the reader then follows both
 abbrev pub FollowsOn : ArrivalReader → List ℕ → Result (List Tx) ArrivalFault → Type 0
-FollowsOn reader bytes (Ok txs) = Follows reader bytes
+FollowsOn reader bytes (Ok txs) = WasFed reader bytes
 FollowsOn reader bytes (Err fault.NoMemory) = Unit {0}
-FollowsOn reader bytes (Err (fault.Bad line)) = Follows reader bytes
+FollowsOn reader bytes (Err (fault.Bad line)) = WasFed reader bytes
 
 -- an end without a fault, or with one in this line
 abbrev pub EndsAs : Result (Unit {0}) ℕ → Result (List Tx) ℕ → Type 0

@@ -5,7 +5,7 @@ ghost use Rattle.std.specs.List.{flat_map};
 ghost use Rattle.tx_text.specs.Parts.{onto, parts_of};
 ghost use Rattle.tx_text.specs.Listing.{ending, walk};
 ghost use Rattle.tx_text.specs.Arrivals.{arrivals, arrivals_form, arrived};
-ghost use Rattle.tx_text.specs.Feeding.{Answers, EndsAs, Follows, FollowsOn, Gives, GivesPiece, HoldsOn, fault_met, open_length};
+ghost use Rattle.tx_text.specs.Feeding.{Answers, EndsAs, WasFed, FollowsOn, Gives, GivesPiece, HoldsOn, fault_met, open_length};
 
 use crate::arrivals::{ArrivalFault, read_on};
 use crate::held::extend;
@@ -61,7 +61,7 @@ fn go_on(
 
 /// A reader of an arrival file, which is fed with the file piece by piece.
 ///
-/// It keeps the bytes after the last newline and how many lines were read. Contracts say that it `Follows` the bytes that it
+/// It keeps the bytes after the last newline and how many lines were read. Contracts say that it `WasFed` the bytes that it
 /// was fed.
 #[derive(Drop)]
 pub struct ArrivalReader {
@@ -72,7 +72,7 @@ pub struct ArrivalReader {
 impl ArrivalReader {
     /// A reader that was fed with nothing yet.
     pub fn new(alloc: Global) -> ArrivalReader
-        ensures { Follows result [] }
+        ensures { WasFed result [] }
     {
         ArrivalReader {
             alloc,
@@ -85,8 +85,8 @@ impl ArrivalReader {
 
     /// How many bytes stand behind the last newline, which the reader keeps: at most 4,096, and none behind a fault.
     pub fn held(&self) -> usize
-        ensures held { (bytes : List ℕ) → Follows self.now bytes → result ≡ open_length (arrived bytes) }
-        ensures most { (bytes : List ℕ) → Follows self.now bytes → result ≤ 4096 }
+        ensures held { (bytes : List ℕ) → WasFed self.now bytes → result ≡ open_length (arrived bytes) }
+        ensures most { (bytes : List ℕ) → WasFed self.now bytes → result ≤ 4096 }
         ensures stopped { (line : ℕ) → fault_met self.now ≡ Some line → result ≡ 0 }
     {
         match &self.state {
@@ -101,8 +101,8 @@ impl ArrivalReader {
     /// 4,097th byte of a line that is too long; and with each piece behind a fault. Where memory runs out, the reader is as
     /// before.
     pub fn feed(&mut self, piece: &[u8]) -> Result<List<Tx>, ArrivalFault>
-        ensures follows { (bytes : List ℕ) → Follows self.old bytes → FollowsOn self.new (bytes ++ piece.now) result }
-        ensures fed { (bytes : List ℕ) → Follows self.old bytes → Answers bytes piece.now result }
+        ensures follows { (bytes : List ℕ) → WasFed self.old bytes → FollowsOn self.new (bytes ++ piece.now) result }
+        ensures fed { (bytes : List ℕ) → WasFed self.old bytes → Answers bytes piece.now result }
         ensures stopped { (line : ℕ) → fault_met self.old ≡ Some line → (self.new ≡ self.old) × (result ≡ Err (ArrivalFault.Bad line)) }
         ensures stops { (line : ℕ) → result ≡ Err (ArrivalFault.Bad line) → fault_met self.new ≡ Some line }
         ensures memory { result ≡ Err ArrivalFault.NoMemory → self.new ≡ self.old }
@@ -123,7 +123,7 @@ impl ArrivalReader {
     /// Ends the file: nothing where the bytes so far are a whole file, and else the first line with a fault. Behind a fault a
     /// reader answers that line alone.
     pub fn end(&mut self) -> Result<(), u64>
-        ensures whole { (bytes : List ℕ) → Follows self.old bytes → EndsAs result (arrivals bytes) }
+        ensures whole { (bytes : List ℕ) → WasFed self.old bytes → EndsAs result (arrivals bytes) }
         ensures stopped { (line : ℕ) → fault_met self.old ≡ Some line → result ≡ Err line }
         ensures same { OnOk result (self.new ≡ self.old) }
         ensures stops { IfErr result (λ line. fault_met self.new ≡ Some line) }

@@ -21,8 +21,8 @@ module _ (chains : Chains) where
   adds_none found Wanted none = record { right = λ all. all; kept = λ key is. is; added = λ key wanted. absurd (none key wanted) }
 
   -- more are added than are wanted
-  pub adds_weaker : (old new : List (Bor (List Value) × Option ℕ)) (Wanted Few : List Value → Type 0) → ((key : List Value) → Few key → Wanted key) → Adds chains old new Wanted → Adds chains old new Few
-  adds_weaker old new Wanted Few few adds = record { right = adds.right; kept = adds.kept; added = λ key wanted. adds.added key (few key wanted) }
+  pub adds_weaker : (old new : List (Bor (List Value) × Option ℕ)) (Wanted Fewer : List Value → Type 0) → ((key : List Value) → Fewer key → Wanted key) → Adds chains old new Wanted → Adds chains old new Fewer
+  adds_weaker old new Wanted Fewer few adds = record { right = adds.right; kept = adds.kept; added = λ key wanted. adds.added key (few key wanted) }
 
   -- first some and then others
   pub adds_then : (old mid new : List (Bor (List Value) × Option ℕ)) (One Other Wanted : List Value → Type 0) → ((key : List Value) → Wanted key → One key ⊎ Other key)

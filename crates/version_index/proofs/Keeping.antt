@@ -18,7 +18,7 @@ use Rattle.row_sets.specs.declared.entry.Entry.{Entry}
 use Rattle.version_index.specs.Chains.{AreChains, lists_in, lists_of, numbers_at, slot_by, slot_in, slot_of}
 use Rattle.version_index.specs.Columns.{IsColumn, has_slot, touched_at}
 use Rattle.version_index.specs.Index.{AreNoted, HasColumns, IsEmptyColumn, IsEmptyIndex, IsIndex, columns_in, index_columns}
-use Rattle.version_index.specs.Kept.{WellKept}
+use Rattle.version_index.specs.Kept.{IsStore}
 use Rattle.version_index.specs.Log.{InOrder}
 use Rattle.version_index.specs.View.{IsAsked, IsView}
 use Rattle.version_index.specs.declared.column.Column.{Column}
@@ -33,7 +33,7 @@ use Rattle.version_index.proofs.Ordered.{order_next}
 abbrev pub columns_of : TableIndex → List ℕ
 columns_of index = map (λ (column : Column). column.column) index.columns.items
 
-module _ (defs : List TableDef) (entries : List Entry) (indexes : List TableIndex) (noted : ℕ) (kept : WellKept defs entries indexes noted) where
+module _ (defs : List TableDef) (entries : List Entry) (indexes : List TableIndex) (noted : ℕ) (kept : IsStore defs entries indexes noted) where
   -- each table has an index
   pub one_each : length indexes ≡ length defs
   one_each = sym (length-map indexes columns_of) ∙ ap length kept.columns ∙ length-map defs index_columns
@@ -94,7 +94,7 @@ module _ (defs : List TableDef) (entries : List Entry) (indexes : List TableInde
 
   -- a store that took in the writes of a later place
   pub kept_next : (next : List Entry) (place : Place) (writes : List Write) → All (WriteFitsIn defs) writes → IsTrue (are_rising writes) → All (IsBefore place) (history_of entries)
-      → history_of next ≡ history_of entries ++ stamped_at place writes → noted ≤ length next → WellKept defs next indexes noted
+      → history_of next ≡ history_of entries ++ stamped_at place writes → noted ≤ length next → IsStore defs next indexes noted
   kept_next next place writes fit rise later history within =
       record {
         fits = subst (HistoryFits defs) (sym history) (fits_next defs place (history_of entries) writes kept.fits fit);
@@ -107,9 +107,9 @@ module _ (defs : List TableDef) (entries : List Entry) (indexes : List TableInde
 
   -- a store that noted more of its writes, which were lent for it
   pub kept_noted : (new : List TableIndex) (more : ℕ) (lent after : List Entry) → lent ≡ entries → after ≡ entries → more ≤ length lent → AreNoted new (history_of lent) more → columns_in new ≡ columns_in indexes
-      → WellKept defs after new more
+      → IsStore defs after new more
   kept_noted new more lent after was is within told same =
-      subst (λ es. WellKept defs es new more) (sym is)
+      subst (λ es. IsStore defs es new more) (sym is)
       (record {
         fits = kept.fits;
         in_order = kept.in_order;
@@ -153,7 +153,7 @@ module _ (table : ℕ) (index : TableIndex) (empty : IsEmptyIndex index) where
   pub empty_index : IsIndex table [] 0 index
   empty_index = record { chains = empty_chains; columns = All-weaker IsEmptyColumn (IsColumn table [] 0 index.chains) empty_column index.columns.items empty.columns }
 
-pub kept_empty : (defs : List TableDef) (indexes : List TableIndex) → columns_in indexes ≡ map index_columns defs → All IsEmptyIndex indexes → WellKept defs [] indexes 0
+pub kept_empty : (defs : List TableDef) (indexes : List TableIndex) → columns_in indexes ≡ map index_columns defs → All IsEmptyIndex indexes → IsStore defs [] indexes 0
 kept_empty defs indexes same empty =
     record {
       fits = All-nil (λ stamped. WriteFitsIn defs stamped.1.write);

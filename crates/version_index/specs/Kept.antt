@@ -9,7 +9,7 @@ use Rattle.version_index.specs.Log.{InOrder}
 use Rattle.version_index.specs.declared.index.TableIndex.{TableIndex}
 
 -- the writes fit their tables and stand in order, and the indexes, one for each table, tell of the first of them, as many as are noted
-pub record WellKept (defs : List TableDef) (entries : List Entry) (indexes : List TableIndex) (noted : ℕ) : Type 0 where
+pub record IsStore (defs : List TableDef) (entries : List Entry) (indexes : List TableIndex) (noted : ℕ) : Type 0 where
   pub fits : HistoryFits defs (history_of entries)
   pub in_order : InOrder (history_of entries)
   pub within : noted ≤ length entries

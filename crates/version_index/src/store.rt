@@ -49,7 +49,7 @@ impl Model for IndexVersions {
     ghost use Rattle.rel_base.specs.Tables.{Stamped};
     ghost use Rattle.row_sets.specs.Log.{history_of};
     ghost use Rattle.row_sets.specs.Log.{room_of};
-    ghost use Rattle.version_index.specs.Kept.{WellKept};
+    ghost use Rattle.version_index.specs.Kept.{IsStore};
 
     ghost Value = { List Def × (List Stamped × (ℕ × ℕ)) };
 
@@ -57,7 +57,7 @@ impl Model for IndexVersions {
 
     ghost view = { λ store. (store.tables, (history_of store.log.items, (room_of store.log, length store.log.items - store.noted))) };
 
-    ghost invariant = { λ store. WellKept store.tables store.log.items store.indexes.items store.noted };
+    ghost invariant = { λ store. IsStore store.tables store.log.items store.indexes.items store.noted };
 }
 
 /// Indexes without a write, one for each table.

@@ -1,6 +1,6 @@
 use Rattle.std.proofs.Common.{◌≡◌, ◌-◌, length, None}
 use Rattle.proc_syntax.specs.Declaring.{tables_of}
-use Rattle.proc_run.specs.Told.{Agrees}
+use Rattle.proc_run.specs.MachineView.{Agrees}
 use Rattle.proc_run.proofs.drive.run_on.Given as goal
 
 -- the machine runs the call, asks nothing, and its answers are those of the tables

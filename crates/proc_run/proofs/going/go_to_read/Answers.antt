@@ -2,7 +2,7 @@ use Rattle.std.proofs.Common.{◌≡◌, [], ◌++◌, ap, sym, subst, ◌∙◌
 use Rattle.proc_syntax.specs.Declaring.{tables_of}
 use Rattle.row_sets.specs.Overlay.{AreFound}
 use Rattle.proc_run.specs.Remains.{state}
-use Rattle.proc_run.specs.Told.{given_of}
+use Rattle.proc_run.specs.MachineView.{given_of}
 use Rattle.proc_run.proofs.Sounds.{given_none, sound_gone}
 use Rattle.proc_run.proofs.going.go_to_read.Goals as goal
 

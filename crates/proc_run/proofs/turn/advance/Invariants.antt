@@ -1,6 +1,6 @@
 use Rattle.std.proofs.Common.{◌≡◌, ◌≤◌, ◌+◌, ◌*◌, ◌-◌, vec_len}
 use Rattle.rel_base.specs.Tables.{Tables}
-use Rattle.proc_run.specs.Place.{frames_of}
+use Rattle.proc_run.specs.Path.{frames_of}
 use Rattle.proc_run.specs.Remains.{state, run_frames}
 use Rattle.proc_run.proofs.turn.advance.Given as goal
 

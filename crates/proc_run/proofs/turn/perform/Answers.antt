@@ -1,5 +1,5 @@
 use Rattle.std.specs.Prelude.{◌+◌, [], ◌∷◌, ◌++◌}
-use Rattle.proc_run.specs.declared.place.Spot.TheVariants.{Block}
+use Rattle.proc_run.specs.declared.path.Spot.TheVariants.{Block}
 use Rattle.proc_run.specs.Remains.{state}
 use Rattle.proc_run.proofs.Paths.{path_push, branch_taken}
 use Rattle.proc_run.proofs.turn.perform.Goals as goal

@@ -1,7 +1,7 @@
 use Rattle.std.proofs.Common.{◌≡◌, ap, sym, subst, ◌∙◌, Some, Err, IfOk}
 use Rattle.std.specs.Prelude.{slice_get}
 use Rattle.std.proofs.lemmas.Option.{slice_get-get_or}
-use Rattle.proc_run.specs.Place.{part_of, block_of}
+use Rattle.proc_run.specs.Path.{part_of, block_of}
 use Rattle.proc_run.specs.Planned.{plan_of, PlanFits}
 use Rattle.proc_run.specs.Remains.{state}
 use Rattle.proc_run.proofs.Paths.{some_left, block_over, block_late, block_stops, block_goes}

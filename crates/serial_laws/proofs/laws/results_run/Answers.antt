@@ -1,4 +1,4 @@
-use Rattle.serial_laws.proofs.Told.{results_run}
+use Rattle.serial_laws.proofs.Results.{results_run}
 use Rattle.serial_laws.proofs.laws.results_run.Goals as goal
 
 pub returns : goal.returns

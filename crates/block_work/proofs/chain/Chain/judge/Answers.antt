@@ -5,7 +5,7 @@ use Rattle.block_work.proofs.chain.Chain.judge.Goals as goal
 use Rattle.block_work.specs.Causes.{IsCause, before_edges}
 use Rattle.node_model.specs.Danger.{danger}
 use Rattle.node_model.specs.Decide.{danger_outcome, or_committed}
-use Rattle.proc_check.proofs.Few.{small_tables}
+use Rattle.proc_check.proofs.Bounds.{small_tables}
 use Rattle.proc_syntax.specs.Declaring.{tables_of}
 use Rattle.rel_base.specs.Tables.{writes_between}
 

@@ -6,7 +6,7 @@ use Rattle.block_work.specs.Block.{StandInOrder, sealed_of}
 use Rattle.block_work.specs.Chain.{stamps}
 use Rattle.block_work.specs.Results.{last_digest}
 use Rattle.node_model.specs.Fold.{block_result}
-use Rattle.proc_check.proofs.Few.{small_tables}
+use Rattle.proc_check.proofs.Bounds.{small_tables}
 use Rattle.proc_check.specs.Sizes.{IsSmall}
 use Rattle.proc_syntax.specs.Declaring.{tables_of}
 

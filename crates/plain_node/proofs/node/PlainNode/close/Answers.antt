@@ -3,7 +3,7 @@ use Rattle.block_work.proofs.Answering.{if_ok_then}
 use Rattle.node_model.specs.Fold.{fold}
 use Rattle.node_model.specs.declared.result.NodeResult.{NodeResult}
 use Rattle.plain_node.proofs.node.PlainNode.close.Goals as goal
-use Rattle.serial_laws.proofs.Told.{results_run}
+use Rattle.serial_laws.proofs.Results.{results_run}
 use Rattle.serial_laws.specs.InOrder.{EachInOrder}
 
 pub returns-clause-replays : goal.returns-clause-replays

@@ -2,7 +2,7 @@ use Rattle.std.proofs.Common.{rules}
 use Rattle.proc_syntax.specs.Declaring.{tables_of}
 use Rattle.proc_run.specs.declared.state.Phase.TheVariants as phase
 use Rattle.proc_run.specs.Remains.{StandInOrder}
-use Rattle.proc_run.specs.Told.{IsSound}
+use Rattle.proc_run.specs.MachineView.{IsSound}
 use Rattle.proc_run.proofs.Sounds.{sound_fed}
 use Rattle.proc_run.proofs.machine.Machine.feed.Goals as goal
 

@@ -1,6 +1,6 @@
 use Rattle.std.proofs.Common.{◌++◌, true, false, sym, subst}
 use Rattle.proc_syntax.specs.Declaring.{tables_of}
-use Rattle.proc_run.specs.Told.{Agrees, IsSound, given_of}
+use Rattle.proc_run.specs.MachineView.{Agrees, IsSound, given_of}
 use Rattle.proc_run.proofs.Sounds.{sound_told, want_fits, next_told}
 use Rattle.proc_run.proofs.machine.Machine.next.Goals as goal
 

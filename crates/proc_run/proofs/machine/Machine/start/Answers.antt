@@ -1,6 +1,6 @@
 use Rattle.std.proofs.Common.{◌≡◌, sym, subst, rules}
 use Rattle.proc_code.specs.Resolved.{code_of}
-use Rattle.proc_run.specs.Told.{IsBegun}
+use Rattle.proc_run.specs.MachineView.{IsBegun}
 use Rattle.proc_run.proofs.Sounds.{sound_begun}
 use Rattle.proc_run.proofs.machine.Machine.start.Goals as goal
 
