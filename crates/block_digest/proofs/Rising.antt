@@ -9,16 +9,12 @@ use Rattle.std.specs.declared.cmp.Ordering.{Ordering}
 use Rattle.std.proofs.lemmas.Bool.{and_from, and_parts}
 use Rattle.rel_base.specs.Tables.{ref_cmp-total, write_ref}
 use Rattle.rel_base.specs.declared.access.Placed.{Placed}
+use Rattle.rel_base.proofs.Bits.{less_from}
 use Rattle.block_digest.specs.Grammar.{placed_cmp}
 use Rattle.block_digest.specs.Readings.{rise, rise_behind}
 
 placed_cmp-total : IsTotalOrder placed_cmp
 placed_cmp-total = then_total (on_total (λ (placed : Placed). placed.pos) nat_cmp_total) (on_total (λ (placed : Placed). write_ref placed.write) ref_cmp-total)
-
-less_from : (order : Ordering) → is_lt order ≡ true → order ≡ Less
-less_from Less e = refl
-less_from Equal e = cc
-less_from Greater e = cc
 
 -- a write stands before some writes
 abbrev StandsBefore : Placed → List Placed → Type 0

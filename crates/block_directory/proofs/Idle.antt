@@ -24,7 +24,8 @@ use Rattle.rel_base.specs.declared.access.Read.{Read}
 use Rattle.rel_base.specs.declared.access.Write.{Write}
 use Rattle.rel_base.specs.declared.schema.TableDef.{TableDef}
 use Rattle.rel_base.specs.declared.value.Value.{Value}
-use Rattle.rw_graph.proofs.Cases.{first_true, or_true, second_true}
+use Rattle.rel_base.proofs.Bits.{either, first_true, second_true}
+use Rattle.rw_graph.proofs.Cases.{or_true}
 use Rattle.rw_graph.proofs.Lists.{In, each_at}
 use Rattle.rw_graph.specs.Fitting.{IsMember, WritesFit}
 use Rattle.rw_graph.specs.Held.{holds}
@@ -56,10 +57,6 @@ no_place test start (x ∷ xs) none =
 point_key : (def : TableDef) (table : ℕ) (key own : List Value) (part : Option (List Value)) → PartFits def own part → covers_some def (Point table key) part ≡ true → key ≡ own
 point_key def table key own None fits covers = absurd (false≢true covers)
 point_key def table key own (Some row) fits covers = sym (keys_equal (key_of_row def row) key covers) ∙ fits.1
-
-either : (a b : Bool) → (a || b) ≡ true → (a ≡ true) ⊎ (b ≡ true)
-either true b one = inl refl
-either false b one = inr one
 
 own_key : (write : Write) (place : ℕ) → place ≡ write_place write → is_place_of write place ≡ true
 own_key write place same = ap (λ b. b || nat_eq place (table_place write.table)) (eq-eqb place (write_place write) same)

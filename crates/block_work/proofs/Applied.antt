@@ -16,13 +16,9 @@ use Rattle.rel_base.specs.Among.{WriteFitsIn}
 use Rattle.rel_base.specs.Tables.{HistoryFits, Stamped}
 use Rattle.rel_base.specs.declared.access.Write.{Write}
 use Rattle.rel_base.specs.declared.schema.TableDef.{TableDef}
+use Rattle.rel_base.proofs.Lists.{all_of}
 use Rattle.row_sets.specs.Versions.{IsBefore, stamped_at}
 use Rattle.serial_laws.proofs.Growing.{history_grown}
-
--- what holds of everything holds of a list
-all_of : {X : Type 0} (P : X → Type 0) → ((x : X) → P x) → (xs : List X) → All P xs
-all_of P holds [] = All-nil P
-all_of P holds (x ∷ xs) = All-cons P x xs (holds x) (all_of P holds xs)
 
 -- ---- places
 

@@ -17,19 +17,9 @@ use Rattle.block_work.specs.declared.ids.IdIndex.{IdIndex}
 use Rattle.node_model.specs.History.{Sealed, ids_of, ids_told}
 use Rattle.node_model.specs.declared.result.Told.{Told}
 use Rattle.rel_base.specs.declared.access.Place.{Place}
+use Rattle.rel_base.proofs.Bytes.{bytes_sym, equal_bytes}
 
 -- ---- equal ids
-
-equal_bytes : (a b : List ℕ) → bytes_eq a b ≡ true → a ≡ b
-equal_bytes a b h = (bytes_eq-Decides a b).0 h
-
-bytes_sym : (a b : List ℕ) → bytes_eq a b ≡ bytes_eq b a
-bytes_sym a b = by (bytes_eq a b) (bytes_eq b a) (λ h. (bytes_eq-Decides b a).1 (sym (equal_bytes a b h))) (λ h. (bytes_eq-Decides a b).1 (sym (equal_bytes b a h)))
-  where
-    by : (one other : Bool) → (one ≡ true → other ≡ true) → (other ≡ true → one ≡ true) → one ≡ other
-    by true other there back = sym (there refl)
-    by false true there back = back refl
-    by false false there back = refl
 
 -- ---- an index
 

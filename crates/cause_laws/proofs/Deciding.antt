@@ -27,6 +27,7 @@ use Rattle.proc_syntax.specs.declared.tree.App.{App}
 use Rattle.rel_base.specs.Late.{LateRead, late}
 use Rattle.rel_base.specs.Tables.{Stamped}
 use Rattle.rel_base.specs.declared.schema.TableDef.{TableDef}
+use Rattle.rel_base.proofs.Lists.{item_at}
 use Rattle.std.proofs.lemmas.List.Elements.{All-nil, All-push, All-weaker}
 use Rattle.std.proofs.lemmas.List.Quantifiers.{all_pairs_push}
 use Rattle.std.proofs.lemmas.List.{length-append}
@@ -91,10 +92,6 @@ module _ (app : App) (chain : List Sealed) (number : ℕ) where
       let told : Told = record { id = tx.id; outcome = decide app chain number work.outcomes work.committed tx } in
       let others = told_grow (work_on app chain number work tx) rest in
       (told ∷ others.0, others.1 ∙ append_assoc work.outcomes (told ∷ []) others.0)
-
-  item_at : {X : Type 0} (front : List X) (item : X) (back : List X) → slice_get (front ++ item ∷ back) (length front) ≡ Some item
-  item_at [] item back = refl
-  item_at (x ∷ front) item back = item_at front item back
 
   -- it is what is decided on what those before it made
   pub told_is : (first : List Tx) (tx : Tx) (rest : List Tx) → let work : Work = work_through app chain number no_work first in

@@ -17,7 +17,7 @@ use Rattle.chain_file.specs.Draft.{within_block, between_blocks, is_block_line, 
 use Rattle.chain_file.proofs.Blocks.{made_block}
 use Rattle.chain_file.proofs.Steps.{read_step}
 use Rattle.tx_text.proofs.Plain.{plain, plain-append, decimal_plain, tx_plain, parts_line}
-use Rattle.tx_text.proofs.Bytes.{bytes_same}
+use Rattle.rel_base.proofs.Bytes.{bytes_same}
 
 -- what is read from a place on
 abbrev reads : Reading → List ℕ → Option (List Block)

@@ -34,8 +34,8 @@ use Rattle.chain_file.specs.Chain.{Position, Walked, front, no_digits, hash_digi
 use Rattle.chain_file.specs.ChainText.{chained_text, blocks_text, chain_text}
 use Rattle.chain_file.proofs.Blocks.{made_block}
 use Rattle.tx_text.proofs.Plain.{plain, plain-append, plain-from, decimal_plain, tx_plain, parts_line}
-use Rattle.tx_text.proofs.Bytes.{bytes_same}
 use Rattle.chain_file.proofs.Walking.{walk_split}
+use Rattle.rel_base.proofs.Bytes.{bytes_same}
 
 -- the digits of a hash are 64, each a hexadecimal digit in lower case
 abbrev AreDigits : List ℕ → Type 0

@@ -16,7 +16,7 @@ use Rattle.tx_text.specs.Parts.{parts_of}
 use Rattle.chain_file.specs.Text.{longest_draft}
 use Rattle.chain_file.specs.Draft.{block_of, within_block, between_blocks, is_block_line, end_block, add_tx, line_after, take_line, all_ended, finished, last_part, read_parts, start, after_header, draft}
 use Rattle.chain_file.proofs.Numbered.{Holds}
-use Rattle.tx_text.proofs.Bytes.{same_bytes}
+use Rattle.rel_base.proofs.Bytes.{equal_bytes}
 
 -- n bytes, each newline with them, were read behind the header: a block has at most 1,026 lines of 4,097 bytes
 abbrev Within : ℕ → List Block → Option Begun → Type 0
@@ -29,7 +29,7 @@ IsWithin n reading = Within n reading.blocks reading.begun
 -- `block N`
 block_line_short : (number : ℕ) (line : List ℕ) → number ≤ 1000000 → is_block_line number line ≡ true → length line ≤ 4096
 block_line_short number line low e =
-    let same : line ≡ codes "block " ++ decimal number = same_bytes line (codes "block " ++ decimal number) e in
+    let same : line ≡ codes "block " ++ decimal number = equal_bytes line (codes "block " ++ decimal number) e in
     let digits : length (decimal number) ≤ 7 = length-decimal-le 7 number (omega arith) (omega (arith, low)) (omega (arith, low)) in
     omega (arith, ap length same, length-append (codes "block ") (decimal number), digits)
 
@@ -74,7 +74,7 @@ add_within n blocks number txs line false h few e = tt
 
 inside_within : (n : ℕ) (blocks : List Block) (begun : Begun) (line : List ℕ) (test : Bool) → Within n blocks (Some begun) → bytes_eq line (codes "end") ≡ test
     → Holds (IsWithin (n + length line + 1)) (cond test (end_block blocks begun.number begun.txs) (add_tx blocks begun.number begun.txs line))
-inside_within n blocks begun line true h e = end_within n blocks begun.txs line (block_of begun.number begun.txs) h.0 h.1 h.2 (same_bytes line (codes "end") e)
+inside_within n blocks begun line true h e = end_within n blocks begun.txs line (block_of begun.number begun.txs) h.0 h.1 h.2 (equal_bytes line (codes "end") e)
 inside_within n blocks begun line false h e = add_within n blocks begun.number begun.txs line (nat_le (length line) 4096) h.0 h.1 refl
 
 line_within : (n : ℕ) (blocks : List Block) (begun : Option Begun) (line : List ℕ) → Within n blocks begun → Holds (IsWithin (n + length line + 1)) (line_after blocks begun line)
@@ -119,7 +119,7 @@ header_bounded : (header part : List ℕ) (parts : List (List ℕ)) (test : Bool
     → IsBounded (length (join_with_byte 10 (header ∷ part ∷ parts))) (cond test (read_parts start (part ∷ parts)) None)
 header_bounded header part parts true e =
     let rest : List ℕ = join_with_byte 10 (part ∷ parts) in
-    let same : header ≡ codes "draft 1" = same_bytes header (codes "draft 1") e in
+    let same : header ≡ codes "draft 1" = equal_bytes header (codes "draft 1") e in
     bounded (length (header ++ (10 ∷ rest))) (0 + length rest) (read_parts start (part ∷ parts)) (omega (arith, ap length same, length-append header (10 ∷ rest)))
     (parts_few (part ∷ parts) 0 start (omega arith, omega arith))
 header_bounded header part parts false e = tt

@@ -22,12 +22,12 @@ use Rattle.chain_file.specs.Chain.{Position, Walked, bytes_in, chain, fault, fau
 use Rattle.chain_file.specs.ChainText.{blocks_text, chain_text, chained_text}
 use Rattle.chain_file.specs.Draft.{block_of}
 use Rattle.tx_text.specs.Parts.{parts_of, line_text, is_long}
-use Rattle.tx_text.proofs.Bytes.{same_bytes}
 use Rattle.chain_file.specs.Steps.{add_tx, begun_by, end_block, ends, goes_on, has_digits, has_end, is_next, is_number, line_step, numbered, step}
 use Rattle.chain_file.specs.Text.{tx_line}
 use Rattle.chain_file.proofs.Back.{block_line, judged, walk_back}
 use Rattle.chain_file.proofs.Drafts.{IsBehind, behind_if}
 use Rattle.chain_file.proofs.Spelled.{IsOf, block_is, flat_more}
+use Rattle.rel_base.proofs.Bytes.{equal_bytes}
 
 -- in a chain: the bytes of a block that has begun are its lines so far
 abbrev Stands : Section → List ℕ → List ℕ → Type 0
@@ -51,8 +51,8 @@ LeavesIf digits bytes (Ok taken) = Leaves digits bytes taken.place taken.ended
 first_line : (count : ℕ) (digits line rest : List ℕ) → line ≡ codes "block " ++ rest → is_next count (word rest) ≡ true → has_digits form.Chain digits (past_word rest) ≡ true
     → line ≡ block_line (count + 1) digits
 first_line count digits line rest behind next same =
-    let number : word rest ≡ decimal (count + 1) = same_bytes (word rest) (decimal (count + 1)) (and_parts (nat_lt count 1000000) (bytes_eq (word rest) (decimal (count + 1))) next).1 in
-    let hash : past_word rest ≡ 32 ∷ digits = same_bytes (past_word rest) (32 ∷ digits) same in
+    let number : word rest ≡ decimal (count + 1) = equal_bytes (word rest) (decimal (count + 1)) (and_parts (nat_lt count 1000000) (bytes_eq (word rest) (decimal (count + 1))) next).1 in
+    let hash : past_word rest ≡ 32 ∷ digits = equal_bytes (past_word rest) (32 ∷ digits) same in
     let whole : rest ≡ decimal (count + 1) ++ (32 ∷ digits) =
     sym (take-append-drop (position_or_len is_space rest) rest) ∙ ap (λ end. word rest ++ end) hash ∙ ap (λ first. first ++ (32 ∷ digits)) number in
     behind ∙ ap (λ end. codes "block " ++ end) whole
@@ -105,7 +105,7 @@ tx_leaves count txs digits bytes line (Some tx) so_far is = more_leaves count tx
 within_leaves : (count : ℕ) (txs : List Tx) (digits bytes line : List ℕ) (test : Bool) → bytes ≡ line_text (block_line (count + 1) digits) ++ flat_map tx_line txs → bytes_eq line (codes "end") ≡ test
     → LeavesIf digits (bytes ++ line_text line) (cond test (end_block form.Chain count txs) (add_tx form.Chain count txs (tx_of line)))
 within_leaves count txs digits bytes line true so_far is =
-    end_leaves count txs digits bytes line (block_of (count + 1) txs) so_far (same_bytes line (codes "end") is) (block_is (count + 1) txs)
+    end_leaves count txs digits bytes line (block_of (count + 1) txs) so_far (equal_bytes line (codes "end") is) (block_is (count + 1) txs)
 within_leaves count txs digits bytes line false so_far is = tx_leaves count txs digits bytes line (tx_of line) so_far (tx_takes line)
 
 -- ---- any line

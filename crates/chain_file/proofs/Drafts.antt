@@ -26,11 +26,11 @@ use Rattle.chain_file.specs.Draft.{block_of, within_block, between_blocks, is_bl
 use Rattle.chain_file.specs.Draft as draft_file
 use Rattle.chain_file.specs.Steps.{goes_on, is_number, is_next, numbered, begun_by, begin, ends, add_tx, within, line_step}
 use Rattle.chain_file.specs.Chain.{Position, Walked, fault, hash_digits, position_after, told, take_line, ended_blocks, onward, walk, fault_at_end, chain, front}
-use Rattle.tx_text.proofs.Bytes.{bytes_same, same_bytes}
 use Rattle.tx_text.proofs.Plain.{parts_line}
 use Rattle.chain_file.proofs.Back.{decimal_number, no_space_decimal, decimal_short, judged, taken_line, walk_back}
 use Rattle.tx_text.proofs.Glued.{parts_some}
 use Rattle.chain_file.proofs.Spelled.{draft_spelled}
+use Rattle.rel_base.proofs.Bytes.{bytes_same, equal_bytes}
 
 -- the position of a draft file behind blocks
 abbrev at_of : ℕ → List Block → List ℕ → List ℕ → Option Begun → Position
@@ -54,7 +54,7 @@ IsBehind line None = Unit {0}
 IsBehind line (Some rest) = line ≡ codes "block " ++ rest
 
 pub behind_if : (line : List ℕ) (test : Bool) → bytes_eq (take 6 line) (codes "block ") ≡ test → IsBehind line (cond test (Some (drop 6 line)) None)
-behind_if line true e = sym (take-append-drop 6 line) ∙ ap (λ first. first ++ drop 6 line) (same_bytes (take 6 line) (codes "block ") e)
+behind_if line true e = sym (take-append-drop 6 line) ∙ ap (λ first. first ++ drop 6 line) (equal_bytes (take 6 line) (codes "block ") e)
 behind_if line false e = tt
 
 -- a line that a draft has between blocks
@@ -70,7 +70,7 @@ shape_first count line rest behind shape next =
     let none : past_word rest ≡ [] = no_bytes (past_word rest) (and_parts (is_number (word rest)) (length (past_word rest) == 0) shape).1 in
     let parts = and_parts (nat_lt count 1000000) (bytes_eq (word rest) (decimal (count + 1))) next in
     let whole : rest ≡ decimal (count + 1) =
-    sym (take-append-drop (position_or_len is_space rest) rest) ∙ ap (λ end. word rest ++ end) none ∙ append-nil (word rest) ∙ same_bytes (word rest) (decimal (count + 1)) parts.1 in
+    sym (take-append-drop (position_or_len is_space rest) rest) ∙ ap (λ end. word rest ++ end) none ∙ append-nil (word rest) ∙ equal_bytes (word rest) (decimal (count + 1)) parts.1 in
     let same : line ≡ codes "block " ++ decimal (count + 1) = behind ∙ ap (λ end. codes "block " ++ end) whole in
     and_from (nat_lt count 1000000) (is_block_line (count + 1) line) parts.0
     (subst (λ (text : List ℕ). bytes_eq text (codes "block " ++ decimal (count + 1)) ≡ true) (sym same) (bytes_same (codes "block " ++ decimal (count + 1))))
@@ -114,7 +114,7 @@ begin_taken : (at : Position) (count : ℕ) (line : List ℕ) → at.place ≡ p
 begin_taken at count line stands first =
     let parts = and_parts (nat_lt count 1000000) (is_block_line (count + 1) line) first in
     let few : count < 1000000 = ltb-true count 1000000 parts.0 in
-    let same : line ≡ codes "block " ++ decimal (count + 1) = same_bytes line (codes "block " ++ decimal (count + 1)) parts.1 in
+    let same : line ≡ codes "block " ++ decimal (count + 1) = equal_bytes line (codes "block " ++ decimal (count + 1)) parts.1 in
     taken_line at line (goes_on (place.Within form.Draft count []))
     (subst (λ (text : List ℕ). length text ≤ 4096) (sym same) (first_short count few))
     (ap (λ p. line_step p at.digits line) stands ∙ ap (begin form.Draft count at.digits) same ∙ begin_step count at.digits few)
@@ -161,7 +161,7 @@ inside_matches blocks at line txs false = tx_matches blocks at line txs (tx_of l
 
 -- a line that is too long is neither `end` nor a transaction
 long_no_end : (line : List ℕ) (test : Bool) → is_long line ≡ true → bytes_eq line (codes "end") ≡ test → test ≡ false
-long_no_end line true long e = absurd (omega (arith, ltb-true 4096 (length line) long, ap length (same_bytes line (codes "end") e)))
+long_no_end line true long e = absurd (omega (arith, ltb-true 4096 (length line) long, ap length (equal_bytes line (codes "end") e)))
 long_no_end line false long e = refl
 
 too_long : (line : List ℕ) → is_long line ≡ true → nat_le (length line) 4096 ≡ false

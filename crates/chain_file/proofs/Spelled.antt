@@ -11,13 +11,13 @@ use Rattle.std.proofs.lemmas.List.Splits.{join_with_byte-slice_split}
 use Rattle.proc_syntax.specs.declared.call.Tx.{Tx}
 use Rattle.proc_syntax.specs.declared.call.Block.{Block}
 use Rattle.tx_text.specs.Lines.{tx_of, tx_text}
-use Rattle.tx_text.proofs.Bytes.{same_bytes}
 use Rattle.tx_text.proofs.Takes.{IsWhole, tx_takes}
 use Rattle.chain_file.specs.declared.draft.Reading.{Reading}
 use Rattle.chain_file.specs.declared.draft.Begun.{Begun}
 use Rattle.tx_text.specs.Parts.{parts_of, line_text}
 use Rattle.chain_file.specs.Text.{tx_line, begun_text, block_text, draft_text}
 use Rattle.chain_file.specs.Draft.{block_if, block_of, within_block, between_blocks, is_block_line, end_block, add_tx, line_after, take_line, all_ended, last_part, read_parts, start, after_header, draft}
+use Rattle.rel_base.proofs.Bytes.{equal_bytes}
 
 -- one more item at the end
 pub flat_more : {A : Type 0} (text : A → List ℕ) (xs : List A) (x : A) → flat_map text (xs ++ (x ∷ [])) ≡ flat_map text xs ++ text x
@@ -36,7 +36,7 @@ Made text (Some reading) = so_far reading.blocks reading.begun ≡ text
 begin_made : (blocks : List Block) (n : ℕ) (line : List ℕ) (test : Bool) → (nat_lt (length blocks) 1000000 && is_block_line n line) ≡ test
     → Made (draft_text blocks ++ line_text line) (cond test (Some (within_block blocks n [])) None)
 begin_made blocks n line true e =
-    let same : line ≡ codes "block " ++ decimal n = same_bytes line (codes "block " ++ decimal n) (and_parts (nat_lt (length blocks) 1000000) (is_block_line n line) e).1 in
+    let same : line ≡ codes "block " ++ decimal n = equal_bytes line (codes "block " ++ decimal n) (and_parts (nat_lt (length blocks) 1000000) (is_block_line n line) e).1 in
     ap (λ text. draft_text blocks ++ text) (append-nil (line_text (codes "block " ++ decimal n))) ∙ ap (λ text. draft_text blocks ++ line_text text) (sym same)
 begin_made blocks n line false e = tt
 
@@ -80,7 +80,7 @@ tx_made blocks number txs line (Some tx) h = more_made blocks number txs line tx
 
 inside_made : (blocks : List Block) (begun : Begun) (line : List ℕ) (test : Bool) → bytes_eq line (codes "end") ≡ test
     → Made ((draft_text blocks ++ begun_text begun.number begun.txs) ++ line_text line) (cond test (end_block blocks begun.number begun.txs) (add_tx blocks begun.number begun.txs line))
-inside_made blocks begun line true e = end_made blocks begun.number begun.txs line (block_of begun.number begun.txs) (same_bytes line (codes "end") e) (block_is begun.number begun.txs)
+inside_made blocks begun line true e = end_made blocks begun.number begun.txs line (block_of begun.number begun.txs) (equal_bytes line (codes "end") e) (block_is begun.number begun.txs)
 inside_made blocks begun line false e = tx_made blocks begun.number begun.txs line (tx_of line) (tx_takes line)
 
 line_made : (blocks : List Block) (begun : Option Begun) (line : List ℕ) → Made (so_far blocks begun ++ line_text line) (line_after blocks begun line)
@@ -120,7 +120,7 @@ header_whole : (header part : List ℕ) (parts : List (List ℕ)) (test : Bool) 
 header_whole header part parts true e =
     let rest : List ℕ = join_with_byte 10 (part ∷ parts) in
     let same : (line_text (codes "draft 1") ++ []) ++ rest ≡ header ++ (10 ∷ rest) =
-    ap (λ text. text ++ rest) (append-nil (line_text (codes "draft 1"))) ∙ append_assoc (codes "draft 1") (10 ∷ []) rest ∙ ap (λ text. text ++ (10 ∷ rest)) (sym (same_bytes header (codes "draft 1") e)) in
+    ap (λ text. text ++ rest) (append-nil (line_text (codes "draft 1"))) ∙ append_assoc (codes "draft 1") (10 ∷ []) rest ∙ ap (λ text. text ++ (10 ∷ rest)) (sym (equal_bytes header (codes "draft 1") e)) in
     subst (λ (text : List ℕ). Whole text (read_parts start (part ∷ parts))) same (parts_whole (part ∷ parts) start)
 header_whole header part parts false e = tt
 

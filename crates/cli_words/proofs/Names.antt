@@ -9,9 +9,7 @@ use Rattle.cli_words.specs.declared.command.Command.TheVariants.{Run, Simulate, 
 use Rattle.cli_words.specs.declared.options.CommandOption.{CommandOption}
 use Rattle.cli_words.specs.declared.options.CommandOption.TheVariants as option
 use Rattle.cli_words.specs.Table.{command_of, command_word, commands, is_same, option_of, options, word_of}
-
-pub same_bytes : (xs ys : List ℕ) → bytes_eq xs ys ≡ true → xs ≡ ys
-same_bytes xs ys e = (bytes_eq-Decides xs ys).0 e
+use Rattle.rel_base.proofs.Bytes.{equal_bytes}
 
 -- what is found passes the test
 found_by : {A : Type 0} (test : A → Bool) (first : A) (rest : List A) (x : A) (b : Bool) → test first ≡ b → (find test rest ≡ Some x → test x ≡ true) → cond b (Some first) (find test rest) ≡ Some x → test x ≡ true
@@ -31,7 +29,7 @@ command_back Seal = refl
 command_back Load = refl
 
 pub named_command : (word : List ℕ) (command : Command) → command_of word ≡ Some command → word ≡ command_word command
-named_command word command e = sym (same_bytes (command_word command) word (find_true (λ other. bytes_eq (command_word other) word) commands command e))
+named_command word command e = sym (equal_bytes (command_word command) word (find_true (λ other. bytes_eq (command_word other) word) commands command e))
 
 pub option_back : (x : CommandOption) → option_of (word_of x) ≡ Some x
 option_back option.App = refl
@@ -48,12 +46,12 @@ option_back option.Json = refl
 option_back option.Trace = refl
 
 pub named_option : (word : List ℕ) (x : CommandOption) → option_of word ≡ Some x → word ≡ word_of x
-named_option word x e = sym (same_bytes (word_of x) word (find_true (λ other. bytes_eq (word_of other) word) options x e))
+named_option word x e = sym (equal_bytes (word_of x) word (find_true (λ other. bytes_eq (word_of other) word) options x e))
 
 -- options with one word are one
 pub one_option : (x y : CommandOption) → is_same x y ≡ true → x ≡ y
 one_option x y e =
-    let same : Some x ≡ Some y = sym (option_back x) ∙ ap option_of (same_bytes (word_of x) (word_of y) e) ∙ option_back y in
+    let same : Some x ≡ Some y = sym (option_back x) ∙ ap option_of (equal_bytes (word_of x) (word_of y) e) ∙ option_back y in
     cc
 
 -- what holds of all options holds of each

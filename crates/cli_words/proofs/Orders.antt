@@ -9,7 +9,7 @@ use Rattle.std.proofs.lemmas.Slice.Eq.{bytes_eq-Decides}
 use Rattle.cli_words.specs.declared.options.CommandOption.{CommandOption}
 use Rattle.cli_words.specs.Language.{Item, values_in}
 use Rattle.cli_words.specs.Table.{is_same}
-use Rattle.cli_words.proofs.Names.{same_bytes}
+use Rattle.rel_base.proofs.Bytes.{equal_bytes}
 
 -- what the values of an option add up to, over all options
 abbrev share : (List ℕ → ℕ) → CommandOption → Item → ℕ
@@ -48,7 +48,7 @@ few_alike (value ∷ []) [] few alike = absurd (omega (arith, alike one))
 few_alike (value ∷ []) (other ∷ []) few alike =
     let own : sum_by (sameness value) (value ∷ []) ≡ 1 = sum_by-cons (sameness value) value [] ∙ ap (λ b. cond b 1 0 + 0) (self_same value) in
     let is : bytes_eq value other ≡ true = tested (bytes_eq value other) (sym (sum_by-cons (sameness value) other []) ∙ alike (sameness value) ∙ own) in
-    ap (λ v. v ∷ []) (sym (same_bytes value other is))
+    ap (λ v. v ∷ []) (sym (equal_bytes value other is))
 few_alike (value ∷ []) (other ∷ another ∷ others) few alike = absurd (omega (arith, alike one, sum_by-cons one other (another ∷ others), sum_by-cons one another others))
 few_alike (value ∷ another ∷ values) others few alike = absurd (omega (arith, few))
 

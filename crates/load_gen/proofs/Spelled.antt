@@ -1,6 +1,6 @@
 -- Letters with a number behind them are texts and ids.
 use Rattle.std.proofs.Common.{Bool, List, [], arith, false, length, refl, true, ◌+◌, ◌++◌, ◌<◌, ◌^◌, ◌||◌, ◌∙◌, ◌≡◌, ◌≤◌, ◌∷◌, ℕ}
-use Rattle.rel_base.proofs.Bits.{both_true}
+use Rattle.rel_base.proofs.Bits.{both_true, or_left}
 use Rattle.rel_base.specs.Text.{has_id_form, has_no_control, is_id_byte, is_lower_case}
 use Rattle.std.proofs.lemmas.Bool.{le-leb, lt-ltb}
 use Rattle.std.proofs.lemmas.Fmt.{decimal_by_steps, length-decimal-le}
@@ -34,13 +34,9 @@ middle_true true b c is = refl
 middle_true false true c is = refl
 middle_true false false c is = cc
 
-left_true : (a b : Bool) → a ≡ true → (a || b) ≡ true
-left_true true b is = refl
-left_true false b is = cc
-
 id_digit : (digit : ℕ) → digit < 10 → is_id_byte (48 + digit) ≡ true
 id_digit digit below =
-    left_true _ (48 + digit == 45)
+    or_left _ (48 + digit == 45)
     (middle_true (is_lower_case (48 + digit)) _ (48 + digit == 95)
     (both_true (nat_le 48 (48 + digit)) (nat_le (48 + digit) 57) (le-leb 48 (48 + digit) (omega arith)) (le-leb (48 + digit) 57 (omega (arith, below)))))
 

@@ -17,6 +17,7 @@ use Rattle.node_model.specs.declared.outcome.Outcome.{Outcome}
 use Rattle.proc_syntax.specs.declared.call.Tx.{Tx}
 use Rattle.proc_syntax.specs.declared.tree.App.{App}
 use Rattle.schedule_laws.proofs.Choosing.{early-none}
+use Rattle.rel_base.proofs.Bits.{or_right}
 
 abbrev ids_in : List Tx → List (List ℕ)
 ids_in txs = map (λ (tx : Tx). tx.id) txs
@@ -47,10 +48,6 @@ job_among tx (one ∷ made) other = ap (λ b. cond b (Some (new_job one)) (job_o
         by false e = refl
         by true e = absurd (false≢true (sym apart ∙ (bytes_eq-Decides tx.id one.id).1 (sym ((bytes_eq-Decides one.id tx.id).0 (and_parts (bytes_eq one.id tx.id) _ e).0))))
 
-or_true : (a b : Bool) → b ≡ true → (a || b) ≡ true
-or_true true b e = refl
-or_true false b e = e
-
 job_more : (tx : Tx) (jobs more : List Job) → job_of tx more ≡ None → job_of tx (jobs ++ more) ≡ job_of tx jobs
 job_more tx [] more none = none
 job_more tx (job ∷ jobs) more none = ap (cond (is_for tx job) (Some job)) (job_more tx jobs more none)
@@ -70,7 +67,7 @@ module _ (app : App) (ids : List (List ℕ)) (number : ℕ) (jobs : List Job) wh
     where
       by : (b : Bool) → list_any (bytes_eq tx.id) (ids_in made) ≡ b → b ≡ false
       by false e = refl
-      by true e = absurd (false≢true (sym ((early-none app (ids ++ ids_in before) number tx none).unknown) ∙ (list_any-append (bytes_eq tx.id) ids (ids_in before) ∙ or_true (list_any (bytes_eq tx.id) ids) (list_any (bytes_eq tx.id) (ids_in before)) (are tx.id e))))
+      by true e = absurd (false≢true (sym ((early-none app (ids ++ ids_in before) number tx none).unknown) ∙ (list_any-append (bytes_eq tx.id) ids (ids_in before) ∙ or_right (list_any (bytes_eq tx.id) ids) (list_any (bytes_eq tx.id) (ids_in before)) (are tx.id e))))
 
   needs_same : (before made : List Tx) (tx : Tx) → AreIn made before → needs_no_job app (ids ++ ids_in before) number (jobs ++ map new_job made) tx ≡ needs_no_job app (ids ++ ids_in before) number jobs tx
   needs_same before made tx are = by (early app (ids ++ ids_in before) number tx) refl

@@ -14,19 +14,9 @@ use Rattle.node_core.specs.ById.{HasRoom, Holds, Indexes, KeepsHeld, SameJobs, b
 use Rattle.node_core.specs.declared.index.JobIndex.{JobIndex}
 use Rattle.node_model.specs.Steps.{Shared}
 use Rattle.proc_syntax.specs.declared.call.Tx.{Tx}
+use Rattle.rel_base.proofs.Bytes.{bytes_sym, equal_bytes}
 
 -- ---- equal ids
-
-pub equal_ids : (a b : List ℕ) → bytes_eq a b ≡ true → a ≡ b
-equal_ids a b h = (bytes_eq-Decides a b).0 h
-
-pub ids_sym : (a b : List ℕ) → bytes_eq a b ≡ bytes_eq b a
-ids_sym a b = by (bytes_eq a b) (bytes_eq b a) (λ h. (bytes_eq-Decides b a).1 (sym (equal_ids a b h))) (λ h. (bytes_eq-Decides a b).1 (sym (equal_ids b a h)))
-  where
-    by : (one other : Bool) → (one ≡ true → other ≡ true) → (other ≡ true → one ≡ true) → one ≡ other
-    by true other there back = sym (there refl)
-    by false true there back = back refl
-    by false false there back = refl
 
 -- ---- an index that gains an entry
 
@@ -35,7 +25,7 @@ abbrev pub Sets : JobIndex → JobIndex → List ℕ → ℕ → Type 0
 Sets old new id number = (other : List ℕ) → number_at new other ≡ cond (is_at (slice_cmp nat_cmp id) other) (Some number) (number_at old other)
 
 by_id : (old new : JobIndex) (id : List ℕ) (number : ℕ) → Sets old new id number → (other : List ℕ) → number_at new other ≡ cond (bytes_eq other id) (Some number) (number_at old other)
-by_id old new id number sets = λ other. sets other ∙ ap (λ b. cond b (Some number) (number_at old other)) (is_eq-slice_cmp id other ∙ ids_sym id other)
+by_id old new id number sets = λ other. sets other ∙ ap (λ b. cond b (Some number) (number_at old other)) (is_eq-slice_cmp id other ∙ bytes_sym id other)
 
 pub set_newest : (old new : JobIndex) (id : List ℕ) (number : ℕ) → Sets old new id number → (other : List ℕ) → newest_of new other ≡ cond (bytes_eq other id) number (newest_of old other)
 set_newest old new id number sets = λ other. ap or_zero (by_id old new id number sets other) ∙ by (bytes_eq other id) (number_at old other)
@@ -65,7 +55,7 @@ hold_same old new id absent sets = λ other. set_newest old new id 0 sets other 
     nothing (Some number) is = cc
 
     by : (other : List ℕ) (b : Bool) → bytes_eq other id ≡ b → cond b 0 (newest_of old other) ≡ newest_of old other
-    by other true is = subst (λ key. 0 ≡ newest_of old key) (sym (equal_ids other id is)) (nothing (number_at old id) absent)
+    by other true is = subst (λ key. 0 ≡ newest_of old key) (sym (equal_bytes other id is)) (nothing (number_at old id) absent)
     by other false is = refl
 
 -- an id that is held is found
@@ -119,7 +109,7 @@ newest_equal id (first ∷ ids) place is = by (λ place there. newest_equal id i
         → behind_first b n ≡ suc place → slice_get (first ∷ ids) place ≡ Some id
     by later b here (suc n) rest zero is = absurd (omega (arith, is))
     by later b here (suc n) rest (suc place) is = later place (rest ∙ (let same : suc n ≡ suc place = omega (arith, is) in same))
-    by later true here zero rest zero is = ap Some (sym (equal_ids id first here))
+    by later true here zero rest zero is = ap Some (sym (equal_bytes id first here))
     by later true here zero rest (suc place) is = absurd (omega (arith, is))
     by later false here zero rest place is = absurd (omega (arith, is))
 

@@ -11,8 +11,9 @@ use Rattle.rel_base.specs.Schema.{RowFits, key_of_row}
 use Rattle.rel_base.specs.Tables.{ref_cmp}
 use Rattle.rel_base.specs.Value.{key_eq}
 use Rattle.rel_base.specs.Among.{StandsIn}
+use Rattle.rel_base.proofs.Bits.{first_true, second_true}
 use Rattle.proc_syntax.specs.Meaning.{row_fits}
-use Rattle.proc_syntax.proofs.Fits.{kinds_hold, keys_equal, first_true, second_true}
+use Rattle.proc_syntax.proofs.Fits.{kinds_hold, keys_equal}
 use Rattle.plain_run.specs.State.{IsReady}
 use Rattle.row_sets.proofs.Entries.{entries-from_rising}
 

@@ -6,6 +6,7 @@ use Rattle.std.specs.Str.{bytes_eq}
 use Rattle.rel_base.specs.declared.schema.TableDef.{TableDef}
 use Rattle.rel_base.specs.declared.value.Kind.{Kind}
 use Rattle.rel_base.specs.declared.value.Value.{Value}
+use Rattle.rel_base.proofs.Bytes.{bytes_same, equal_bytes}
 use Rattle.proc_syntax.specs.declared.run.Binding.{Binding}
 use Rattle.proc_syntax.specs.declared.run.Binding.TheVariants.{Plain}
 use Rattle.proc_syntax.specs.declared.run.Variable.{Variable as Bound}
@@ -15,7 +16,6 @@ use Rattle.proc_check.specs.declared.scope.Sort.{Sort}
 use Rattle.proc_check.specs.declared.scope.Sort.TheVariants as sort
 use Rattle.proc_check.specs.declared.scope.Variable.{Variable}
 use Rattle.proc_check.specs.Scope.{look_up}
-use Rattle.proc_check.proofs.Columns.{equal_bytes, bytes_same}
 use Rattle.proc_check.proofs.Names.{StandsFor, Agrees}
 
 bound_same : (variables : List Bound) (name : List ℕ) (binding : Binding) → binding_of (bind variables name binding) name ≡ Some binding
@@ -56,10 +56,6 @@ look_less (first ∷ rest) more name P h =
     elim (bytes_eq first.name name)
     as (λ b. IfSome (cond b (Some first.sort) (look_up (rest ++ more) name)) P → IfSome (cond b (Some first.sort) (look_up rest name)) P)
     [ true ↦ λ h. h | false ↦ λ h. look_less rest more name P h ] h
-
-pub not_some : {A : Type 0} (o : Option A) → is_some o ≡ false → o ≡ None
-not_some None h = refl
-not_some (Some x) h = cc
 
 module _ (declared : List TableDef) where
   -- names that leave the scope take nothing away

@@ -9,6 +9,7 @@ use Rattle.std.proofs.lemmas.Slice.Eq.{bytes_eq-Decides}
 use Rattle.rel_base.specs.declared.value.Kind.{Kind}
 use Rattle.rel_base.specs.declared.value.Value.{Value}
 use Rattle.rel_base.specs.Value.{kind_of}
+use Rattle.rel_base.proofs.Bytes.{equal_bytes}
 use Rattle.proc_syntax.specs.declared.tree.ColumnText.{ColumnText}
 use Rattle.proc_syntax.specs.Declaring.{column_of, column_number}
 use Rattle.proc_syntax.specs.Values.{has_kind}
@@ -20,12 +21,6 @@ none_some h = subst (λ o. MatchOption o (Unit {0}) (λ x. ⊥)) h tt
 
 pub some_is : {A : Type 0} {x y : A} → Some x ≡ Some y → x ≡ y
 some_is h = cc
-
-pub equal_bytes : (a b : List ℕ) → bytes_eq a b ≡ true → a ≡ b
-equal_bytes a b h = (bytes_eq-Decides a b).0 h
-
-pub bytes_same : (a : List ℕ) → bytes_eq a a ≡ true
-bytes_same a = (bytes_eq-Decides a a).1 refl
 
 -- the kinds of the columns that a text declares
 abbrev pub kinds_of : List ColumnText → List Kind

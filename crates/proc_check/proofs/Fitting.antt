@@ -20,7 +20,8 @@ use Rattle.rel_base.specs.Tables.{Tables, rows, rows_among, is_read, ref_cmp, re
 use Rattle.rel_base.specs.Value.{key_cmp}
 use Rattle.rel_base.specs.Among.{StandsIn}
 use Rattle.rel_base.specs.OwnWrites.{Own, Keyed, keyed, set_row, covered, lay, lay_all, first_row, own_or, merged}
-use Rattle.proc_syntax.proofs.Fits.{first_true, second_true, keys_equal}
+use Rattle.rel_base.proofs.Bits.{first_true, is_Equal, second_true}
+use Rattle.proc_syntax.proofs.Fits.{keys_equal}
 use Rattle.proc_syntax.proofs.Sound.{all_put}
 
 -- ---- entries
@@ -35,11 +36,6 @@ all_where : {K X : Type 0} (R : K → K → Ordering) (P : X → Type 0) (p : K 
 all_where R P p [] all = tt
 all_where R P p (e ∷ es) all =
     elim (p e.0) as (λ b. AllByRecursion (λ e. P e.1) (cond b (e ∷ where_key R p es) (where_key R p es))) [ true ↦ (all.0, all_where R P p es all.1) | false ↦ all_where R P p es all.1 ]
-
-is_Equal : (o : Ordering) → is_eq o ≡ true → o ≡ Equal
-is_Equal Less e = cc
-is_Equal Equal e = refl
-is_Equal Greater e = cc
 
 all_find : {X : Type 0} (P : (ℕ × List Value) × X → Type 0) (k : ℕ × List Value) (es : List ((ℕ × List Value) × X)) → AllByRecursion P es → IfSome (find ref_cmp k es) (λ x. P (k, x))
 all_find P k [] all = tt

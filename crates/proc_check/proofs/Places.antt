@@ -12,12 +12,7 @@ use Rattle.std.proofs.lemmas.Slice.Eq.{bytes_eq-Decides}
 use Rattle.proc_check.specs.Places.{HasPlaces, place_of}
 use Rattle.proc_check.specs.Scope.{look_up}
 use Rattle.proc_check.specs.declared.scope.Variable.{Variable}
-
-equal_bytes : (a b : List ℕ) → bytes_eq a b ≡ true → a ≡ b
-equal_bytes a b h = (bytes_eq-Decides a b).0 h
-
-same_bytes : (a : List ℕ) → bytes_eq a a ≡ true
-same_bytes a = (bytes_eq-Decides a a).1 refl
+use Rattle.rel_base.proofs.Bytes.{bytes_same, equal_bytes}
 
 some_is : {a b : ℕ} → ◌≡◌ {A = Option ℕ} (Some a) (Some b) → a ≡ b
 some_is is = cc
@@ -135,7 +130,7 @@ noted_known old before variable known has = λ name. has name ∙ by name (bytes
 last_place : (old : BTreeMap (List ℕ) ℕ) (before : List Variable) (last : Variable) → HasPlaces old (before ++ last ∷ [])
     → get (slice_cmp nat_cmp) old last.name ≡ option_or (place_of before last.name) (Some (0 + length before))
 last_place old before last has =
-    has last.name ∙ one_more last.name 0 before last ∙ ap (λ b. option_or (place_of before last.name) (cond b (Some (0 + length before)) None)) (same_bytes last.name)
+    has last.name ∙ one_more last.name 0 before last ∙ ap (λ b. option_or (place_of before last.name) (cond b (Some (0 + length before)) None)) (bytes_same last.name)
 
 -- one whose place is its own
 pub forgot_first : (old new : BTreeMap (List ℕ) ℕ) (before : List Variable) (last : Variable) (place : ℕ) → get (slice_cmp nat_cmp) old last.name ≡ Some place

@@ -33,6 +33,7 @@ use Rattle.proc_syntax.specs.declared.tree.TableText.{TableText}
 use Rattle.proc_syntax.specs.Declaring.{declare}
 use Rattle.proc_syntax.specs.Meaning.{State, Outcome, Going, Stopped, then_do, step_then, with_value, with_some, bound, wrote, asked, point_of, span_of, end_has, row_fits, key_for, row_under, set_columns, insert_at, update_at, delete_at, get_at, visit, in_turn, in_turn_if, with_rows, act_step, act}
 use Rattle.rel_base.specs.OwnWrites.{merged}
+use Rattle.rel_base.proofs.Lists.{not_some}
 use Rattle.proc_syntax.specs.Scope.{table_named, column_in, value_of, values_of, end_of, changes_of}
 use Rattle.proc_syntax.specs.Values.{has_kind, have_kinds, flag_of}
 use Rattle.proc_syntax.proofs.Fits.{kinds_hold}
@@ -52,7 +53,7 @@ use Rattle.proc_check.proofs.Limits.{first, second, not_refused}
 use Rattle.proc_check.proofs.Operators.{IsFault, Of, bools, own_kind}
 use Rattle.proc_check.proofs.Columns.{kinds_of, number_at, run_number, none_some, some_is}
 use Rattle.proc_check.proofs.Names.{Agrees, RowOf, err_ok, ok_is, ok_then, found_some}
-use Rattle.proc_check.proofs.Bindings.{agrees_less, agrees_more, agrees_set, not_some}
+use Rattle.proc_check.proofs.Bindings.{agrees_less, agrees_more, agrees_set}
 use Rattle.proc_check.proofs.Fitting.{Stands, OwnStands, point_rows, span_rows, own_put}
 use Rattle.proc_check.proofs.Typed_values.{expr_typed, needed_kind, not_false}
 use Rattle.proc_check.proofs.Typed_lists.{IsChange, key_typed, insert_typed, end_typed, changes_typed, set_all, spanned}

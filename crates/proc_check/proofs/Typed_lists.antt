@@ -17,6 +17,8 @@ use Rattle.rel_base.specs.declared.value.Value.TheVariants as value
 use Rattle.rel_base.specs.Row.{value_at}
 use Rattle.rel_base.specs.Schema.{RowFits, key_of_row, span_columns}
 use Rattle.rel_base.specs.Value.{kind_of}
+use Rattle.rel_base.proofs.Bytes.{bytes_same, equal_bytes}
+use Rattle.rel_base.proofs.Bits.{or_first, or_right, or_second}
 use Rattle.proc_syntax.specs.declared.run.Variable.{Variable as Bound}
 use Rattle.proc_syntax.specs.declared.tree.Change.{Change}
 use Rattle.proc_syntax.specs.declared.tree.ColumnText.{ColumnText}
@@ -36,21 +38,9 @@ use Rattle.proc_check.specs.Tables.{column_kind, columns_in, columns_of, key_in,
 use Rattle.proc_check.specs.Walk.{◌>>=◌, in_order, has_name, refuse}
 use Rattle.proc_check.proofs.Limits.{first, second, not_refused}
 use Rattle.proc_check.proofs.Operators.{GivesKinds, GivesEnd, Of, no_truth, cons_kinds, cons_of, some_end, change_kind}
-use Rattle.proc_check.proofs.Columns.{kinds_of, number_at, run_number, one_name, row_value, equal_bytes, bytes_same}
+use Rattle.proc_check.proofs.Columns.{kinds_of, number_at, run_number, one_name, row_value}
 use Rattle.proc_check.proofs.Names.{Agrees, ok_then, found_some}
 use Rattle.proc_check.proofs.Typed_values.{expr_typed, needed, needed_kind}
-
-pub or_first : (a b : Bool) → (a || b) ≡ false → a ≡ false
-or_first true b h = cc
-or_first false b h = refl
-
-pub or_second : (a b : Bool) → (a || b) ≡ false → b ≡ false
-or_second true b h = cc
-or_second false b h = h
-
-or_right : (a b : Bool) → b ≡ true → (a || b) ≡ true
-or_right true b h = refl
-or_right false b h = h
 
 -- ---- the columns that a span may be on
 

@@ -8,6 +8,7 @@ use Rattle.std.proofs.lemmas.List.Elements.{recursion_from_All}
 use Rattle.rel_base.specs.declared.schema.TableDef.{TableDef}
 use Rattle.rel_base.specs.declared.value.Value.{Value}
 use Rattle.rel_base.specs.Tables.{Tables}
+use Rattle.rel_base.proofs.Bits.{first_true, second_true}
 use Rattle.proc_syntax.specs.declared.call.CallFault.{CallFault}
 use Rattle.proc_syntax.specs.declared.run.Binding.TheVariants.{Plain}
 use Rattle.proc_syntax.specs.declared.run.Stop.{Stop}
@@ -23,7 +24,6 @@ use Rattle.proc_syntax.specs.Meaning.{Outcome, Going, Stopped, in_turn, act}
 use Rattle.proc_syntax.specs.Run.{ran, ending_of, called, procedure_named, takes, arguments, start}
 use Rattle.proc_syntax.specs.Scope.{bind}
 use Rattle.proc_syntax.specs.Values.{has_kind, have_kinds}
-use Rattle.proc_syntax.proofs.Fits.{first_true, second_true}
 use Rattle.proc_syntax.proofs.Sound.{entries-empty}
 use Rattle.proc_check.specs.declared.fault.Bad.{Bad}
 use Rattle.proc_check.specs.declared.fault.BadKind.TheVariants.{Limit, NameTwice}

@@ -16,14 +16,10 @@ use Rattle.std.proofs.lemmas.List.Sums.{prefix_len-le-length}
 use Rattle.std.proofs.lemmas.Map.Text.{is_eq-slice_cmp}
 use Rattle.std.proofs.lemmas.Slice.Eq.{bytes_eq-Decides}
 use Rattle.proc_code.specs.Numbers.{Names, AreNumbered, has_name, number_if, number_of, with_name, with_names}
+use Rattle.rel_base.proofs.Bytes.{bytes_same, equal_bytes}
+use Rattle.rel_base.proofs.Bits.{or_left, or_right}
 
 -- ---- tests
-
-pub equal_bytes : (a b : List ℕ) → bytes_eq a b ≡ true → a ≡ b
-equal_bytes a b h = (bytes_eq-Decides a b).0 h
-
-pub same_bytes : (a : List ℕ) → bytes_eq a a ≡ true
-same_bytes a = (bytes_eq-Decides a a).1 refl
 
 -- what equals one of two names that differ is not the other
 pub other_bytes : (a n m : List ℕ) → bytes_eq a n ≡ false → bytes_eq a m ≡ true → bytes_eq n m ≡ false
@@ -31,26 +27,10 @@ other_bytes a n m differs same =
     elim (bytes_eq n m) as (λ b. bytes_eq n m ≡ b → b ≡ false) [
       | true ↦ λ h.
           let is : a ≡ n = equal_bytes a m same ∙ sym (equal_bytes n m h) in
-          let equal : bytes_eq a n ≡ true = subst (λ n. bytes_eq a n ≡ true) is (same_bytes a) in
+          let equal : bytes_eq a n ≡ true = subst (λ n. bytes_eq a n ≡ true) is (bytes_same a) in
           sym equal ∙ differs
       | false ↦ λ h. refl
     ] refl
-
-pub or_left : (a b : Bool) → a ≡ true → (a || b) ≡ true
-or_left true b h = refl
-or_left false b h = cc
-
-pub or_right : (a b : Bool) → b ≡ true → (a || b) ≡ true
-or_right true b h = refl
-or_right false b h = h
-
-pub none_left : (a b : Bool) → (a || b) ≡ false → a ≡ false
-none_left true b h = cc
-none_left false b h = refl
-
-pub none_right : (a b : Bool) → (a || b) ≡ false → b ≡ false
-none_right true b h = cc
-none_right false b h = h
 
 -- ---- the first place that passes, by recursion
 
@@ -106,7 +86,7 @@ new_name : (names : Names) (name : List ℕ) → has_name (with_name names name)
 new_name names name =
     elim (has_name names name) as (λ b. has_name names name ≡ b → has_name (cond b names (names ++ name ∷ [])) name ≡ true) [
       | true ↦ λ h. h
-      | false ↦ λ h. list_any-append (λ other. bytes_eq other name) names (name ∷ []) ∙ or_right (has_name names name) _ (or_left (bytes_eq name name) false (same_bytes name))
+      | false ↦ λ h. list_any-append (λ other. bytes_eq other name) names (name ∷ []) ∙ or_right (has_name names name) _ (or_left (bytes_eq name name) false (bytes_same name))
     ] refl
 
 -- each name that was met is there

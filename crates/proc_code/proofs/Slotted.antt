@@ -6,6 +6,7 @@ use Rattle.std.specs.Option.{option_map}
 use Rattle.std.specs.Str.{bytes_eq}
 use Rattle.std.proofs.lemmas.List.{length-set, length-replicate}
 use Rattle.rel_base.specs.declared.value.Value.{Value}
+use Rattle.rel_base.proofs.Bytes.{equal_bytes}
 use Rattle.proc_syntax.specs.declared.run.Binding.{Binding}
 use Rattle.proc_syntax.specs.declared.run.Binding.TheVariants.{Plain}
 use Rattle.proc_syntax.specs.declared.run.Variable.{Variable}
@@ -15,7 +16,7 @@ use Rattle.proc_syntax.specs.Scope.{bind, binding_of}
 use Rattle.proc_code.specs.Coded.{Slots, in_slot, given}
 use Rattle.proc_code.specs.Numbers.{Names, has_name, number_of}
 use Rattle.proc_code.specs.Resolved.{param_of}
-use Rattle.proc_code.proofs.Numbered.{equal_bytes, other_bytes, at, at_place}
+use Rattle.proc_code.proofs.Numbered.{other_bytes, at, at_place}
 
 pub record Slotted (names : Names) (variables : List Variable) (slots : Slots) : Type 0 where
   pub size : length slots ≡ length names

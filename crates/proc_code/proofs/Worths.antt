@@ -11,6 +11,7 @@ use Rattle.std.proofs.lemmas.Option.{slice_get-map, slice_get_past}
 use Rattle.rel_base.specs.declared.schema.Column.{Column}
 use Rattle.rel_base.specs.declared.schema.TableDef.{TableDef}
 use Rattle.rel_base.specs.declared.value.Value.{Value}
+use Rattle.rel_base.proofs.Bits.{or_first, or_second}
 use Rattle.proc_syntax.specs.declared.run.Binding.{Binding}
 use Rattle.proc_syntax.specs.declared.run.Binding.TheVariants.{Plain, Held}
 use Rattle.proc_syntax.specs.declared.run.Stop.{Stop}
@@ -25,7 +26,7 @@ use Rattle.proc_code.specs.declared.tree.Term.TheOpen as term
 use Rattle.proc_code.specs.Coded.{Slots, table_at, column_at, cell_of, worth_step, worth_of, worths_of, end_worth, sets_worth}
 use Rattle.proc_code.specs.Numbers.{Names, has_name, number_of, with_names, table_number, column_of_table, column_names, column_places}
 use Rattle.proc_code.specs.Resolved.{term_step, term_of, setting_of}
-use Rattle.proc_code.proofs.Numbered.{find_name, met, none_left, none_right}
+use Rattle.proc_code.proofs.Numbered.{find_name, met}
 use Rattle.proc_code.proofs.Slotted.{Slotted}
 
 -- ---- tables
@@ -66,10 +67,10 @@ no_cell : (tables : List TableDef) (table : ℕ) (row : List Value) (name : List
 no_cell [] table row name none = refl
 no_cell (def ∷ tables) zero row name none =
     let here = sym (list_any-append (λ other. bytes_eq other name) (map (λ column. column.name) def.columns) (flat_map (λ def. map (λ column. column.name) def.columns) tables)) ∙ none in
-    ap (option_and_then (slice_get row)) (no_column def.columns name 0 (none_left _ _ here))
+    ap (option_and_then (slice_get row)) (no_column def.columns name 0 (or_first _ _ here))
 no_cell (def ∷ tables) (suc table) row name none =
     let here = sym (list_any-append (λ other. bytes_eq other name) (map (λ column. column.name) def.columns) (flat_map (λ def. map (λ column. column.name) def.columns) tables)) ∙ none in
-    no_cell tables table row name (none_right (has_name (map (λ column. column.name) def.columns) name) _ here)
+    no_cell tables table row name (or_second (has_name (map (λ column. column.name) def.columns) name) _ here)
 
 -- what was not met was not there
 unmet : (more : Names) (name : List ℕ) → has_name (with_names [] more) name ≡ false → has_name more name ≡ false

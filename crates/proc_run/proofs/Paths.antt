@@ -7,6 +7,7 @@ use Rattle.std.proofs.lemmas.List.{drop_all}
 use Rattle.rel_base.specs.declared.schema.TableDef.{TableDef}
 use Rattle.rel_base.specs.declared.value.Value.{Value}
 use Rattle.rel_base.specs.Tables.{Tables}
+use Rattle.rel_base.proofs.Lists.{item_of}
 use Rattle.proc_syntax.specs.declared.fault.Fault.TheVariants as fault
 use Rattle.proc_syntax.specs.declared.run.Stop.{Stop}
 use Rattle.proc_syntax.specs.declared.run.Stop.TheVariants as stop
@@ -32,11 +33,6 @@ one_and_left (y ∷ ys) (suc n) x h = one_and_left ys n x h
 
 pub one_left : {X : Type 0} (xs : List X) (n : ℕ) (x : X) → slice_get xs n ≡ Some x → drop n xs ≡ x ∷ drop (n + 1) xs
 one_left xs n x h = one_and_left xs n x h ∙ ap (λ m. x ∷ drop m xs) (sym (add-one n))
-
-pub some_left : {X : Type 0} (xs : List X) (n : ℕ) → n < length xs → (x : X) × (slice_get xs n ≡ Some x)
-some_left [] n h = absurd (omega (arith, h))
-some_left (x ∷ xs) zero h = (x, refl)
-some_left (x ∷ xs) (suc n) h = some_left xs n (omega (arith, h))
 
 -- ---- outcomes
 
@@ -158,7 +154,7 @@ module _ (declared : List TableDef) (columns : List (List (Option ℕ))) (S : Ta
     -- where no step is left
     pub loop_late : next < length rows → 100000 ≤ st.steps → Stopped st (stop.Fault fault.Steps) ≡ before
     loop_late within high =
-        let row = some_left rows next within in
+        let row = item_of rows next within in
         ap (λ o. then_do o under) (sym (no_step st (λ counted. then_do (body (hold slot table row.0 counted)) (each_held (hold slot table) body (drop (next + 1) rows))) high)) ∙ loop_next row.0 row.1
 
     -- the next one

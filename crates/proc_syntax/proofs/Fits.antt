@@ -19,16 +19,9 @@ use Rattle.rel_base.specs.Access.{read_table, ReadFits}
 use Rattle.rel_base.specs.Row.{value_at}
 use Rattle.rel_base.specs.Schema.{kind_at, span_columns, RowFits, KeyFits, key_of_row}
 use Rattle.rel_base.specs.Value.{kind_of, key_eq, key_cmp, key_cmp-exact}
+use Rattle.rel_base.proofs.Bits.{first_true, is_Equal, second_true}
 use Rattle.proc_syntax.specs.Meaning.{point_of, span_of, end_has, row_fits, key_for, row_under}
 use Rattle.proc_syntax.specs.Values.{has_kind, have_kinds}
-
-pub first_true : (a b : Bool) → (a && b) ≡ true → a ≡ true
-first_true true b h = refl
-first_true false b h = h
-
-pub second_true : (a b : Bool) → (a && b) ≡ true → b ≡ true
-second_true true b h = h
-second_true false b h = cc
 
 pub kind_holds : (k : Kind) (v : Value) → has_kind k v ≡ true → kind_of v ≡ k
 kind_holds kind.Int (value.Int n) h = refl
@@ -70,11 +63,6 @@ kinds_held ks vs e = subst (λ ks. have_kinds ks vs ≡ true) e (own_kinds vs)
 
 pub keys_equal : (a b : List Value) → key_eq a b ≡ true → a ≡ b
 keys_equal a b h = key_cmp-exact a b (is_Equal (key_cmp a b) h)
-  where
-    is_Equal : (o : Ordering) → is_eq o ≡ true → o ≡ Equal
-    is_Equal Less e = cc
-    is_Equal Equal e = refl
-    is_Equal Greater e = cc
 
 -- the key of a row that fits fits
 pub key_of_fit : (def : TableDef) (row : List Value) → RowFits def row → KeyFits def (key_of_row def row)

@@ -23,7 +23,7 @@ use Rattle.rel_base.proofs.Frames.{filter-put, filter-where_key, entries-remove}
 use Rattle.rel_base.specs.Among.{StandsIn, TablesFit}
 use Rattle.proc_syntax.specs.Laws.{laid}
 use Rattle.rel_base.specs.OwnWrites.{Own, Keyed, keyed, set_row, covered, lay, lay_all}
-use Rattle.proc_syntax.proofs.Fits.{first_true}
+use Rattle.rel_base.proofs.Bits.{first_true}
 
 first : (a b : Bool) → T (a && b) → T a
 first true b p = tt

@@ -38,8 +38,9 @@ use Rattle.proc_syntax.specs.Values.{have_kinds}
 use Rattle.proc_syntax.specs.Meaning.{Outcome, Going, Stopped, block}
 use Rattle.rel_base.specs.OwnWrites.{first_row}
 use Rattle.rel_base.specs.NetWrites.{row_in, write_before, net_from, net}
+use Rattle.rel_base.proofs.Bits.{first_true, second_true}
 use Rattle.proc_syntax.specs.Run.{ran, no_run, start, takes, called, procedure_named, run}
-use Rattle.proc_syntax.proofs.Fits.{keys_equal, first_true, second_true, key_of_fit, kinds_held}
+use Rattle.proc_syntax.proofs.Fits.{keys_equal, key_of_fit, kinds_held}
 use Rattle.proc_syntax.proofs.Framed.{state_of, Agrees, framed_block}
 use Rattle.proc_syntax.proofs.Sound.{Sound, Answered, OwnFits, WasRead, sound_run, all_more}
 

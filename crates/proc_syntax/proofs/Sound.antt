@@ -19,6 +19,7 @@ use Rattle.rel_base.specs.Schema.{KeyFits, RowFits, key_of_row}
 use Rattle.rel_base.specs.Tables.{Tables, rows, ref_cmp, ref_cmp-total, ref_cmp-exact}
 use Rattle.proc_syntax.specs.declared.tree.ProcDef.{ProcDef}
 use Rattle.rel_base.specs.Among.{rows_in, rows_by, ReadFitsIn, StandsIn}
+use Rattle.rel_base.proofs.Lists.{nil_of}
 use Rattle.proc_syntax.specs.Laws.{OwnFit}
 use Rattle.proc_syntax.specs.Meaning.{State, wrote, asked, block}
 use Rattle.proc_syntax.specs.Run.{start}
@@ -55,12 +56,8 @@ put_longer k v (e ∷ es) = longer_by (ref_cmp k e.0) ((k, v) ∷ e ∷ es) ((e.
     longer_by Equal a b c n ha hb hc = hb
     longer_by Greater a b c n ha hb hc = hc
 
-no_items : {X : Type 0} (xs : List X) → length xs ≡ 0 → xs ≡ []
-no_items [] e = refl
-no_items (x ∷ xs) e = absurd (omega (arith, e))
-
 pub entries-empty : finite.entries (finite.empty {X = Option (List Value)} {R = ref_cmp}) ≡ []
-entries-empty = no_items _ (sym (finite.len-entries finite.empty) ∙ finite.len-empty ref_cmp (Option (List Value)))
+entries-empty = nil_of _ (sym (finite.len-entries finite.empty) ∙ finite.len-empty ref_cmp (Option (List Value)))
 
 at_some : {X : Type 0} (o : Option X) (x : X) (P : X → Type 0) → o ≡ Some x → P x → IsSomeAnd o P
 at_some o x P e p = rw e p

@@ -10,6 +10,7 @@ use Rattle.provenance.specs.Laws.{HasPlaces, PlacesAreTold}
 use Rattle.provenance.specs.Versions.{history_of, item_of, told_at}
 use Rattle.rel_base.specs.Tables.{Stamped}
 use Rattle.rel_base.specs.declared.access.Placed.{Placed}
+use Rattle.rel_base.proofs.Lists.{item_at}
 use Rattle.row_sets.specs.Lifespans.{place_of}
 
 -- an item is there at each place below the length
@@ -23,16 +24,11 @@ number_there xs number some within =
     let test : (number == 0) ≡ false = ne_eqb number 0 (λ e. omega (arith, some, e)) in
     subst (λ b. IsSome (cond b None (slice_get xs (number - 1)))) (sym test) (item_there xs (number - 1) (omega (arith, some, within)))
 
--- the item behind some others
-item_behind : {X : Type 0} (front : List X) (x : X) (rest : List X) → slice_get (front ++ x ∷ rest) (length front) ≡ Some x
-item_behind [] x rest = refl
-item_behind (y ∷ front) x rest = item_behind front x rest
-
 item_next : {X : Type 0} (front : List X) (x : X) (rest : List X) (number : ℕ) → number ≡ length front + 1 → item_of (front ++ x ∷ rest) number ≡ Some x
 item_next front x rest number next =
     let test : (number == 0) ≡ false = ne_eqb number 0 (λ e. omega (arith, next, e)) in
     let index : number - 1 ≡ length front = omega (arith, next) in
-    ap (λ b. cond b None (slice_get (front ++ x ∷ rest) (number - 1))) test ∙ ap (slice_get (front ++ x ∷ rest)) index ∙ item_behind front x rest
+    ap (λ b. cond b None (slice_get (front ++ x ∷ rest) (number - 1))) test ∙ ap (slice_get (front ++ x ∷ rest)) index ∙ item_at front x rest
 
 module _ (blocks : List BlockResult) where
   -- a write stands at the place of a transaction

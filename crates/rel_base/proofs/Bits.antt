@@ -1,5 +1,5 @@
 -- Small lemmas on answers of tests, which the other proofs share.
-use Rattle.std.proofs.Common.{◌≡◌, ◌∙◌, Bool, true, false, refl, sym, subst, T, ◌&&◌}
+use Rattle.std.proofs.Common.{◌≡◌, ◌∙◌, ◌⊎◌, inl, inr, Bool, true, false, refl, sym, subst, T, ◌&&◌, ◌||◌}
 use Rattle.std.specs.declared.cmp.Ordering.{Ordering}
 use Rattle.std.specs.declared.cmp.Ordering.TheVariants.{Less, Equal, Greater}
 use Rattle.std.specs.Ordering.{is_eq, is_lt, is_le, is_gt, ordering_reverse}
@@ -72,3 +72,34 @@ pub reverse_of_greater : (o : Ordering) → is_gt o ≡ true → is_le (ordering
 reverse_of_greater Less h = absurd (no_both false h refl)
 reverse_of_greater Equal h = refl
 reverse_of_greater Greater h = refl
+
+-- neither of two tests passes where not one of them does: the first
+pub or_first : (a b : Bool) → (a || b) ≡ false → a ≡ false
+or_first true b none = none
+or_first false b none = refl
+
+-- and the second
+pub or_second : (a b : Bool) → (a || b) ≡ false → b ≡ false
+or_second true b none = cc
+or_second false b none = none
+
+-- one of two tests passes where the first does
+pub or_left : (a b : Bool) → a ≡ true → (a || b) ≡ true
+or_left true b passes = refl
+or_left false b passes = cc
+
+-- and where the second does
+pub or_right : (a b : Bool) → b ≡ true → (a || b) ≡ true
+or_right true b passes = refl
+or_right false b passes = passes
+
+-- one of two tests passes
+pub either : (a b : Bool) → (a || b) ≡ true → (a ≡ true) ⊎ (b ≡ true)
+either true b one = inl refl
+either false b one = inr one
+
+-- an order that answers as the one of a lesser and a greater
+pub less_from : (o : Ordering) → is_lt o ≡ true → o ≡ Less
+less_from Less less = refl
+less_from Equal less = absurd (no_both false less refl)
+less_from Greater less = absurd (no_both false less refl)

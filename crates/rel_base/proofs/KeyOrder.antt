@@ -23,6 +23,7 @@ use Rattle.rel_base.specs.Value.{key_cmp}
 use Rattle.rel_base.proofs.Bits.{first, second, is_Less, second_true, first_true}
 use Rattle.rel_base.proofs.Commutes.{is_sorted-filter}
 use Rattle.rel_base.proofs.Frames.{entries-remove}
+use Rattle.rel_base.proofs.Lists.{nil_of}
 
 -- what holds of each entry and of a new one, holds with the new one put
 All-put : {K X : Type 0} (R : K → K → Ordering) (exact : (a b : K) → R a b ≡ Equal → a ≡ b) (P : K × X → Type 0) (k : K) (v : X) (es : List (K × X)) → P (k, v) → All P es → All P (put R k v es)
@@ -33,11 +34,6 @@ All-put R exact P k v (e ∷ es) new all =
       | Equal ↦ λ is. All-cons P (e.0, v) es (subst (λ x. P (x, v)) (exact k e.0 is) new) (All-tail P e es all)
       | Greater ↦ λ is. All-cons P e (put R k v es) (All-head P e es all) (All-put R exact P k v es new (All-tail P e es all))
     ] refl
-
--- a list of no length has no item
-nil_of : {X : Type 0} (xs : List X) → length xs ≡ 0 → xs ≡ []
-nil_of [] none = refl
-nil_of (x ∷ xs) none = absurd (omega (arith, none))
 
 -- the tables before the first block have no entry
 pub no_entries : entries no_tables ≡ []

@@ -1,4 +1,6 @@
 pub mod Bits
+pub mod Bytes
+pub mod Lists
 pub mod Positions
 pub mod Columns
 pub mod Frames

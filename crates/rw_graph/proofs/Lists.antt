@@ -1,9 +1,9 @@
 -- Elements by recursion on the list, and pairs of them.
 use Rattle.std.proofs.Common.{arith, inl, inr, refl, subst, suc, zero, true, Bool, List, [], ◌∷◌, ◌≡◌, ◌⊎◌}
-use Rattle.rw_graph.proofs.Cases.{first_true, second_true}
 use Rattle.std.specs.List.{AllByRecursion, list_all}
 use Rattle.std.specs.Prelude.{AllPairs, Contains}
 use Rattle.std.proofs.lemmas.List.Elements.{recursion_from_All}
+use Rattle.rel_base.proofs.Bits.{first_true, second_true}
 
 -- x is an element
 abbrev pub In : {M : Type 0} → M → List M → Type 0

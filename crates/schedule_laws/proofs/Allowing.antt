@@ -16,6 +16,7 @@ use Rattle.schedule_laws.specs.Laws.{StepsAreAllowed}
 use Rattle.std.proofs.lemmas.Bool.{eqb-true, false≢true, or_parts}
 use Rattle.std.proofs.lemmas.Option.{none-some, same_Some}
 use Rattle.std.specs.Option.{is_some}
+use Rattle.rel_base.proofs.Lists.{not_some}
 
 past : (b : Bool) (x : Answer) (r : Reply) (e : Event) → (cond b (x, None) r).1 ≡ Some e → (b ≡ false) × (r.1 ≡ Some e)
 past true x r e h = absurd (none-some e h)
@@ -25,10 +26,6 @@ took : (b : Bool) (x : Answer) (r : Reply) (e : Event) → (cond b r (x, None)).
 took true x r e h = (refl, h)
 took false x r e h = absurd (none-some e h)
 
-pub none_is : {X : Type 0} (o : Option X) → is_some o ≡ false → o ≡ None
-none_is None h = refl
-none_is (Some x) h = absurd (false≢true (sym h))
-
 module _ (app : App) (w : World) (actor : ℕ) (facts : FactsHold app w) where
   allowed : (ask : Ask) (event : Event) → May app w actor ask → (reply app w ask).1 ≡ Some event → Allows app w actor event
   allowed (ToArrive tx) event may told =
@@ -37,7 +34,7 @@ module _ (app : App) (w : World) (actor : ℕ) (facts : FactsHold app w) where
       let c = or_parts (is_some (job_of tx.value w.jobs)) _ b.0 in
       let d = or_parts (is_settled tx.value.id w.sealed) _ c.1 in
       subst (Allows app w actor) (same_Some (Arrive (length w.jobs + 1) tx) event b.1)
-      (refl, record { can = none_is (call_fault app tx.value) a.0; no_job = none_is (job_of tx.value w.jobs) c.0; not_settled = d.0 })
+      (refl, record { can = not_some (call_fault app tx.value) a.0; no_job = not_some (job_of tx.value w.jobs) c.0; not_settled = d.0 })
   allowed (ToClaim pick) event may told = by (chosen app w pick) refl told where
     by : (o : Option ℕ) → chosen app w pick ≡ o → (claims o).1 ≡ Some event → Allows app w actor event
     by None is e = absurd (none-some event e)

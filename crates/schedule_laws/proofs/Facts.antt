@@ -15,7 +15,7 @@ use Rattle.proc_syntax.specs.Call.{call_fault}
 use Rattle.proc_syntax.specs.declared.call.Block.{Block}
 use Rattle.proc_syntax.specs.declared.call.Tx.{Tx}
 use Rattle.proc_syntax.specs.declared.tree.App.{App}
-use Rattle.schedule_laws.proofs.Allowing.{none_is, steps_are_allowed}
+use Rattle.schedule_laws.proofs.Allowing.{steps_are_allowed}
 use Rattle.schedule_laws.proofs.Chains.{counted-append, settled-known, shows-more}
 use Rattle.schedule_laws.proofs.Choosing.{early-none}
 use Rattle.schedule_laws.proofs.Fitting.{claimed_fits, finished_fits, new_fits, over_fits, read_fits, released_fits}
@@ -30,6 +30,7 @@ use Rattle.std.proofs.lemmas.List.{map-append}
 use Rattle.std.proofs.lemmas.Option.{none-some, same_Some, slice_get_within}
 use Rattle.std.specs.List.{list_any}
 use Rattle.std.specs.Option.{is_some}
+use Rattle.rel_base.proofs.Lists.{not_some}
 
 -- ---- delivery
 
@@ -49,7 +50,7 @@ module _ (app : App) (number : ℕ) (known : List (List ℕ)) (Q : List Job → 
       by None true is e = q
       by None false is e =
           let runs = early-none app (known ++ more) number tx is in
-          keep tx jobs runs.can (or_parts (list_any (bytes_eq tx.id) known) _ (sym (list_any-append (bytes_eq tx.id) known more) ∙ runs.unknown)).0 (none_is (job_of tx jobs) e) q
+          keep tx jobs runs.can (or_parts (list_any (bytes_eq tx.id) known) _ (sym (list_any-append (bytes_eq tx.id) known more) ∙ runs.unknown)).0 (not_some (job_of tx jobs) e) q
 
   -- a delivery keeps it
   pub grown : Keeps → (txs : List Tx) (jobs : List Job) → Q jobs → Q (with_jobs app known number txs jobs)

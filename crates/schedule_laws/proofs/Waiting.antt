@@ -9,7 +9,6 @@ use Rattle.node_model.specs.declared.journal.Pick.TheVariants.{Due}
 use Rattle.node_model.specs.declared.outcome.Outcome.{Outcome}
 use Rattle.proc_syntax.specs.declared.call.Tx.{Tx}
 use Rattle.proc_syntax.specs.declared.tree.App.{App}
-use Rattle.schedule_laws.proofs.Allowing.{none_is}
 use Rattle.schedule_laws.proofs.Choosing.{number_stands}
 use Rattle.schedule_laws.proofs.Lists.{job_of-is}
 use Rattle.schedule_laws.specs.Due.{IsDueJob}
@@ -19,6 +18,7 @@ use Rattle.std.proofs.lemmas.Bool.{and_parts, false≢true, or_parts}
 use Rattle.std.proofs.lemmas.Option.{none-some, same_Some}
 use Rattle.std.specs.List.{position_from}
 use Rattle.std.specs.Option.{is_some, option_and_then}
+use Rattle.rel_base.proofs.Lists.{not_some}
 
 -- ---- the job of a transaction has a number
 
@@ -131,7 +131,7 @@ awaited : (app : App) (w : World) (holder : Option ℕ) (waits : Waits app w hol
 awaited app w holder waits facts =
     let fits = facts.work_fits waits.work waits.in_work in
     let parts = or_parts (is_some (early_cause app w waits.work waits.tx)) (is_done_job (job_of waits.tx w.jobs)) waits.not_ready in
-    let none : early_cause app w waits.work waits.tx ≡ None = none_is (early_cause app w waits.work waits.tx) parts.0 in
+    let none : early_cause app w waits.work waits.tx ≡ None = not_some (early_cause app w waits.work waits.tx) parts.0 in
     let job = some_is (job_of waits.tx w.jobs) (fits.have_jobs (decided waits.work) waits.tx (omega arith) waits.is_due (ap (λ ids. early app (ids_of w.sealed ++ ids) waits.work.block.number waits.tx) (sym fits.told) ∙ none)) in
     record {
       job = job.0;

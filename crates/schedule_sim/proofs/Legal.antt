@@ -18,6 +18,7 @@ use Rattle.proc_syntax.specs.declared.call.Block.{Block}
 use Rattle.proc_syntax.specs.declared.call.Tx.{Tx}
 use Rattle.proc_syntax.specs.declared.tree.App.{App}
 use Rattle.rel_base.specs.declared.access.Read as access
+use Rattle.rel_base.proofs.Bits.{either}
 use Rattle.schedule_laws.proofs.Folding.{FollowsTheFold, reached}
 use Rattle.schedule_laws.specs.Scheduled.{block_in}
 use Rattle.serial_laws.specs.Chained.{AreNumbered}
@@ -39,10 +40,6 @@ none_not (Some read) e = refl
 is_none_is : (o : Option access.Read) → is_none o ≡ true → o ≡ None
 is_none_is None e = refl
 is_none_is (Some read) e = absurd (false≢true e)
-
-either : (a b : Bool) → (a || b) ≡ true → (a ≡ true) ⊎ (b ≡ true)
-either true b e = inl refl
-either false b e = inr e
 
 module _ (given : Given) (w : World) where
   may_ask : (taken : Step) (ask : Ask) → asked_by given w taken ≡ Some ask → May given.app w (made_by taken) ask

@@ -12,7 +12,6 @@ use Rattle.node_model.specs.declared.journal.Pick.{Pick}
 use Rattle.node_model.specs.declared.journal.Pick.TheVariants as pick
 use Rattle.tx_text.specs.Fields.{after, is_space, past_word, word}
 use Rattle.tx_text.specs.Values.{alone}
-use Rattle.tx_text.proofs.Bytes.{same_bytes}
 use Rattle.tx_text.proofs.ListedItems.{listed_fine}
 use Rattle.tx_text.proofs.ListedText.{listed_spelled}
 use Rattle.tx_text.proofs.Takes.{IsInFront, after_takes}
@@ -20,6 +19,7 @@ use Rattle.schedule_sim.specs.declared.step.Step.{Step}
 use Rattle.schedule_sim.specs.declared.step.Step.TheVariants as step
 use Rattle.schedule_sim.specs.Steps.{IsActor, IsPick, IsStep, actor_of, as_actor, claim_of, number_of, pick_of, pick_text, step_of, step_text, step_with}
 use Rattle.schedule_sim.specs.Schedules.{schedule_form, schedule_of, schedule_text}
+use Rattle.rel_base.proofs.Bytes.{equal_bytes}
 
 -- what was found is fine, and the bytes are its text
 abbrev Says : {A : Type 0} → (A → List ℕ) → (A → Type 0) → List ℕ → Option A → Type 0
@@ -58,7 +58,7 @@ nth_said bytes None h = tt
 nth_said bytes (Some place) h = h
 
 pick_if : (bytes : List ℕ) (test : Bool) → bytes_eq bytes (codes "due") ≡ test → Says pick_text IsPick bytes (cond test (Some pick.Due) (option_map (λ place. pick.Nth place) (number_of bytes)))
-pick_if bytes true e = (same_bytes bytes (codes "due") e, tt)
+pick_if bytes true e = (equal_bytes bytes (codes "due") e, tt)
 pick_if bytes false e = nth_said bytes (number_of bytes) (number_said bytes)
 
 pick_said : (bytes : List ℕ) → Says pick_text IsPick bytes (pick_of bytes)
@@ -104,7 +104,7 @@ with_one front bytes make Fine (Some n) text fine h = (ap (λ back. front ++ bac
 step_if : (line name known front rest : List ℕ) (test : Bool) (x y : Option Step) → bytes_eq name known ≡ test → line ≡ name ++ (32 ∷ rest) → known ++ (32 ∷ rest) ≡ front ++ rest
     → SaysStep (front ++ rest) x → SaysStep line y → SaysStep line (cond test x y)
 step_if line name known front rest true x y e whole same hx hy =
-    subst (λ (bytes : List ℕ). SaysStep bytes x) (sym (whole ∙ ap (λ word. word ++ (32 ∷ rest)) (same_bytes name known e) ∙ same)) hx
+    subst (λ (bytes : List ℕ). SaysStep bytes x) (sym (whole ∙ ap (λ word. word ++ (32 ∷ rest)) (equal_bytes name known e) ∙ same)) hx
 step_if line name known front rest false x y e whole same hx hy = hy
 
 with_said : (line name rest : List ℕ) → line ≡ name ++ (32 ∷ rest) → SaysStep line (step_with name rest)
@@ -121,7 +121,7 @@ with_said line name rest whole =
 
 -- a step of one word
 word_if : (line known : List ℕ) (made : Step) (test : Bool) (y : Option Step) → bytes_eq line known ≡ test → step_text made ≡ known → IsStep made → SaysStep line y → SaysStep line (cond test (Some made) y)
-word_if line known made true y e text fine hy = (same_bytes line known e ∙ sym text, fine)
+word_if line known made true y e text fine hy = (equal_bytes line known e ∙ sym text, fine)
 word_if line known made false y e text fine hy = hy
 
 behind_said : (line : List ℕ) (rest : Option (List ℕ)) → IsInFront (codes " ") (past_word line) rest → SaysStep line (option_and_then (step_with (word line)) rest)

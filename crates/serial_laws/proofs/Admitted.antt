@@ -5,7 +5,8 @@ use Rattle.node_model.specs.Edges.{edge, touches}
 use Rattle.node_model.specs.Order.{order}
 use Rattle.node_model.specs.declared.result.Committed.{Committed}
 use Rattle.rel_base.specs.declared.schema.TableDef.{TableDef}
-use Rattle.rw_graph.proofs.Cases.{both_true, first_true, not_true, second_true}
+use Rattle.rel_base.proofs.Bits.{both_true, first_true, second_true}
+use Rattle.rw_graph.proofs.Cases.{not_true}
 use Rattle.rw_graph.proofs.Lists.{In, Pairs, each_at, pairs_from}
 use Rattle.serial_laws.proofs.Acyclic.{HasNoForm, no_cycle, sources}
 use Rattle.serial_order.proofs.Placed.{serial}

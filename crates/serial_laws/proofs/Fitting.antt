@@ -8,6 +8,7 @@ use Rattle.rel_base.specs.Tables.{HistoryFits, Stamped, Tables, no_tables, seen_
 use Rattle.rel_base.specs.declared.access.Write.{Write}
 use Rattle.rel_base.specs.declared.schema.TableDef.{TableDef}
 use Rattle.rel_base.specs.declared.value.Value.{Value}
+use Rattle.rel_base.proofs.Lists.{all_of}
 use Rattle.rw_graph.proofs.Lists.{In}
 use Rattle.serial_order.proofs.Each.{all_at}
 use Rattle.serial_laws.proofs.Stories.{set_append}
@@ -59,9 +60,6 @@ module _ (tables : List TableDef) where
 
   abbrev UpTo : ℕ → Stamped → Type 0
   UpTo number stamped = stamped.0 ≤ number
-
-  all_of : {X : Type 0} (P : X → Type 0) → ((x : X) → P x) → (xs : List X) → All P xs
-  all_of P holds xs = All-weaker (λ x. Unit {0}) P (λ x _. holds x) xs (λ k d lt. tt)
 
   pub fits_stamps : (number pos : ℕ) (vs : List Write) → All (WriteFitsIn tables) vs → HistoryFits tables (stamps number pos vs)
   fits_stamps number pos vs fits = All-map FitsAt (λ write. (number, record { pos = pos; write = write })) vs fits

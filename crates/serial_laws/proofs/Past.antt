@@ -9,6 +9,7 @@ use Rattle.rel_base.specs.Among.{rows_in}
 use Rattle.rel_base.specs.Late.{late}
 use Rattle.rel_base.specs.Tables.{HistoryFits, Stamped, Tables, no_tables, set_stamped, writes_between, writes_up_to}
 use Rattle.rel_base.specs.declared.schema.TableDef.{TableDef}
+use Rattle.rel_base.proofs.Bits.{both_true}
 use Rattle.rw_graph.proofs.Lists.{In, Pairs, each_at}
 use Rattle.serial_order.proofs.Each.{all_from}
 use Rattle.serial_laws.proofs.Causes.{none_hit}
@@ -32,10 +33,6 @@ module _ (height high : ℕ) where
   abbrev since : Stamped → Bool
   since s = nat_lt height s.0 && nat_le s.0 high
 
-  both : (a b : Bool) → a ≡ true → b ≡ true → (a && b) ≡ true
-  both true b p q = q
-  both false b p q = p
-
   left_false : (a b : Bool) → a ≡ false → (a && b) ≡ false
   left_false true b p = cc
   left_false false b p = refl
@@ -48,7 +45,7 @@ module _ (height high : ℕ) where
   cut [] sorted below = refl
   cut (s ∷ rest) sorted below = ⊎_elim
       (λ late. sym (ap (λ l. l ++ filter since (s ∷ rest)) (filter_none before (s ∷ rest) (λ x h. lt-leb _ _ (after x h late)))
-      ∙ filter_all since (s ∷ rest) (λ x h. both _ _ (lt-ltb _ _ (after x h late)) (le-leb _ _ (below x h)))))
+      ∙ filter_all since (s ∷ rest) (λ x h. both_true _ _ (lt-ltb _ _ (after x h late)) (le-leb _ _ (below x h)))))
       (λ early. parts s rest (filter before rest) (filter since rest) (cut rest sorted.1 (λ x h. below x (inr h))) (le-leb _ _ early) (left_false (nat_lt height s.0) _ (le-ltb _ _ early)))
       (cases_lt height s.0)
     where

@@ -7,10 +7,11 @@ use Rattle.std.proofs.lemmas.Bool.{eqb-true, eq-eqb}
 use Rattle.std.proofs.lemmas.Bool.Decides.{eqb_tells}
 use Rattle.std.proofs.lemmas.List.Sorted.{length_permutation, Contains-permutation, IsPermutation-sym}
 use Rattle.node_model.specs.Order.{IsSerialOrder}
-use Rattle.rw_graph.proofs.Cases.{first_true, second_true, both_true, not_true}
+use Rattle.rw_graph.proofs.Cases.{not_true}
 use Rattle.rw_graph.proofs.Lists.{pairs_from, In, Pairs, pairs_both, pairs_weaker, in_from, contains_from, each_at, each_from, each_passes}
 use Rattle.serial_order.proofs.Taken.{picks_within, picks_permutation, all_pairs, apart_again}
 use Rattle.serial_order.specs.Checking.{may_follow, all_follow, is_serial}
+use Rattle.rel_base.proofs.Bits.{both_true, first_true, second_true}
 
 any_in : (u : ℕ) (xs : List ℕ) → list_any (nat_eq u) xs ≡ true → In u xs
 any_in u [] e = absurd (true≢false (sym e))

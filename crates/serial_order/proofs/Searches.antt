@@ -1,11 +1,11 @@
 -- What a search that finds nothing says.
 use Rattle.std.proofs.Common.{Bool, List, None, Option, Some, cond, false, inl, inr, not, refl, subst, sym, true, true≢false, [], ◌&&◌, ◌||◌, ◌∙◌, ◌≡◌, ◌∷◌}
 use Rattle.node_model.specs.Danger.{first_pair, with_partner}
-use Rattle.rw_graph.proofs.Cases.{both_true}
 use Rattle.rw_graph.proofs.Lists.{In}
 use Rattle.std.specs.List.{list_all, list_any}
 use Rattle.std.specs.Option.{option_map, option_or}
 use Rattle.std.specs.Prelude.{find}
+use Rattle.rel_base.proofs.Bits.{both_true}
 
 -- by whether a test passes
 pub by_bool : {P : Type 0} (b : Bool) → (b ≡ true → P) → (b ≡ false → P) → P

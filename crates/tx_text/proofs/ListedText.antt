@@ -10,10 +10,10 @@ use Rattle.std.proofs.lemmas.List.Splits.{join_with_byte-slice_split}
 use Rattle.std.proofs.lemmas.Grind.{flat_map-append}
 use Rattle.tx_text.specs.Parts.{is_long, line_text, parts_of}
 use Rattle.tx_text.specs.Listing.{Form, Far, no_item, one_item, items_at, with_items, onward, walk, whole, listed, listing}
-use Rattle.tx_text.proofs.Bytes.{bytes_same, same_bytes}
 use Rattle.tx_text.proofs.Glued.{parts_some}
 use Rattle.tx_text.proofs.Listed.{walk_line}
 use Rattle.tx_text.proofs.Plain.{plain, parts_line}
+use Rattle.rel_base.proofs.Bytes.{bytes_same, equal_bytes}
 
 -- the lines of items
 abbrev lines_of : {A : Type 0} → (A → List ℕ) → List A → List ℕ
@@ -93,7 +93,7 @@ module _ {A : Type 0} (form : Form A) (text : A → List ℕ) (spelled : (line :
 
   header_is : (line bytes : List ℕ) (more : Result (Far A) ℕ) (test : Bool) → bytes_eq line form.header ≡ test → IsTold bytes more → IsFile (line ++ (10 ∷ bytes)) (whole (onward 1 (cond test (Some []) None) more))
   header_is line bytes more true e told =
-      subst (λ (front : List ℕ). IsFile (front ++ (10 ∷ bytes)) (whole (with_items [] more))) (sym (same_bytes line form.header e)) (with_none more bytes told)
+      subst (λ (front : List ℕ). IsFile (front ++ (10 ∷ bytes)) (whole (with_items [] more))) (sym (equal_bytes line form.header e)) (with_none more bytes told)
   header_is line bytes more false e told = tt
 
   first_is : (line bytes : List ℕ) (more : Result (Far A) ℕ) (long : Bool) → IsTold bytes more → IsFile (line ++ (10 ∷ bytes)) (whole (onward 1 (cond long None (no_item form line)) more))

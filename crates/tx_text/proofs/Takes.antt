@@ -10,12 +10,12 @@ use Rattle.std.proofs.lemmas.List.{take-append-drop, append-nil}
 use Rattle.rel_base.specs.declared.value.Value.{Value}
 use Rattle.rel_base.specs.declared.value.Value.TheVariants as value
 use Rattle.rel_base.specs.Text.{has_name_form, has_id_form}
+use Rattle.rel_base.proofs.Bytes.{equal_bytes}
 use Rattle.proc_syntax.specs.declared.call.Tx.{Tx}
 use Rattle.literals.specs.Text.{quote, text_at, text_literal}
 use Rattle.literals.specs.Bytes.{letter_x, bytes_at, bytes_literal}
 use Rattle.literals.specs.Number.{u64_at}
 use Rattle.literals.proofs.Takes.{IsLiteral, IsText, IsShort, IsU64, text_takes, bytes_takes, u64_takes}
-use Rattle.tx_text.proofs.Bytes.{same_bytes}
 use Rattle.tx_text.specs.Fields.{is_space, after, word, past_word, id_at, name_at}
 use Rattle.tx_text.specs.Values.{as_kind, plain_int, minus_int, int_of, minus, int_at, flag, bool_at, value_at, value_of, alone, value_text}
 use Rattle.tx_text.specs.Lines.{arg_at, first_and_more, args_within, args_of, call_of, height_and_call, tx_form, tx_of, arg_text, call_text, tx_text}
@@ -69,7 +69,7 @@ IsInFront front bytes None = Unit {0}
 IsInFront front bytes (Some rest) = bytes ≡ front ++ rest
 
 follows_if : (front bytes : List ℕ) (test : Bool) → bytes_eq (take (length front) bytes) front ≡ test → IsInFront front bytes (cond test (Some (drop (length front) bytes)) None)
-follows_if front bytes true e = sym (take-append-drop (length front) bytes) ∙ ap (λ xs. xs ++ drop (length front) bytes) (same_bytes (take (length front) bytes) front e)
+follows_if front bytes true e = sym (take-append-drop (length front) bytes) ∙ ap (λ xs. xs ++ drop (length front) bytes) (equal_bytes (take (length front) bytes) front e)
 follows_if front bytes false e = tt
 
 pub after_takes : (front bytes : List ℕ) → IsInFront front bytes (after front bytes)

@@ -16,7 +16,7 @@ use Rattle.rel_base.specs.Access.{read_table}
 use Rattle.rel_base.specs.declared.access.Read.{Read}
 use Rattle.rel_base.specs.declared.schema.TableDef.{TableDef}
 use Rattle.rel_base.specs.declared.value.Value.{Value}
-use Rattle.rel_base.proofs.Bits.{no_both}
+use Rattle.rel_base.proofs.Bits.{either, no_both, or_left, or_right}
 use Rattle.version_index.specs.Candidates.{has_key}
 use Rattle.version_index.specs.Span.{distinct, is_again, keys_in}
 use Rattle.version_index.proofs.KeyRows.{among_keys}
@@ -89,30 +89,19 @@ distinct_rises (key ∷ keys) rises = let rest = distinct_behind key keys rises.
 abbrev pub has : List Value → List (List Value) → Bool
 has key keys = list_any (key_eq key) keys
 
-first_or : (a b : Bool) → a ≡ true → (a || b) ≡ true
-first_or a b is = ap (λ c. c || b) is
-
-second_or : (a b : Bool) → b ≡ true → (a || b) ≡ true
-second_or true b is = refl
-second_or false b is = is
-
-either_or : (a b : Bool) → (a || b) ≡ true → (a ≡ true) ⊎ (b ≡ true)
-either_or true b is = inl refl
-either_or false b is = inr is
-
 pub distinct_has : (last : Option (List Value)) (key : List Value) (keys : List (List Value)) → has key keys ≡ true → (is_again last key ≡ true) ⊎ (has key (distinct last keys) ≡ true)
 distinct_has last key [] is = cc
-distinct_has last key (k ∷ ks) is = go (is_again last k) refl (either_or (key_eq key k) (has key ks) is) (distinct_has last key ks) (distinct_has (Some k) key ks)
+distinct_has last key (k ∷ ks) is = go (is_again last k) refl (either (key_eq key k) (has key ks) is) (distinct_has last key ks) (distinct_has (Some k) key ks)
   where
     further : (is_again (Some k) key ≡ true) ⊎ (has key (distinct (Some k) ks) ≡ true) → has key (k ∷ distinct (Some k) ks) ≡ true
-    further (inl again) = first_or (key_eq key k) (has key (distinct (Some k) ks)) (subst (λ q. key_eq q k ≡ true) (same_key k key again) (key_itself k))
-    further (inr rest) = second_or (key_eq key k) (has key (distinct (Some k) ks)) rest
+    further (inl again) = or_left (key_eq key k) (has key (distinct (Some k) ks)) (subst (λ q. key_eq q k ≡ true) (same_key k key again) (key_itself k))
+    further (inr rest) = or_right (key_eq key k) (has key (distinct (Some k) ks)) rest
 
     go : (b : Bool) → is_again last k ≡ b → (key_eq key k ≡ true) ⊎ (has key ks ≡ true) → (has key ks ≡ true → (is_again last key ≡ true) ⊎ (has key (distinct last ks) ≡ true))
         → (has key ks ≡ true → (is_again (Some k) key ≡ true) ⊎ (has key (distinct (Some k) ks) ≡ true)) → (is_again last key ≡ true) ⊎ (has key (cond b (distinct last ks) (k ∷ distinct (Some k) ks)) ≡ true)
     go true again (inl same) rest fresh = inl (subst (λ q. is_again last q ≡ true) (sym (same_key key k same)) again)
     go true again (inr inside) rest fresh = rest inside
-    go false apart (inl same) rest fresh = inr (first_or (key_eq key k) (has key (distinct (Some k) ks)) same)
+    go false apart (inl same) rest fresh = inr (or_left (key_eq key k) (has key (distinct (Some k) ks)) same)
     go false apart (inr inside) rest fresh = inr (further (fresh inside))
 
 -- a key that was found is one of the keys

@@ -11,18 +11,13 @@ use Rattle.rel_base.specs.Value.{key_cmp}
 use Rattle.rel_base.specs.declared.access.Place.{Place}
 use Rattle.rel_base.specs.declared.access.Write.{Write}
 use Rattle.rel_base.specs.declared.value.Value.{Value}
-use Rattle.rel_base.proofs.Bits.{first_true, no_both, second_true}
+use Rattle.rel_base.proofs.Bits.{first_true, less_from, no_both, second_true}
 use Rattle.row_sets.specs.Versions.{stamped_at, IsBefore, are_rising, follows}
 use Rattle.version_index.specs.Log.{InOrder, Precedes}
 
 -- a lesser number compares as less
 less_cmp : (a b : ℕ) → a < b → nat_cmp a b ≡ Less
 less_cmp a b below = let less : nat_lt a b ≡ true = grind (arith, nat_tests) in ap (λ c. cond c Less (cond (a == b) Equal Greater)) less
-
-less_from : (o : Ordering) → is_lt o ≡ true → o ≡ Less
-less_from Less less = refl
-less_from Equal less = absurd (no_both false less refl)
-less_from Greater less = absurd (no_both false less refl)
 
 -- a table and key that is another's or below it, is below those that rise behind that one
 pub less_all : (a : Write) (low : ℕ × List Value) (writes : List Write) → (low ≡ write_ref a) ⊎ (ref_cmp (write_ref a) low ≡ Less) → IsTrue (follows low writes) → All (λ b. ref_cmp (write_ref a) (write_ref b) ≡ Less) writes

@@ -17,11 +17,6 @@ below_or (suc a) (suc b) = go (below_or a b)
     go (inl below) = inl (omega (arith, below))
     go (inr up) = inr (omega (arith, up))
 
--- a list of no length has no items
-pub no_items : {X : Type 0} (xs : List X) → length xs ≡ 0 → xs ≡ []
-no_items [] none = refl
-no_items (x ∷ xs) none = cc
-
 -- what is told of an item that may be there
 pub some_weaker : {X : Type 0} (P Q : X → Type 0) (found : Option X) → ((x : X) → P x → Q x) → IsSomeAnd found P → IsSomeAnd found Q
 some_weaker P Q None weaker is = is

@@ -11,6 +11,7 @@ use Rattle.rel_base.specs.Access.{read_table, hits_write}
 use Rattle.rel_base.specs.Late.{least, least_hit, lesser, stamp_cmp, where_declared}
 use Rattle.rel_base.specs.Tables.{Stamped, writes_between}
 use Rattle.rel_base.proofs.Bits.{first_true}
+use Rattle.rel_base.proofs.Lists.{item_of}
 use Rattle.row_sets.proofs.Histories.{drop_next, unwrapped}
 use Rattle.row_sets.specs.declared.entry.Entry.{Entry}
 use Rattle.row_sets.specs.Log.{history_of, stamped_of}
@@ -25,17 +26,11 @@ get_history [] number entry there = cc
 get_history (c ∷ cs) zero entry there = ap (λ found. option_map stamped_of found) there
 get_history (c ∷ cs) (suc number) entry there = get_history cs number entry there
 
--- what holds of all holds of one that was got
+-- what holds of all holds of one that was item_of
 pub all_got : {X : Type 0} (P : X → Type 0) (xs : List X) (number : ℕ) (x : X) → slice_get xs number ≡ Some x → All P xs → P x
 all_got P [] number x there all = cc
 all_got P (y ∷ ys) zero x there all = subst P (unwrapped y x there) (All-head P y ys all)
 all_got P (y ∷ ys) (suc number) x there all = all_got P ys number x there (All-tail P y ys all)
-
--- there is an item of each number below the length
-pub got : {X : Type 0} (xs : List X) (number : ℕ) → number < length xs → (x : X) × (slice_get xs number ≡ Some x)
-got [] number below = absurd (omega (arith, below))
-got (x ∷ xs) zero below = (x, refl)
-got (x ∷ xs) (suc number) below = got xs number (omega (arith, below))
 
 -- the write of a number of a table
 pub of_table_below : (log : List Entry) (table number : ℕ) → IsOfTable log table number → number < length log

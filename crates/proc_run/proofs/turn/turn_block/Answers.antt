@@ -4,9 +4,10 @@ use Rattle.std.proofs.lemmas.Option.{slice_get-get_or}
 use Rattle.proc_run.specs.Path.{part_of, block_of}
 use Rattle.proc_run.specs.Planned.{plan_of, PlanFits}
 use Rattle.proc_run.specs.Remains.{state}
-use Rattle.proc_run.proofs.Paths.{some_left, block_over, block_late, block_stops, block_goes}
+use Rattle.proc_run.proofs.Paths.{block_over, block_late, block_stops, block_goes}
 use Rattle.proc_run.proofs.Planning.{plan_fits}
 use Rattle.proc_run.proofs.turn.turn_block.Goals as goal
+use Rattle.rel_base.proofs.Lists.{item_of}
 
 pub returns-then-next-block-clause-remains : goal.returns-then-next-block-clause-remains
 returns-then-next-block-clause-remains c = λ S.
@@ -16,7 +17,7 @@ returns-then-next-block-clause-remains c = λ S.
 pub returns-then-run-ge-MOST_STEPS-clause-remains : goal.returns-then-run-ge-MOST_STEPS-clause-remains
 returns-then-run-ge-MOST_STEPS-clause-remains c = λ S.
     let b = c.part-block.ensures ∙ ap (λ z. part_of z c.args.cursor.at c.args.cursor.branch) (c.block_at.ensures ∙ ap (block_of c.args.program.now.root.now) c.deref.ensures.value) in
-    let a = some_left c.part-block.result.now c.args.cursor.next c.if-next-block.false in
+    let a = item_of c.part-block.result.now c.args.cursor.next c.if-next-block.false in
     block_late c.args.program.now.tables.now c.args.program.now.columns.now S c.args.program.now.root.now c.args.spots.now.items c.args.cursor.at c.args.cursor.next c.args.cursor.branch c.part-block.result.now (state c.args.run.now) b a.0 a.1 c.if-run-ge-MOST_STEPS.true
 
 pub returns-in-Err-Stop-clause-remains : goal.returns-in-Err-Stop-clause-remains

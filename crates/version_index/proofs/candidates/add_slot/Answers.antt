@@ -2,8 +2,8 @@ use Rattle.std.proofs.Common.{◌∙◌, sym}
 use Rattle.version_index.specs.Candidates.{HasSlot, IsKeyOf}
 use Rattle.version_index.proofs.Adding.{adds_none, adds_weaker, on_ok}
 use Rattle.version_index.proofs.Offered.{last_below, last_is_key, last_is_own, no_slot}
-use Rattle.version_index.proofs.Points.{no_items}
 use Rattle.version_index.proofs.candidates.add_slot.Goals as goal
+use Rattle.rel_base.proofs.Lists.{nil_of}
 
 pub push_key-requires-clause-within : goal.push_key-requires-clause-within
 push_key-requires-clause-within c = last_below c.args.view.now c.requires c.args.slot c.in-Some.number.now c.in-Some.field-0-1.now (sym c.numbers.ensures ∙ c.in-Some.ensures.cases.0)
@@ -15,7 +15,7 @@ push_key-requires-clause-own c = last_is_own c.args.view.now c.requires c.args.s
 pub returns-in-None : goal.returns-in-None
 returns-in-None c =
     adds_none c.args.view.now.index.now.chains c.args.found.now.items (HasSlot c.args.view.now c.args.slot)
-    (λ key has. no_slot c.args.view.now c.requires c.args.slot key (sym c.numbers.ensures ∙ no_items c.numbers.result.now c.in-None.ensures.cases) has)
+    (λ key has. no_slot c.args.view.now c.requires c.args.slot key (sym c.numbers.ensures ∙ nil_of c.numbers.result.now c.in-None.ensures.cases) has)
 
 pub returns-in-Some : goal.returns-in-Some
 returns-in-Some c =

@@ -2,8 +2,8 @@ use Rattle.std.proofs.Common.{◌∙◌, arith, sym}
 use Rattle.version_index.specs.Candidates.{IsKeyOf, IsTouchedAbove}
 use Rattle.version_index.proofs.Adding.{adds_none, adds_then, adds_weaker}
 use Rattle.version_index.proofs.Offered.{TouchedFrom, touched_all, touched_back, touched_below, touched_end, touched_rest, touched_stop}
-use Rattle.version_index.proofs.Points.{no_items}
 use Rattle.version_index.proofs.candidates.add_touched.Goals as goal
+use Rattle.rel_base.proofs.Lists.{nil_of}
 
 pub loop-number-init : goal.loop-number-init
 loop-number-init c =
@@ -60,4 +60,4 @@ returns c =
     let column = c.args.column.now.column in
     let walk = c.loop-number.invariant in
     adds_weaker view.index.now.chains c.args.found.now.items c.loop-number.found.items (TouchedFrom view column c.args.value.now walk.0) (IsTouchedAbove view column c.args.value.now c.args.height)
-    (touched_all view column c.args.value.now walk.0 c.args.height (sym walk.2 ∙ no_items c.loop-number.left.now c.in_default.ensures.cases)) walk.3
+    (touched_all view column c.args.value.now walk.0 c.args.height (sym walk.2 ∙ nil_of c.loop-number.left.now c.in_default.ensures.cases)) walk.3

@@ -1,10 +1,10 @@
 use Rattle.std.proofs.Common.{◌≡◌, ◌∙◌, ap, arith, cond, sym, subst, Some}
 use Rattle.std.proofs.lemmas.List.Elements.{All-contains}
 use Rattle.rel_base.specs.Access.{WriteFits, read_table}
+use Rattle.rel_base.proofs.Lists.{nil_of}
 use Rattle.row_sets.specs.Log.{stamped_of}
 use Rattle.version_index.specs.View.{history_in}
 use Rattle.version_index.proofs.Logged.{contains_got, get_history}
-use Rattle.version_index.proofs.Points.{no_items}
 use Rattle.version_index.proofs.Watching.{TouchWalk, asked_fits, asked_span, read_fits_table, touch_back, touch_below, touch_end, touch_stop}
 use Rattle.version_index.proofs.hits.first_touching.Goals as goal
 
@@ -68,4 +68,4 @@ returns c =
     let column = c.args.column.now.column in
     let value = c.args.value.now in
     touch_end watch view.entries.now view.noted view.table column value (asked_span watch view column value c.requires.watch c.requires.span) (asked_fits watch.def.now watch.read.now view c.requires.watch) c.requires.span
-    c.loop-number.left.now c.loop-number.first c.loop-number.invariant (no_items c.loop-number.left.now c.in_default.ensures.cases)
+    c.loop-number.left.now c.loop-number.first c.loop-number.invariant (nil_of c.loop-number.left.now c.in_default.ensures.cases)

@@ -1,8 +1,9 @@
 use Rattle.std.proofs.Common.{◌≡◌, ◌∙◌, ◌<◌, ◌-◌, suc, ap, arith, drop, length}
 use Rattle.rel_base.specs.Tables.{writes_between}
+use Rattle.rel_base.proofs.Lists.{item_of}
 use Rattle.row_sets.specs.Log.{history_of, stamped_of}
 use Rattle.version_store.specs.Hits.{least_of, lesser_hit}
-use Rattle.version_store.proofs.Leasts.{get_history, got, least_from}
+use Rattle.version_store.proofs.Leasts.{get_history, least_from}
 use Rattle.version_store.proofs.hits.least_at.Goals as goal
 
 -- one write more
@@ -15,7 +16,7 @@ loop-start-preserved c =
     let number = c.loop-start.start - 1 in
     let next : c.loop-start.start ≡ suc number = omega (arith, low) in
     let below : number < length c.args.log.now = omega (arith, low, within) in
-    let item = got c.args.log.now number below in
+    let item = item_of c.args.log.now number below in
     let there = get_history c.args.log.now number item.0 item.1 in (
       omega (arith, within),
       c.least_with-least.ensures.on_table,
