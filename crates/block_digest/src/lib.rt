@@ -1,8 +1,6 @@
 //! The result of a block as bytes, and the digest by which nodes compare a whole chain of results.
 #![tactic(auto)]
 
-#[cfg(test)]
-mod decode_tests;
 pub mod digest;
 mod items;
 pub mod laws;

@@ -8,8 +8,6 @@ pub mod laws;
 pub mod number;
 pub mod row;
 pub mod short;
-#[cfg(test)]
-mod tests;
 pub mod value;
 pub mod write;
 

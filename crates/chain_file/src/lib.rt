@@ -2,8 +2,6 @@
 #![tactic(auto)]
 
 pub mod advance;
-#[cfg(test)]
-mod chain_tests;
 pub mod draft;
 pub mod finish;
 pub mod going;
@@ -15,8 +13,6 @@ pub mod resume;
 pub mod sealing;
 pub mod standing;
 pub mod step;
-#[cfg(test)]
-mod tests;
 
 pub use draft::{LONGEST_DRAFT, read_draft};
 pub use reader::{Fed, Reader, read_pieces};

@@ -8,8 +8,6 @@ pub mod laws;
 pub mod options;
 pub mod read;
 pub mod settings;
-#[cfg(test)]
-mod tests;
 pub mod value;
 pub mod word;
 

@@ -6,8 +6,6 @@ pub mod mem_shelf;
 pub mod mem_sink;
 pub mod shelf;
 pub mod sink;
-#[cfg(test)]
-mod tests;
 pub mod whole;
 
 pub use host::{DirShelf, StdSink};

@@ -5,8 +5,6 @@ pub mod bytes;
 pub mod laws;
 pub mod number;
 mod part;
-#[cfg(test)]
-mod tests;
 pub mod text;
 
 pub use bytes::{push_bytes, read_bytes};

@@ -11,8 +11,6 @@ pub mod procedures;
 pub mod scope;
 pub mod statements;
 pub mod tables;
-#[cfg(test)]
-mod tests;
 
 pub use checked::{Checked, check};
 pub use fault::{Bad, BadKind, CheckFault};

@@ -9,7 +9,5 @@ pub mod eval;
 pub mod fit;
 pub mod halt;
 pub mod scope;
-#[cfg(test)]
-mod tests;
 
 pub use halt::Halt;

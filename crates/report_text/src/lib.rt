@@ -5,13 +5,9 @@ mod block;
 mod counts;
 mod ending;
 mod journal_lines;
-#[cfg(test)]
-mod journal_tests;
 mod json_block;
 mod json_node;
 mod json_table;
-#[cfg(test)]
-mod json_tests;
 mod json_text;
 mod look;
 mod node;
@@ -20,8 +16,6 @@ mod table;
 mod text;
 mod value;
 mod version;
-#[cfg(test)]
-mod version_tests;
 
 pub use counts::summary;
 pub use ending::stopped_line;

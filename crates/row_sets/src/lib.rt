@@ -8,8 +8,6 @@ pub mod merge;
 pub mod net;
 pub mod overlay;
 pub mod table_writes;
-#[cfg(test)]
-mod tests;
 pub mod versions;
 
 pub use entry::Entry;

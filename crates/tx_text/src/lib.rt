@@ -2,16 +2,12 @@
 #![tactic(auto)]
 
 pub mod arrival_reader;
-#[cfg(test)]
-mod arrival_tests;
 pub mod arrivals;
 pub mod field;
 pub mod held;
 pub mod laws;
 pub mod line;
 pub mod split;
-#[cfg(test)]
-mod tests;
 pub mod value;
 
 pub use arrival_reader::{ArrivalReader, read_arrivals};

@@ -1,4 +1,4 @@
-use super::{read_tx, read_value, write_tx, write_value};
+use tx_text::{read_tx, read_value, write_tx, write_value};
 use rel_base::{Blob, Str, Value};
 use std::alloc::Global;
 use std::test::Fail;

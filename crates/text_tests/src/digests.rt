@@ -1,6 +1,6 @@
 //! What is read of codes that were written out by another program, or by hand.
 
-use super::{decode, digest_of, encode};
+use block_digest::{decode, digest_of, encode};
 use node_model::NO_DIGEST;
 use std::alloc::Global;
 use std::test::Fail;

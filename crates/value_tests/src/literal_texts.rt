@@ -1,4 +1,4 @@
-use super::{LiteralFault, push_bytes, push_int, push_number, push_text, read_text};
+use literals::{LiteralFault, push_bytes, push_int, push_number, push_text, read_text};
 use std::alloc::Global;
 use std::test::Fail;
 

@@ -1,6 +1,6 @@
 //! A fault in an expression, by its line and kind.
-use super::checked::check;
-use super::fault::{BadKind, CheckFault};
+use proc_check::checked::check;
+use proc_check::fault::{BadKind, CheckFault};
 use proc_syntax::{App, ColumnText, Expr, Named, Op, ProcDef, Stmt, TableText};
 use rel_base::{Boxed, Kind, List, Name, Value};
 use std::alloc::Global;

@@ -1,4 +1,4 @@
-use crate::{Look, report};
+use report_text::{Look, report};
 use node_model::{Entry, Event, NodeResult};
 use proc_syntax::{Block, Tx};
 use rel_base::{Id, List, Name, Row};

@@ -1,5 +1,5 @@
-use super::LONGEST_DRAFT;
-use super::draft::MOST_BLOCKS;
+use chain_file::LONGEST_DRAFT;
+use chain_file::draft::MOST_BLOCKS;
 use proc_syntax::call::MOST_TRANSACTIONS;
 use std::test::Fail;
 use tx_text::MOST_LINE_BYTES;

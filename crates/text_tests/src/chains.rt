@@ -1,4 +1,4 @@
-use super::Reader;
+use chain_file::Reader;
 use proc_syntax::{Block, ChainFault, ChainKind};
 use rel_base::List;
 use std::alloc::Global;

@@ -1,4 +1,4 @@
-use crate::{Look, report};
+use report_text::{Look, report};
 use node_model::{BlockResult, NO_DIGEST, NodeResult, Outcome, TableRows, Told};
 use proc_syntax::{ChainFault, ChainKind, Fault};
 use rel_base::{Blob, Id, List, Name, Row, Str, TableDef, Value};

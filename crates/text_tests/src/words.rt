@@ -1,5 +1,5 @@
-use crate::read::read_words;
-use crate::settings::{Settings, WordsFault};
+use cli_words::read::read_words;
+use cli_words::settings::{Settings, WordsFault};
 use std::test::Fail;
 
 // With memory enough, each command is read, and words outside the language are refused.

@@ -1,4 +1,4 @@
-use super::{ArrivalFault, ArrivalReader};
+use tx_text::{ArrivalFault, ArrivalReader};
 use proc_syntax::Tx;
 use rel_base::List;
 use std::alloc::Global;

@@ -2,15 +2,15 @@ ghost use Rattle.std.specs.Prelude.{◌≡◌, [], ◌∷◌, IfOk, map};
 ghost use Rattle.rel_base.specs.Value.{kind_of};
 ghost use Rattle.rel_base.specs.declared.value.Kind.TheVariants as kind;
 
-use super::blob::{Blob, BlobFault};
-use super::key::Key;
-use super::list::List;
-use super::memory::Twin;
-use super::name::{Id, Name, NameFault};
-use super::row::Row;
-use super::schema::{Column, TableDef};
-use super::text::{Str, StrFault};
-use super::value::{Kind, Value};
+use rel_base::blob::{Blob, BlobFault};
+use rel_base::key::Key;
+use rel_base::list::List;
+use rel_base::memory::Twin;
+use rel_base::name::{Id, Name, NameFault};
+use rel_base::row::Row;
+use rel_base::schema::{Column, TableDef};
+use rel_base::text::{Str, StrFault};
+use rel_base::value::{Kind, Value};
 use std::alloc::Global;
 use std::test::Fail;
 

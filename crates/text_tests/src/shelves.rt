@@ -2,12 +2,12 @@ ghost use Rattle.std.specs.Prelude.{◌≡◌, ◌≤◌, ◌++◌, OnOk, OnErr}
 ghost use Rattle.edge_traits.specs.Causes.{AllowsFront, Rose};
 ghost use Rattle.edge_traits.specs.Sink.{appended, WroteFront};
 
-use crate::host::{DirShelf, StdSink};
-use crate::mem_shelf::{MemShelf, SureShelf};
-use crate::mem_sink::{MemSink, NullSink};
-use crate::shelf::{Shelf, ShelfFailed};
-use crate::sink::{Sink, SinkFailed};
-use crate::whole::{FetchFault, read_whole, write_whole};
+use edge_traits::host::{DirShelf, StdSink};
+use edge_traits::mem_shelf::{MemShelf, SureShelf};
+use edge_traits::mem_sink::{MemSink, NullSink};
+use edge_traits::shelf::{Shelf, ShelfFailed};
+use edge_traits::sink::{Sink, SinkFailed};
+use edge_traits::whole::{FetchFault, read_whole, write_whole};
 use rel_base::{List, Name};
 use std::alloc::Global;
 use std::test::Fail;
@@ -129,7 +129,7 @@ fn a_slow_sink_takes_some_bytes_a_call(rt: HostRuntime) -> Result<(), Fail> {
 }
 
 // Writes one text after another: what a caller that writes in sections promises, by the lemmas on fronts alone.
-#[tactic(auto, using(crate::proofs::Fronts::whole_whole, crate::proofs::Fronts::front_first, crate::proofs::Fronts::whole_front))]
+#[tactic(auto, using(edge_traits::proofs::Fronts::whole_whole, edge_traits::proofs::Fronts::front_first, edge_traits::proofs::Fronts::whole_front))]
 fn write_both<W: Sink>(out: &mut W, first: &[u8], second: &[u8]) -> Result<(), SinkFailed>
     ensures ok { OnOk result (W.written out.new ≡ appended (W.written out.old) (first.now ++ second.now)) }
     ensures err { OnErr result (WroteFront (W.written out.old) (W.written out.new) (first.now ++ second.now)) }

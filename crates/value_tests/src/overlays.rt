@@ -2,7 +2,7 @@
 
 ghost use Rattle.std.specs.Prelude.{◌≡◌, [], ◌∷◌, IfOk};
 
-use super::overlay::Overlay;
+use row_sets::overlay::Overlay;
 use rel_base::{Column, Key, Kind, List, Name, Place, Read, Row, Seen, TableDef, Value};
 use std::alloc::Global;
 use std::test::Fail;

@@ -1,6 +1,6 @@
 ghost use Rattle.std.specs.Prelude.{◌≡◌, length, IfOk};
 
-use super::{get_row, get_write, put_row, put_value, put_write};
+use canon_code::{get_row, get_write, put_row, put_value, put_write};
 use rel_base::{Blob, Key, List, Placed, Row, Str, Value, Write};
 use std::alloc::Global;
 use std::test::Fail;

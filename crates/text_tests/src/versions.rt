@@ -1,4 +1,4 @@
-use crate::versions;
+use report_text::versions;
 use node_model::Version;
 use rel_base::{Id, List, Name, Place, Row, Str, TableDef, Value};
 use std::alloc::Global;

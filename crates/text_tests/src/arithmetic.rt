@@ -1,6 +1,6 @@
 //! Operators at numbers that were worked by hand.
 
-use crate::arith::{negation, product, quotient, remainder, sum};
+use proc_eval::arith::{negation, product, quotient, remainder, sum};
 use proc_syntax::{Fault, Stop};
 use rel_base::Value;
 use std::test::Fail;
