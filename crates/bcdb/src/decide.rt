@@ -11,11 +11,11 @@ ghost use Rattle.chain_file.specs.Chain.{chain};
 ghost use Rattle.cli_words.specs.Language.{AreWithin};
 ghost use Rattle.edge_traits.specs.Causes.{Rose};
 
+use crate::application::{AppFault, LONGEST_APPLICATION, read_application};
 use crate::blocks::read_blocks;
 use crate::cluster::cluster_of;
 use crate::clustering::answer_cluster;
 use crate::fault::FilesFault;
-use crate::application::{AppFault, LONGEST_APPLICATION, read_application};
 use crate::load::answer_load;
 use crate::refusal::{BadArrivals, Refusal, TOO_LONG, arrivals_refusal, refusal_line};
 use crate::run::{answer_blocks, answer_seal};

@@ -9,10 +9,10 @@ ghost use Rattle.bcdb.specs.Taking.{GivesApp};
 ghost use Rattle.chain_file.specs.Numbered.{NumberedFrom};
 
 use crate::all_arrivals::read_all_arrivals;
+use crate::application::fetch_application;
 use crate::blocks::read_blocks;
 use crate::cluster::Cluster;
 use crate::fault::FilesFault;
-use crate::application::fetch_application;
 use crate::refusal::{BadArrivals, Refusal};
 use chain_file::Fed;
 use edge_traits::Shelf;

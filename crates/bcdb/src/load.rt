@@ -9,8 +9,8 @@ ghost use Rattle.load_gen.specs.Application.{app_text};
 ghost use Rattle.node_model.specs.Fold.{node_result};
 ghost use Rattle.report_text.specs.Summary.{summary_text};
 
-use crate::decide::{Reply, refuse_app};
 use crate::application::{AppFault, read_application};
+use crate::decide::{Reply, refuse_app};
 use crate::status::Status;
 use cluster_run::{Gate, run_cluster};
 use load_gen::{Load, generate};

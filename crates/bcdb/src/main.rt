@@ -4,13 +4,13 @@
 #![tactic(auto)]
 
 pub mod all_arrivals;
+pub mod application;
 pub mod arrivals;
 pub mod blocks;
 pub mod cluster;
 pub mod clustering;
 pub mod decide;
 pub mod fault;
-pub mod application;
 pub mod inputs;
 pub mod load;
 pub mod query;

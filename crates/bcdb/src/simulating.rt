@@ -16,11 +16,11 @@ ghost use Rattle.schedule_sim.specs.Running.{simulated};
 ghost use Rattle.schedule_sim.specs.Schedules.{schedule_of};
 ghost use Rattle.schedule_sim.specs.Steps.{IsStep};
 
+use crate::application::fetch_application;
 use crate::arrivals::read_arrivals;
 use crate::blocks::read_blocks;
 use crate::decide::{Reply, refuse_app, refuse_arrivals};
 use crate::fault::FilesFault;
-use crate::application::fetch_application;
 use crate::refusal::{BadArrivals, Refusal, schedule_refusal, short_refusal};
 use crate::run::report_nodes;
 use crate::schedule::read_schedule;

@@ -11,9 +11,9 @@ ghost use Rattle.chain_file.specs.Following.{Reads};
 ghost use Rattle.chain_file.specs.Resumed.{Fits, Resumes, going_at, txs_in};
 
 use crate::going::Going;
-use crate::section::Section;
 use crate::reader::{Read, State};
 use crate::resume::More;
+use crate::section::Section;
 use crate::standing::Standing;
 use proc_syntax::{Block, Tx};
 use rel_base::{List, NoMemory};

@@ -7,10 +7,10 @@ pub mod finish;
 pub mod going;
 pub mod hash;
 pub mod laws;
-pub mod section;
 pub mod reader;
 pub mod resume;
 pub mod sealing;
+pub mod section;
 pub mod standing;
 pub mod step;
 

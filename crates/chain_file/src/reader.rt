@@ -9,8 +9,8 @@ ghost use Rattle.chain_file.specs.Following.{Answers, EndsAs, WasFed, Keeps, Rea
 
 use crate::advance::{LineStop, take_line};
 use crate::finish::finish;
-use crate::section::Section;
 use crate::resume::{Before, before_piece, read_more};
+use crate::section::Section;
 use crate::standing::Standing;
 use proc_syntax::{Block, ChainFault, ChainKind};
 use rel_base::{List, NoMemory};

@@ -13,8 +13,8 @@ ghost use Rattle.chain_file.specs.Resumed.{Begins, Counts, Fits, Resumes, behind
 use crate::advance::behind_block;
 use crate::going::Going;
 use crate::hash::with_line;
-use crate::section::{FileForm, Section};
 use crate::reader::{Read, State, read_lines};
+use crate::section::{FileForm, Section};
 use crate::standing::Standing;
 use crate::step::{StepFault, told_within};
 use proc_syntax::{Block, ChainFault, ChainKind, Tx};

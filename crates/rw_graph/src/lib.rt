@@ -2,19 +2,19 @@
 #![tactic(auto)]
 
 pub mod bits;
+pub mod danger;
+pub mod edge_rows;
 pub mod edge_set;
+pub mod edges;
 pub mod hits;
 pub mod laws;
-pub mod edges;
-pub mod edge_rows;
-pub mod danger;
 pub mod word;
 
 pub use bits::Bits;
-pub use edge_set::EdgeSet;
-pub use hits::{edges_of, touches};
-pub use edges::Edges;
 pub use danger::danger;
+pub use edge_set::EdgeSet;
+pub use edges::Edges;
+pub use hits::{edges_of, touches};
 
 #[cfg(test)]
 mod tests;

@@ -1,8 +1,8 @@
 //! A block with write skew.
 
+use super::danger::danger;
 use super::edge_set::EdgeSet;
 use super::edges::no_edges;
-use super::danger::danger;
 use node_model::Danger;
 use std::test::Fail;
 

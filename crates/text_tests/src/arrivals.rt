@@ -1,8 +1,8 @@
-use tx_text::{ArrivalFault, ArrivalReader};
 use proc_syntax::Tx;
 use rel_base::List;
 use std::alloc::Global;
 use std::test::Fail;
+use tx_text::{ArrivalFault, ArrivalReader};
 
 /// An arrival file of two transactions.
 const FILE: &[u8] = b"arrivals 1\ntx p1 1 pay 1 2 5\ntx p2 1 f \"a b\"\n";

@@ -1,7 +1,7 @@
-use report_text::{Look, report};
 use node_model::{Entry, Event, NodeResult};
 use proc_syntax::{Block, Tx};
 use rel_base::{Id, List, Name, Row};
+use report_text::{Look, report};
 use std::alloc::Global;
 use std::sync::Arc;
 use std::test::Fail;

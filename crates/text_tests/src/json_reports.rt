@@ -1,7 +1,7 @@
-use report_text::{Look, report};
 use node_model::{BlockResult, NO_DIGEST, NodeResult, Outcome, TableRows, Told};
 use proc_syntax::{ChainFault, ChainKind, Fault};
 use rel_base::{Blob, Id, List, Name, Row, Str, TableDef, Value};
+use report_text::{Look, report};
 use std::alloc::Global;
 use std::test::Fail;
 

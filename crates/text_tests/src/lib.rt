@@ -3,39 +3,27 @@
 
 #[cfg(test)]
 mod arithmetic;
-
 #[cfg(test)]
 mod arrivals;
-
 #[cfg(test)]
 mod chains;
-
 #[cfg(test)]
 mod checks;
-
 #[cfg(test)]
 mod digests;
-
 #[cfg(test)]
 mod journals;
-
 #[cfg(test)]
 mod json_reports;
-
 #[cfg(test)]
 mod limits;
-
 #[cfg(test)]
 mod pieces;
-
 #[cfg(test)]
 mod shelves;
-
 #[cfg(test)]
 mod transactions;
-
 #[cfg(test)]
 mod versions;
-
 #[cfg(test)]
 mod words;

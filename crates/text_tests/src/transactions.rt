@@ -1,7 +1,7 @@
-use tx_text::{read_tx, read_value, write_tx, write_value};
 use rel_base::{Blob, Str, Value};
 use std::alloc::Global;
 use std::test::Fail;
+use tx_text::{read_tx, read_value, write_tx, write_value};
 
 /// A line of so many bytes, at least 25: a transaction with texts of at most 200 letters.
 fn long_line(alloc: Global, count: usize) -> Result<Vec<u8>, Fail> {

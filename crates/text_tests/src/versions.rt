@@ -1,6 +1,6 @@
-use report_text::versions;
 use node_model::Version;
 use rel_base::{Id, List, Name, Place, Row, Str, TableDef, Value};
+use report_text::versions;
 use std::alloc::Global;
 use std::test::Fail;
 

@@ -3,15 +3,11 @@
 
 #[cfg(test)]
 mod codes;
-
 #[cfg(test)]
 mod drawn;
-
 #[cfg(test)]
 mod literal_texts;
-
 #[cfg(test)]
 mod overlays;
-
 #[cfg(test)]
 mod values;

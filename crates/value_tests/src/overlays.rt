@@ -2,8 +2,8 @@
 
 ghost use Rattle.std.specs.Prelude.{◌≡◌, [], ◌∷◌, IfOk};
 
-use row_sets::overlay::Overlay;
 use rel_base::{Column, Key, Kind, List, Name, Place, Read, Row, Seen, TableDef, Value};
+use row_sets::overlay::Overlay;
 use std::alloc::Global;
 use std::test::Fail;
 
