@@ -2,7 +2,7 @@
 #![tactic(auto)]
 
 pub mod bits;
-pub mod danger;
+pub mod dangers;
 pub mod edge_rows;
 pub mod edge_set;
 pub mod edges;
@@ -11,7 +11,7 @@ pub mod laws;
 pub mod word;
 
 pub use bits::Bits;
-pub use danger::danger;
+pub use dangers::danger;
 pub use edge_set::EdgeSet;
 pub use edges::Edges;
 pub use hits::{edges_of, touches};

@@ -4,7 +4,7 @@ use Rattle.std.specs.Prelude.{find, nat_lt}
 use Rattle.std.proofs.lemmas.List.{drop_all, drop_more}
 use Rattle.node_model.specs.Danger.{first_pair, is_form_two, with_partner}
 use Rattle.rw_graph.proofs.Found.{any_none, find_none, partner_none, partner_some}
-use Rattle.rw_graph.proofs.danger.form_two.Goals as goal
+use Rattle.rw_graph.proofs.dangers.form_two.Goals as goal
 use Rattle.rw_graph.specs.Graph.{has_edge, positions_of}
 use Rattle.rw_graph.specs.Held.{holds}
 

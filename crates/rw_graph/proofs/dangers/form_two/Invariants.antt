@@ -2,7 +2,7 @@ use Rattle.std.proofs.Common.{drop, ◌≡◌}
 use Rattle.std.specs.List.{list_any}
 use Rattle.std.specs.Prelude.{find}
 use Rattle.node_model.specs.Danger.{first_pair, is_form_two, with_partner}
-use Rattle.rw_graph.proofs.danger.form_two.Given as goal
+use Rattle.rw_graph.proofs.dangers.form_two.Given as goal
 use Rattle.rw_graph.specs.Graph.{has_edge}
 use Rattle.rw_graph.specs.Held.{holds}
 

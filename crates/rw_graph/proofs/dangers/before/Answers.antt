@@ -1,6 +1,6 @@
 use Rattle.std.proofs.Common.{false, None, rules, sym, true, ◌<◌, ◌≡◌, ◌≤◌, ◌∙◌}
 use Rattle.rw_graph.proofs.Forms.{two_too_late, two_with, two_without_y, two_without_z}
-use Rattle.rw_graph.proofs.danger.before.Goals as goal
+use Rattle.rw_graph.proofs.dangers.before.Goals as goal
 use Rattle.rw_graph.specs.Graph.{has_edge}
 use Rattle.rw_graph.specs.Held.{holds}
 use Rattle.rw_graph.specs.Sets.{is_among}

@@ -1,6 +1,6 @@
 use Rattle.std.proofs.Common.{rules, None, sym, ◌≡◌, ◌∙◌}
 use Rattle.rw_graph.proofs.Forms.{one_with, one_without_x, one_without_z}
-use Rattle.rw_graph.proofs.danger.form_one.Goals as goal
+use Rattle.rw_graph.proofs.dangers.form_one.Goals as goal
 use Rattle.rw_graph.specs.Graph.{has_edge}
 use Rattle.rw_graph.specs.Held.{holds}
 
