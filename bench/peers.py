@@ -181,9 +181,9 @@ def compare_sizes(program, given):
             work = Work(name, accounts, call(draw, accounts, count))
             product, peer, _ = measure(program, work, given.per_block, 1)
             print(f"{name:>9} over {accounts:>8} accounts: {product:>10,.0f} a second, SQLite {peer:>10,.0f}")
-            accounts *= 10
+            accounts *= 2
     work = Work("payments", given.accounts, payments(draw, given.accounts, given.calls))
-    for per_block in 10, 50, 250, 1000:
+    for per_block in 10, 20, 40, 80, 160, 320, 640, 1000:
         product, _, _ = measure(program, work, per_block, 1)
         print(f" payments in blocks of {per_block:>4}: {product:>10,.0f} a second")
 
