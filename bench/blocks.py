@@ -19,19 +19,9 @@ import sys
 import tempfile
 import time
 
+from accounts import APP
+
 ACCOUNTS = 1000
-APP = """table acct (id int, owner text, bal int) key (id) index (owner);
-proc add(i int, o text, b int) { insert acct (i, o, b); }
-proc pay(f int, t int, n int) {
-  get a from acct key (f) {
-    get b from acct key (t) {
-      if a.bal < n { fail "funds"; }
-      update acct key (f) set bal = a.bal - n;
-      update acct key (t) set bal = b.bal + n;
-    } else { fail "no payee"; }
-  } else { fail "no payer"; }
-}
-"""
 # The compiler puts the smaller functions into the larger ones, so these are what can be told apart: `decide` itself has the look-up of ids,
 # conflicts, edges and dangers, and `run_blocks` itself the serial order, the applied writes and the rest of a block.
 # the functions that the parts are named by, each with what it calls

@@ -12,7 +12,8 @@ import resource
 import subprocess
 import tempfile
 
-from blocks import ACCOUNTS, APP, write_payments
+from accounts import APP
+from blocks import ACCOUNTS, write_payments
 
 PER_BLOCK = 250
 READS_OF_A_PAYMENT = 4

@@ -16,22 +16,8 @@ import subprocess
 import tempfile
 import time
 
-APP = """table acct (id int, owner text, bal int) key (id) index (owner);
-proc add(i int, o text, b int) { insert acct (i, o, b); }
-proc sweep(o text) {
-  let sum = 0;
-  for r in acct span on owner from o to o { sum = sum + r.bal; }
-  if sum < 0 { fail "debt"; }
-}
-proc pay(f int, t int, n int) {
-  get a from acct key (f) {
-    get b from acct key (t) {
-      update acct key (f) set bal = a.bal - n;
-      update acct key (t) set bal = b.bal + n;
-    } else { fail "no payee"; }
-  } else { fail "no payer"; }
-}
-"""
+from accounts import APP
+
 PER_BLOCK = 100
 
 
