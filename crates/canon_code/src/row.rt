@@ -94,7 +94,7 @@ pub fn read_key(alloc: Global, bytes: &[u8]) -> Result<(Key, &[u8]), CodeFault>
     ensures { Reads result (row_at bytes.now) }
 {
     let (values, rest) = read_counted(alloc, bytes)?;
-    Ok((Key::from_list(values), rest))
+    Ok((Key::from_list(values)?, rest))
 }
 
 /// Reads the row whose code stands at the front of the bytes, and answers what follows it too.

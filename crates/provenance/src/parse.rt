@@ -29,7 +29,7 @@ fn read_history(alloc: Global, bytes: &[u8]) -> Result<Query, LiteralFault>
 {
     let (table, rest) = read_name(alloc, bytes)?;
     let values = read_args(alloc, rest)?;
-    keyed(table, Key::from_list(values))
+    keyed(table, Key::from_list(values)?)
 }
 
 /// Reads a space and a number.

@@ -8,6 +8,7 @@ ghost use Rattle.rel_base.specs.Value.{value_cmp, value_eq, value_cmp-total};
 
 use crate::list::List;
 use crate::memory::{NoMemory, Twin};
+use crate::row::Row;
 use crate::value::Value;
 use std::alloc::Global;
 use std::cmp::Ordering;
@@ -21,14 +22,14 @@ enum Values {
     None,
     /// One value, in the key itself.
     One(Value),
-    /// In memory of their own.
-    Many(List<Value>),
+    /// More than one, as a row, which copies of the key share.
+    Many(Row),
 }
 
 /// A key of a table: a value for each key column, in the order of the declaration. Keys compare value by value, and a key
 /// stands before every longer one that it begins.
 ///
-/// A key of one value takes no memory of its own.
+/// A key of one value takes no memory of its own. The values of a longer key stand once in memory for the key and its copies.
 #[derive(Drop)]
 pub struct Key {
     values: Values,
@@ -64,30 +65,30 @@ impl Key {
         }
     }
 
-    /// The key of values that stand in memory of their own, which they keep.
-    fn of_many(values: List<Value>) -> Key
-        ensures { result ≡ values }
+    /// The key of values that stand in a row, which are moved and not copied.
+    fn of_many(values: List<Value>) -> Result<Key, NoMemory>
+        ensures { IfOk result (λ key. key ≡ values) }
     {
-        Key {
-            values: Values::Many(values),
-        }
+        Ok(Key {
+            values: Values::Many(Row::new(values)?),
+        })
     }
 
     /// The key of a list's values, which are moved and not copied. The memory of a list of one value is given back.
-    pub fn from_list(values: List<Value>) -> Key
-        ensures { result ≡ values }
+    pub fn from_list(values: List<Value>) -> Result<Key, NoMemory>
+        ensures { IfOk result (λ key. key ≡ values) }
     {
         let mut values = values;
         if values.len() != 1 {
             return Key::of_many(values);
         }
         match values.pop() {
-            None => Key::new(),
-            Some(value) => Key::of(value),
+            None => Ok(Key::new()),
+            Some(value) => Ok(Key::of(value)),
         }
     }
 
-    /// The key with one value more at the end. From two values on they stand in memory of their own.
+    /// The key with one value more at the end. From two values on they stand in a row, which is made anew.
     pub fn with(self, alloc: Global, value: Value) -> Result<Key, NoMemory>
         ensures { IfOk result (λ key. key ≡ self ++ value ∷ []) }
     {
@@ -97,11 +98,12 @@ impl Key {
             Values::One(first) => {
                 let mut values = List::new(alloc);
                 values.push_two(first, value)?;
-                Ok(Key::of_many(values))
+                Key::of_many(values)
             }
-            Values::Many(mut values) => {
+            Values::Many(row) => {
+                let mut values = row.to_list(alloc)?;
                 values.push(value)?;
-                Ok(Key::of_many(values))
+                Key::of_many(values)
             }
         }
     }
@@ -113,7 +115,7 @@ impl Key {
         match &self.values {
             Values::None => &[],
             Values::One(value) => slice::from_ref(value),
-            Values::Many(values) => values.as_slice(),
+            Values::Many(row) => row.as_slice(),
         }
     }
 
@@ -125,13 +127,15 @@ impl Key {
     }
 }
 
-/// The copy of a key of one value takes no memory but that of its value.
+/// The copy of a key of one value takes no memory but that of its value, and that of a longer key is one owner more of its row.
 impl Twin for Key {
     fn copy(&self, alloc: Global) -> Result<Self, NoMemory> {
         match &self.values {
             Values::None => Ok(Key::new()),
             Values::One(value) => Ok(Key::of(value.copy(alloc)?)),
-            Values::Many(values) => Ok(Key::of_many(values.copy(alloc)?)),
+            Values::Many(row) => Ok(Key {
+                values: Values::Many(row.copy(alloc)?),
+            }),
         }
     }
 }

@@ -36,7 +36,7 @@ fn drawn_values(alloc: Global, rng: &mut SmallRng) -> Result<List<Value>, Fail>
 fn drawn_key(alloc: Global, rng: &mut SmallRng) -> Result<Key, Fail>
     ensures { IfOk result (λ key. length key ≤ 32) }
 {
-    Ok(Key::from_list(drawn_values(alloc, rng)?))
+    Ok(Key::from_list(drawn_values(alloc, rng)?)?)
 }
 
 /// A row of at most 31 values.
