@@ -1,9 +1,10 @@
 #!/usr/bin/env python3
 """Checks that the pages say what is there. It needs no built program and takes about a second.
 
-Examples: in README.md, docs/GUIDE.md and docs/ABORTS.md each fenced example has a comment before it for each file of tests/cases that it
+Examples: in README.md, docs/GUIDE.md, docs/ABORTS.md and docs/FORMATS.md each fenced example has a comment before it for each file of tests/cases that it
 is, `<!-- case: NAME FILE -->`, or `<!-- case: NAME FILE 5-9 -->` for some lines of one, and is those bytes. Where FILE is `words`, the
-example is the command line, `bcdb` and the words. A fence of the language `sh` without a comment is a command and no example.
+example is the command line, `bcdb` and the words. A fence of the language `sh` without a comment is a command and no example. The code of a
+result in docs/FORMATS.md has the digest that a case shows.
 Outcomes: each row of the table of docs/ABORTS.md has the report's words, a case whose report has them, and a definition, a function and
 a clause that stand in the files to which they are linked.
 Crates: crates.txt has each crate under the comment of its level, docs/DESIGN.md has a row for each crate in the order of levels,
@@ -15,6 +16,7 @@ Usage: tests/check_docs.py
 """
 import difflib
 import functools
+import hashlib
 import os
 import re
 import sys
@@ -26,7 +28,7 @@ sys.path.insert(0, os.path.join(ROOT, "docs"))
 
 import draw_crates
 
-WITH_EXAMPLES = ["README.md", "docs/GUIDE.md", "docs/ABORTS.md"]
+WITH_EXAMPLES = ["README.md", "docs/GUIDE.md", "docs/ABORTS.md", "docs/FORMATS.md"]
 FENCE = "`" * 3
 NAMED = re.compile(r"<!-- case: (\S+) (\S+)(?: (\d+)-(\d+))? -->")
 
@@ -92,6 +94,16 @@ def check_examples(tally):
             for name, file, first, last in named:
                 wanted = text_of_case(name, file, first, last)
                 tally.note(text == wanted, f"{page}:{line}: the example is not {name}/{file}:\n{difference(text, wanted)}")
+
+
+def check_code(tally):
+    """The code of a block's result that FORMATS.md shows has the digest that the page and a case tell."""
+    page = read("docs/FORMATS.md")
+    lines = page.partition("has the code of 71 bytes\n\n")[2].split("\n\n")[0]
+    code = bytes.fromhex("".join(lines.split()))
+    digest = hashlib.sha256(bytes(32) + code).hexdigest()
+    tally.note(len(code) == 71 and f"    {digest}\n" in page, "docs/FORMATS.md: the code of 71 bytes has another digest than the page says")
+    tally.note(f"digest {digest}\n" in text_of_case("digest-of-one-insert", "stdout", None, None), "docs/FORMATS.md: the case has another digest")
 
 
 def section_of(page, heading):
@@ -226,6 +238,7 @@ def check_links(tally):
 def main():
     tally = Tally()
     check_examples(tally)
+    check_code(tally)
     check_outcomes(tally)
     check_crates(tally)
     check_names(tally)

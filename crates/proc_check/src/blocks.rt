@@ -8,7 +8,7 @@ ghost use Rattle.proc_check.specs.Scope.{variable_of};
 ghost use Rattle.proc_check.specs.Statements.{block, brings_none, brings_value, keyed, walk_assign, walk_insert, walk_let, walk_rows, walk_stmt, walk_update};
 
 use crate::expressions::{need, type_of};
-use crate::fault::CheckFault;
+use crate::fault::{Bad, CheckFault};
 use crate::scope::{Scope, Sort, Variable, variable_of};
 use crate::statements::{
     Span, check_assign, check_for, check_get, check_insert, check_let, check_update, keyed,
@@ -53,8 +53,8 @@ fn after_assign(
     scope: &Scope,
     name: &Named,
     value: &Expr,
-) -> Result<Option<Variable>, CheckFault>
-    ensures { Gives result (brings_none (walk_assign base.now.tables.now scope.now name.now value.now)) }
+) -> Result<Option<Variable>, Bad>
+    ensures { result ≡ brings_none (walk_assign base.now.tables.now scope.now name.now value.now) }
 {
     check_assign(base.tables, scope, name, value)?;
     Ok(None)
@@ -66,8 +66,8 @@ fn after_insert(
     scope: &Scope,
     table: &Named,
     values: &List<Expr>,
-) -> Result<Option<Variable>, CheckFault>
-    ensures { Gives result (brings_none (walk_insert base.now.tables.now scope.now table.now values.now)) }
+) -> Result<Option<Variable>, Bad>
+    ensures { result ≡ brings_none (walk_insert base.now.tables.now scope.now table.now values.now) }
 {
     check_insert(base.tables, scope, table, values.as_slice())?;
     Ok(None)
@@ -80,8 +80,8 @@ fn after_update(
     table: &Named,
     key: &List<Expr>,
     changes: &List<Change>,
-) -> Result<Option<Variable>, CheckFault>
-    ensures { Gives result (brings_none (walk_update base.now.tables.now scope.now table.now key.now changes.now)) }
+) -> Result<Option<Variable>, Bad>
+    ensures { result ≡ brings_none (walk_update base.now.tables.now scope.now table.now key.now changes.now) }
 {
     check_update(
         base.tables,
@@ -99,8 +99,8 @@ fn after_delete(
     scope: &Scope,
     table: &Named,
     key: &List<Expr>,
-) -> Result<Option<Variable>, CheckFault>
-    ensures { Gives result (brings_none (keyed base.now.tables.now scope.now table.now key.now)) }
+) -> Result<Option<Variable>, Bad>
+    ensures { result ≡ brings_none (keyed base.now.tables.now scope.now table.now key.now) }
 {
     keyed(base.tables, scope, table, key.as_slice())?;
     Ok(None)
@@ -118,7 +118,7 @@ fn check_stmt(
 {
     match stmt {
         Stmt::Let { name, value } => after_let(base, scope, name, value),
-        Stmt::Assign { name, value } => after_assign(base, scope, name, value),
+        Stmt::Assign { name, value } => Ok(after_assign(base, scope, name, value)?),
         Stmt::If { test, then, other } => {
             need(Some(Kind::Bool), type_of(base.tables, scope, test))?;
             check_stmts(base, scope, then.as_slice())?;
@@ -146,13 +146,13 @@ fn check_stmt(
             high,
             body,
         } => check_rows(base, scope, name, table, &Span { column, low, high }, body),
-        Stmt::Insert { table, values } => after_insert(base, scope, table, values),
+        Stmt::Insert { table, values } => Ok(after_insert(base, scope, table, values)?),
         Stmt::Update {
             table,
             key,
             changes,
-        } => after_update(base, scope, table, key, changes),
-        Stmt::Delete { table, key } => after_delete(base, scope, table, key),
+        } => Ok(after_update(base, scope, table, key, changes)?),
+        Stmt::Delete { table, key } => Ok(after_delete(base, scope, table, key)?),
         Stmt::Fail { .. } => Ok(None),
     }
 }

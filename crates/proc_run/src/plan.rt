@@ -55,13 +55,13 @@ pub fn find_table(tables: &List<TableDef>, table: u32) -> Result<&TableDef, Halt
 }
 
 /// The point read of a key that fits.
-fn point_read(def: &TableDef, table: u32, key: Key) -> Result<Read, Halt>
-    ensures { Gives result (found (point_of def.now table key)) }
+fn point_read(def: &TableDef, table: u32, key: Key) -> Result<Read, Stop>
+    ensures { result ≡ found (point_of def.now table key) }
 {
     if fits_key(def, &key) {
         Ok(Read::Point { table, key })
     } else {
-        Err(Halt::Stop(Stop::IllTyped))
+        Err(Stop::IllTyped)
     }
 }
 
@@ -72,13 +72,13 @@ fn span_read(
     column: Option<usize>,
     low: Option<Value>,
     high: Option<Value>,
-) -> Result<Read, Halt>
-    ensures { Gives result (found (span_of def.now table column low high)) }
+) -> Result<Read, Stop>
+    ensures { result ≡ found (span_of def.now table column low high) }
 {
     match column {
-        None => Err(Halt::Stop(Stop::IllTyped)),
+        None => Err(Stop::IllTyped),
         Some(column) => match span_on(def, table, column, low, high) {
-            None => Err(Halt::Stop(Stop::IllTyped)),
+            None => Err(Stop::IllTyped),
             Some(read) => Ok(read),
         },
     }
