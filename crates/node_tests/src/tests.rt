@@ -20,6 +20,7 @@ use rel_base::{Id, List, Place, Read, Value};
 use std::alloc::Global;
 use std::test::Fail;
 use version_index::IndexVersions;
+use version_store::PlainVersions;
 
 // What an entry says: who did what, with the number of its job, its block or its position.
 fn said(entry: &Entry) -> (u32, &'static str, u64) {
@@ -229,7 +230,7 @@ fn eight_threads_beside_a_processor(rt: HostRuntime) -> Result<(), Fail> {
     let made = node.close(pass).close()?;
     assert!(rt; made.journal.len() >= 10_000);
     assert!(rt; all_wander(made.journal.as_slice()));
-    let plain = fold_plainly::<IndexVersions>(alloc, &app, blocks.as_slice())?;
+    let plain = fold_plainly::<PlainVersions>(alloc, &app, blocks.as_slice())?;
     assert_eq!(rt; made.blocks.len(), blocks.len());
     assert!(rt; last_digest(&made.blocks) == last_digest(plain.blocks()));
     Ok(())
