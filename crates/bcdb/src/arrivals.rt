@@ -7,10 +7,9 @@ ghost use Rattle.bcdb.specs.Causes.{AllowsArrivals, Counted, RoseAtGiven};
 ghost use Rattle.edge_traits.specs.Causes.{Keeps, Rose};
 ghost use Rattle.tx_text.specs.Arrivals.{ArrivalFaultsLast, ArrivalsAreBounded, arrivals};
 
-use crate::blocks::make_buffer;
 use crate::fault::FilesFault;
 use cli_words::Word;
-use edge_traits::Shelf;
+use edge_traits::{Shelf, make_buffer};
 use proc_syntax::Tx;
 use rel_base::{List, NoMemory};
 use std::alloc::Global;

@@ -12,20 +12,10 @@ ghost use Rattle.edge_traits.specs.Causes.{Keeps, Rose};
 use crate::fault::FilesFault;
 use chain_file::laws::{faults_last, files_are_bounded, files_are_numbered};
 use chain_file::{Fed, Reader};
-use edge_traits::Shelf;
+use edge_traits::{Shelf, make_buffer};
 use proc_syntax::{Block, ChainFault};
 use rel_base::{List, NoMemory};
-use std::alloc::{AllocError, Global};
-
-// How many bytes are asked for at once.
-const PIECE: usize = 65536;
-
-/// A buffer of 65,536 bytes on the heap, where the stack would pay for it at each call.
-pub fn make_buffer(alloc: Global) -> Result<Vec<u8>, AllocError>
-    ensures { IfOk result (λ buffer. length buffer.items ≡ 65536) }
-{
-    vec![in alloc; 0; PIECE]
-}
+use std::alloc::Global;
 
 // Reads a piece that follows others, and answers the fault that was met.
 fn take_piece(

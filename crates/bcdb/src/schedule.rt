@@ -9,9 +9,8 @@ ghost use Rattle.schedule_sim.specs.Schedules.{LongSchedulesAreBad, schedule_of}
 ghost use Rattle.schedule_sim.specs.Steps.{IsStep};
 ghost use Rattle.tx_text.specs.Listing.{longest_listing};
 
-use crate::blocks::make_buffer;
 use crate::fault::FilesFault;
-use edge_traits::Shelf;
+use edge_traits::{Shelf, make_buffer};
 use rel_base::NoMemory;
 use schedule_sim::laws::long_schedules_are_bad;
 use schedule_sim::{Schedule, ScheduleFault, parse_schedule};

@@ -11,7 +11,7 @@ pub mod short;
 pub mod value;
 pub mod write;
 
-pub use number::{get_u32, get_u64, put_u32, put_u64, read_u32, read_u64};
+pub use number::{put_u32, put_u64, read_u32, read_u64};
 pub use rel_base::ReadFault as CodeFault;
 pub use row::{MOST_VALUES, get_row, put_row, read_key, read_row};
 pub use short::{put_blob, put_text, read_blob, read_text};

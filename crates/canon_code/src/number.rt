@@ -1,10 +1,10 @@
 //! Numbers of fixed width, the high bytes first.
 
-ghost use Rattle.std.specs.Prelude.{◌≡◌, ◌<◌, ◌^◌, ◌++◌, length, OnOk, OnErr, IsErrOf};
+ghost use Rattle.std.specs.Prelude.{◌≡◌, ◌++◌, OnOk, OnErr, IsErrOf};
 ghost use Rattle.std.specs.Int.{w32, w64};
 ghost use Rattle.canon_code.specs.Codes.{be_code, byte_code};
 ghost use Rattle.canon_code.specs.Parts.{number_at, byte_at};
-ghost use Rattle.canon_code.specs.Reads.{Reads, Gets};
+ghost use Rattle.canon_code.specs.Reads.{Reads};
 
 use crate::CodeFault;
 use rel_base::NoMemory;
@@ -64,22 +64,4 @@ pub fn read_u64(bytes: &[u8]) -> Result<(u64, &[u8]), CodeFault>
         front[0], front[1], front[2], front[3], front[4], front[5], front[6], front[7],
     ]);
     Ok((number, rest))
-}
-
-/// Reads the number of 32 bits at the front of the bytes, and answers the length of its code too. Bytes may follow it.
-pub fn get_u32(bytes: &[u8]) -> Result<(u32, usize), CodeFault>
-    ensures number { Gets (be_code w32) (λ n. n < 2 ^ 32) bytes.now result }
-    ensures judged { IsErrOf result CodeFault.NoMemory → ⊥ }
-{
-    let (number, rest) = read_u32(bytes)?;
-    Ok((number, bytes.len() - rest.len()))
-}
-
-/// Reads the number of 64 bits at the front of the bytes, and answers the length of its code too. Bytes may follow it.
-pub fn get_u64(bytes: &[u8]) -> Result<(u64, usize), CodeFault>
-    ensures number { Gets (be_code w64) (λ n. n < 2 ^ 64) bytes.now result }
-    ensures judged { IsErrOf result CodeFault.NoMemory → ⊥ }
-{
-    let (number, rest) = read_u64(bytes)?;
-    Ok((number, bytes.len() - rest.len()))
 }

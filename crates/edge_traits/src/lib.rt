@@ -13,4 +13,4 @@ pub use mem_shelf::{MemShelf, SureShelf};
 pub use mem_sink::{MemSink, NullSink};
 pub use shelf::{Shelf, ShelfFailed};
 pub use sink::{Sink, SinkFailed};
-pub use whole::{FetchFault, read_whole, write_whole};
+pub use whole::{FetchFault, make_buffer, read_whole, write_whole};

@@ -36,11 +36,11 @@ impl From<AllocError> for FetchFault {
 // How many bytes are asked for at once.
 const PIECE: usize = 65536;
 
-// A buffer on the heap, where the stack would pay for it at each call.
-fn make_buffer(alloc: Global, size: usize) -> Result<Vec<u8>, AllocError>
-    ensures { IfOk result (λ buffer. length buffer.items ≡ size) }
+/// A buffer of 65,536 bytes on the heap, where the stack would pay for it at each call.
+pub fn make_buffer(alloc: Global) -> Result<Vec<u8>, AllocError>
+    ensures { IfOk result (λ buffer. length buffer.items ≡ 65536) }
 {
-    vec![in alloc; 0; size]
+    vec![in alloc; 0; PIECE]
 }
 
 // Reads the next piece of a file, of which `bytes` are the front, through a buffer, and answers the piece's length.
@@ -96,7 +96,7 @@ pub fn read_whole<S: Shelf>(
     ensures later { NoneFell (S.faults shelf.old) (S.faults shelf.new) }
     ensures counted { TellsFailure result name.now (S.faults shelf.old) (S.faults shelf.new) }
 {
-    let mut buffer = make_buffer(alloc, PIECE)?;
+    let mut buffer = make_buffer(alloc)?;
     let mut bytes = Vec::new(alloc);
     while bytes.len() as u64 <= limit {
         let left = limit + 1 - bytes.len() as u64;

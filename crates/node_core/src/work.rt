@@ -100,13 +100,6 @@ impl Work {
         self.tx.height
     }
 
-    /// Whether its run was cut.
-    pub fn is_cut(&self) -> bool
-        ensures { result ≡ self.now.cut }
-    {
-        self.cut
-    }
-
     /// Runs to the next read or to the end, where it is at neither. Where memory is wanting, it is as before and may be asked again.
     pub fn advance(&mut self) -> Result<Next, NoMemory>
         ensures says { IfOk result (λ next. Says next self.new) }

@@ -10,17 +10,9 @@ use crate::run::Run;
 use crate::scene::Scene;
 use proc_eval::Halt;
 use proc_eval::eval::eval_end;
-use proc_syntax::{Expr, Fault, Named, Stmt, Stop};
+use proc_syntax::{Fault, Named, Span, Stmt, Stop};
 use rel_base::{List, Name, Row, Twin};
 use snapshots::Snapshot;
-
-/// `span on COLUMN from LOW to HIGH`
-#[derive(Clone, Copy)]
-struct Span<'a> {
-    column: &'a Named,
-    low: &'a Option<Expr>,
-    high: &'a Option<Expr>,
-}
 
 /// Runs a block: each statement in turn, with a step of its own.
 #[cycle(plain)]

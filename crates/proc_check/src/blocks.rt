@@ -11,9 +11,9 @@ use crate::expressions::{need, type_of};
 use crate::fault::{Bad, CheckFault};
 use crate::scope::{Scope, Sort, Variable, variable_of};
 use crate::statements::{
-    Span, check_assign, check_for, check_get, check_insert, check_let, check_update, keyed,
+    check_assign, check_for, check_get, check_insert, check_let, check_update, keyed,
 };
-use proc_syntax::{Change, Expr, Named, Stmt, TableText};
+use proc_syntax::{Change, Expr, Named, Span, Stmt, TableText};
 use rel_base::{Kind, List, NoMemory};
 use std::alloc::Global;
 

@@ -13,7 +13,7 @@ use crate::fault::{Bad, BadKind};
 use crate::named::{HasName, has_name, refuse};
 use crate::scope::Scope;
 use crate::tables::{column_kind, columns_of, is_spanned, key_of, known_column, known_table};
-use proc_syntax::{Change, ColumnText, Expr, Named, TableText};
+use proc_syntax::{Change, ColumnText, Expr, Named, Span, TableText};
 use rel_base::Kind;
 
 impl HasName for Change {
@@ -150,14 +150,6 @@ fn end_fits(tables: &[TableText], scope: &Scope, kind: Kind, end: &Option<Expr>)
         None => Ok(()),
         Some(value) => need(Some(kind), type_of(tables, scope, value)),
     }
-}
-
-/// `span on column from low to high`.
-#[derive(Clone, Copy)]
-pub struct Span<'a> {
-    pub column: &'a Named,
-    pub low: &'a Option<Expr>,
-    pub high: &'a Option<Expr>,
 }
 
 /// Checks a span of the table of a number.

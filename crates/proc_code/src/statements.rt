@@ -10,7 +10,7 @@ use crate::numbering::Numbering;
 use crate::places::{column_of_table, table_number};
 use crate::terms::{resolve_end, resolve_term, resolve_terms};
 use crate::tree::{Action, Setting, Term};
-use proc_syntax::{Change, Expr, Named, Stmt};
+use proc_syntax::{Change, Expr, Named, Span, Stmt};
 use rel_base::{List, Name, NoMemory, Str, TableDef, Twin};
 use std::alloc::Global;
 
@@ -150,14 +150,6 @@ fn resolve_settings(
         settings.push(setting)?;
     }
     Ok(settings)
-}
-
-/// `span on column from low to high`.
-#[derive(Clone, Copy)]
-struct Span<'a> {
-    column: &'a Named,
-    low: &'a Option<Expr>,
-    high: &'a Option<Expr>,
 }
 
 /// The code of a block.

@@ -14,4 +14,4 @@ pub use chain_fault::{ChainFault, ChainKind};
 pub use declaring::{declare, has_few_columns, tables_of};
 pub use fault::Fault;
 pub use run::{Binding, Ending, Ran, Stop, Variable};
-pub use tree::{App, Change, ColumnText, Expr, Named, Op, ProcDef, Stmt, TableText};
+pub use tree::{App, Change, ColumnText, Expr, Named, Op, ProcDef, Span, Stmt, TableText};

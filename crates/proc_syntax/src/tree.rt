@@ -40,6 +40,14 @@ pub struct ProcDef {
     pub body: List<Stmt>,
 }
 
+/// `span on COLUMN from LOW to HIGH`
+#[derive(Clone, Copy)]
+pub struct Span<'a> {
+    pub column: &'a Named,
+    pub low: &'a Option<Expr>,
+    pub high: &'a Option<Expr>,
+}
+
 /// A statement.
 #[derive(Drop)]
 pub enum Stmt {
