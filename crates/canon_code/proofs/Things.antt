@@ -9,11 +9,12 @@ use Rattle.std.proofs.lemmas.Option.{none-some, some_pair_parts}
 use Rattle.rel_base.specs.declared.value.Value.{Value}
 use Rattle.rel_base.specs.declared.value.Value.TheVariants as value
 use Rattle.rel_base.specs.declared.access.Placed.{Placed}
+use Rattle.rel_base.specs.Reading.{as_kind}
 use Rattle.canon_code.specs.declared.write.Change.{Change}
 use Rattle.canon_code.specs.Codes.{AreBytes, be_code, byte_code, short_code, HasShortCode}
 use Rattle.canon_code.specs.Parts.{◌>>=◌, number_at, byte_at, short_at}
 use Rattle.canon_code.specs.Laws.{ComesBack, WasWritten}
-use Rattle.canon_code.specs.Values.{int_code, bool_code, value_code, is_text, HasValueCode, int_at, text_at, bool_at, as_kind, value_at}
+use Rattle.canon_code.specs.Values.{int_code, bool_code, value_code, is_text, HasValueCode, int_at, text_at, bool_at, value_at}
 use Rattle.canon_code.specs.Rows.{row_code, HasRowCode, row_at}
 use Rattle.canon_code.specs.Writes.{change_code, write_code, HasChangeCode, HasWriteCode, insert_at, update_at, delete_at, change_at, write_at}
 use Rattle.canon_code.proofs.Exact.{IsExact, bind_some, cond_found, bytes_tail, bytes_after, u32_exact, u64_exact, byte_exact, short_back, short_exact, counted_exact}

@@ -4,6 +4,7 @@ use Rattle.std.specs.Int.{w64, cast_signed, cast_unsigned}
 pub use Rattle.rel_base.specs.Reading.{is_text}
 use Rattle.rel_base.specs.declared.value.Value.{Value}
 use Rattle.rel_base.specs.declared.value.Value.TheVariants as value
+use Rattle.rel_base.specs.Reading.{as_kind}
 use Rattle.canon_code.specs.Codes.{be_code, short_code, HasShortCode}
 use Rattle.canon_code.specs.Parts.{◌>>=◌, number_at, short_at}
 
@@ -49,11 +50,6 @@ text_at bytes = do
 abbrev pub bool_at : List ℕ → Option (Bool × List ℕ)
 bool_at [] = None
 bool_at (b ∷ bytes) = cond (b == 0) (Some (false, bytes)) (cond (b == 1) (Some (true, bytes)) None)
-
--- a value of a kind
-abbrev pub as_kind : {A : Type 0} → (A → Value) → Option (A × List ℕ) → Option (Value × List ℕ)
-as_kind make None = None
-as_kind make (Some found) = Some (make found.0, found.1)
 
 -- the value at the front of the bytes, and what follows it
 abbrev pub value_at : List ℕ → Option (Value × List ℕ)

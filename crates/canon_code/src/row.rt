@@ -29,7 +29,7 @@ fn push_values(out: &mut Vec<u8>, values: &[Value]) -> Result<(), NoMemory>
 }
 
 /// Writes a row at the end, or a part of it.
-#[tactic(auto, using(crate::proofs::Fronts::front_front))]
+#[tactic(auto, using(rel_base::proofs::Bytes::front_front))]
 fn push_row(out: &mut Vec<u8>, row: &[Value]) -> Result<(), NoMemory>
     requires { length row.now ≤ 32 }
     ensures ok { OnOk result (out.new.items ≡ out.old.items ++ row_code row.now) }

@@ -37,7 +37,7 @@ pub fn put_short(out: &mut Vec<u8>, bytes: &[u8]) -> Result<(), NoMemory>
 }
 
 /// Writes a text behind its length at the end, or nothing where memory runs out.
-#[tactic(auto, using(crate::proofs::Texts::text_sound))]
+#[tactic(auto, using(rel_base::proofs::Utf8::text_sound))]
 pub fn put_text(out: &mut Vec<u8>, text: &Str) -> Result<(), NoMemory>
     ensures ok { OnOk result (out.new.items ≡ out.old.items ++ short_code text.now) }
     ensures err { OnErr result (out.new.items ≡ out.old.items) }

@@ -2,10 +2,11 @@
 
 ghost use Rattle.std.specs.Prelude.{◌≡◌, ◌∷◌, ◌++◌, length, take, OnOk, OnErr};
 ghost use Rattle.rel_base.specs.declared.value.Value.TheVariants as kinds;
+ghost use Rattle.rel_base.specs.Reading.{as_kind};
 ghost use Rattle.canon_code.specs.Codes.{HasShortCode, short_code};
 ghost use Rattle.canon_code.specs.Parts.{short_at};
 ghost use Rattle.canon_code.specs.Reads.{Reads, Gets};
-ghost use Rattle.canon_code.specs.Values.{int_code, bool_code, value_code, HasValueCode, int_at, text_at, bool_at, as_kind, value_at};
+ghost use Rattle.canon_code.specs.Values.{int_code, bool_code, value_code, HasValueCode, int_at, text_at, bool_at, value_at};
 
 use crate::CodeFault;
 use crate::number::{put_u64, read_u64};

@@ -32,7 +32,7 @@ fn push_kind_and_row(out: &mut Vec<u8>, kind: u8, row: &Row) -> Result<(), NoMem
 }
 
 /// Writes an update at the end, or a part of it.
-#[tactic(auto, using(crate::proofs::Fronts::front_front))]
+#[tactic(auto, using(rel_base::proofs::Bytes::front_front))]
 fn push_update(out: &mut Vec<u8>, before: &Row, after: &Row) -> Result<(), NoMemory>
     requires before { length before.now ≤ 32 }
     requires after { length after.now ≤ 32 }
@@ -73,7 +73,7 @@ fn push_head(out: &mut Vec<u8>, placed: &Placed) -> Result<(), NoMemory>
 }
 
 /// Writes a write at the end, or a part of it.
-#[tactic(auto, using(crate::proofs::Fronts::front_front))]
+#[tactic(auto, using(rel_base::proofs::Bytes::front_front))]
 fn push_write(out: &mut Vec<u8>, placed: &Placed) -> Result<(), NoMemory>
     requires key { length placed.now.write.key ≤ 32 }
     requires before { IsFewPart placed.now.write.before }

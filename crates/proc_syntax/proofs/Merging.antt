@@ -1,5 +1,5 @@
 -- The rows that a transaction sees are those of the tables with its own writes put in.
-use Rattle.std.proofs.Common.{◌≡◌, ℕ, refl, ap, subst, sym, ◌∙◌, List, [], ◌∷◌, true, false, Bool, cond, not, map, Option, Some, None, IfSome, T, ◌&&◌, ◌==◌}
+use Rattle.std.proofs.Common.{◌≡◌, ℕ, refl, ap, subst, sym, ◌∙◌, List, [], ◌∷◌, true, false, cond, not, map, Option, Some, None, IfSome, T, ◌&&◌, ◌==◌}
 use Rattle.std.specs.Prelude.{slice_get}
 use Rattle.std.specs.List.{AllByRecursion, filter}
 use Rattle.std.specs.FinMap as finite
@@ -19,32 +19,11 @@ use Rattle.rel_base.specs.Access.{read_table, covers_row}
 use Rattle.rel_base.specs.Schema.{RowFits, key_of_row}
 use Rattle.rel_base.specs.Tables.{Tables, rows, rows_among, is_read, ref_cmp, ref_cmp-total, ref_cmp-exact, put_entry, seen_at, set_entry}
 use Rattle.rel_base.specs.Value.{key_cmp}
-use Rattle.rel_base.proofs.Frames.{filter-put, filter-where_key, entries-remove}
+use Rattle.rel_base.proofs.Frames.{filter-put, filter-where_key, entries-remove, put_front, not_there}
 use Rattle.rel_base.specs.Among.{StandsIn, TablesFit}
 use Rattle.proc_syntax.specs.Laws.{laid}
 use Rattle.rel_base.specs.OwnWrites.{Own, Keyed, keyed, set_row, covered, lay, lay_all}
-use Rattle.rel_base.proofs.Bits.{first_true}
-
-first : (a b : Bool) → T (a && b) → T a
-first true b p = tt
-first false b p = p
-
-second : (a b : Bool) → T (a && b) → T b
-second true b p = p
-second false b p = absurd p
-
-both : (a b : Bool) → T a → T b → T (a && b)
-both true b p q = q
-both false b p q = p
-
-less : (o : Ordering) → T (is_lt o) → o ≡ Less
-less Less p = refl
-less Equal p = absurd p
-less Greater p = absurd p
-
-and_false : (b : Bool) → (b && false) ≡ false
-and_false true = refl
-and_false false = refl
+use Rattle.rel_base.proofs.Bits.{and_false, both, first, first_true, is_Less, second}
 
 is_less : (o : Ordering) → o ≡ Less → T (is_lt o)
 is_less o e = subst (λ r. T (is_lt r)) (sym e) tt
@@ -52,21 +31,9 @@ is_less o e = subst (λ r. T (is_lt r)) (sym e) tt
 -- ---- entries in order
 
 module _ {K X : Type 0} (R : K → K → Ordering) where
-  -- a key below all others stands first
-  pub put_front : (k : K) (v : X) (es : List (K × X)) → T (below_all R k es) → put R k v es ≡ (k, v) ∷ es
-  put_front k v [] h = refl
-  put_front k v (e ∷ es) h = ap (λ o. by_order o ((k, v) ∷ e ∷ es) ((e.0, v) ∷ es) (e ∷ put R k v es)) (less _ (first _ _ h))
-
-  -- a key below all others is not there
-  pub not_there : (k : K) (es : List (K × X)) → T (below_all R k es) → where_key R (λ x. not (eq_by_cmp R k x)) es ≡ es
-  not_there k [] h = refl
-  not_there k (e ∷ es) h =
-      ap (λ o. cond (not (is_eq o)) (e ∷ where_key R (λ x. not (eq_by_cmp R k x)) es) (where_key R (λ x. not (eq_by_cmp R k x)) es)) (less _ (first _ _ h))
-      ∙ ap (λ fs. e ∷ fs) (not_there k es (second (is_lt (R k e.0)) _ h))
-
   below_more : IsTotalOrder R → (x y : K) (es : List (K × X)) → R x y ≡ Less → T (below_all R y es) → T (below_all R x es)
   below_more total x y [] p h = tt
-  below_more total x y (e ∷ es) p h = both _ _ (is_less _ (total.trans x y e.0 p (less _ (first _ _ h)))) (below_more total x y es p (second (is_lt (R y e.0)) _ h))
+  below_more total x y (e ∷ es) p h = both _ _ (is_less _ (total.trans x y e.0 p (is_Less _ (first _ _ h)))) (below_more total x y es p (second (is_lt (R y e.0)) _ h))
 
 -- keys of one table compare as the keys do
 one_table : (table : ℕ) (k l : List Value) → ref_cmp (table, k) (table, l) ≡ key_cmp k l

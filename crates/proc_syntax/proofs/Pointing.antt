@@ -1,5 +1,5 @@
 -- The row that a transaction sees at a key.
-use Rattle.std.proofs.Common.{◌≡◌, ℕ, refl, ap, subst, sym, ◌∙◌, List, [], ◌∷◌, true, false, Bool, cond, map, Option, Some, None, IfSome, T, ◌&&◌}
+use Rattle.std.proofs.Common.{◌≡◌, ℕ, refl, ap, subst, sym, ◌∙◌, List, [], ◌∷◌, true, false, Bool, cond, map, Option, Some, None, IfSome, T}
 use Rattle.std.specs.Prelude.{slice_get}
 use Rattle.std.specs.List.{AllByRecursion, filter}
 use Rattle.std.specs.Option.{option_map, option_to_list}
@@ -19,17 +19,10 @@ use Rattle.rel_base.proofs.Commutes.{get-set_entry}
 use Rattle.rel_base.specs.Among.{StandsIn, TablesFit}
 use Rattle.proc_syntax.specs.Laws.{OwnFit, laid, SeesItsWrites}
 use Rattle.rel_base.specs.OwnWrites.{Own, first_row, own_or}
+use Rattle.rel_base.proofs.Bits.{first, second}
 use Rattle.proc_syntax.proofs.Merging.{entries_set, sees_laid}
 use Rattle.proc_syntax.proofs.Runs.{covers_is, first_is}
 use Rattle.proc_syntax.proofs.Sound.{all_put}
-
-first : (a b : Bool) → T (a && b) → T a
-first true b p = tt
-first false b p = p
-
-second : (a b : Bool) → T (a && b) → T b
-second true b p = p
-second false b p = absurd p
 
 below_not : (o : Ordering) → T (is_lt o) → is_eq o ≡ false
 below_not Less h = refl

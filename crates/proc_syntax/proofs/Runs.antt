@@ -1,5 +1,5 @@
 -- The laws of runs.
-use Rattle.std.proofs.Common.{◌≡◌, ℕ, ℤ, ◌+◌, ◌≤◌, refl, ap, subst, sym, ◌∙◌, List, [], ◌∷◌, length, true, false, Bool, cond, map, Option, Some, None, arith, Contains, All, T, ◌&&◌, ◌==◌, inl, inr, ◌⊎◌}
+use Rattle.std.proofs.Common.{◌≡◌, ℕ, ℤ, ◌+◌, ◌≤◌, refl, ap, subst, sym, ◌∙◌, List, [], ◌∷◌, length, true, false, Bool, cond, map, Option, Some, None, arith, Contains, All, T, ◌==◌, inl, inr, ◌⊎◌}
 use Rattle.std.specs.Prelude.{slice_get, IsSomeAnd, IsSome}
 use Rattle.std.specs.List.{AllByRecursion, AllPairs, filter}
 use Rattle.std.specs.Option.{option_and_then, option_map}
@@ -9,8 +9,7 @@ use Rattle.std.specs.FinMap.Entries.{below_all, is_sorted}
 use Rattle.std.specs.Ordering.{is_lt, eq_by_cmp}
 use Rattle.std.specs.Cmp.{Equal-is, eq_by_cmp_equiv}
 use Rattle.std.specs.Cmp.Derive.{both_true}
-use Rattle.std.specs.declared.cmp.Ordering.{Ordering}
-use Rattle.std.specs.declared.cmp.Ordering.TheVariants.{Less, Equal, Greater}
+use Rattle.std.specs.declared.cmp.Ordering.TheVariants.{Less}
 use Rattle.std.proofs.lemmas.Bool.{eqb-true, eq-eqb, true≢false}
 use Rattle.std.proofs.lemmas.Bool.Decides.{same_from_decides}
 use Rattle.std.proofs.lemmas.List.Elements.{All-from_recursion, recursion_from_All, All-nil, All-contains}
@@ -38,7 +37,7 @@ use Rattle.proc_syntax.specs.Values.{have_kinds}
 use Rattle.proc_syntax.specs.Meaning.{Outcome, Going, Stopped, block}
 use Rattle.rel_base.specs.OwnWrites.{first_row}
 use Rattle.rel_base.specs.NetWrites.{row_in, write_before, net_from, net}
-use Rattle.rel_base.proofs.Bits.{first_true, second_true}
+use Rattle.rel_base.proofs.Bits.{first, first_true, is_Less, second, second_true}
 use Rattle.proc_syntax.specs.Run.{ran, no_run, start, takes, called, procedure_named, run}
 use Rattle.proc_syntax.proofs.Fits.{keys_equal, key_of_fit, kinds_held}
 use Rattle.proc_syntax.proofs.Framed.{state_of, Agrees, framed_block}
@@ -183,19 +182,6 @@ module _ (declared : List TableDef) (S : Tables) (P : Write → Type 0) where
   each_net Q [] f all = tt
   each_net Q (own ∷ rest) f all = each_write own.0 (row_in declared S own.0) own.1 _ (f own all.0) (each_net Q rest f all.1)
 
-lt-Less : (o : Ordering) → T (is_lt o) → o ≡ Less
-lt-Less Less h = refl
-lt-Less Equal h = absurd h
-lt-Less Greater h = absurd h
-
-first : (a b : Bool) → T (a && b) → T a
-first true b p = tt
-first false b p = p
-
-second : (a b : Bool) → T (a && b) → T b
-second true b p = p
-second false b p = absurd p
-
 no_pairs : {X : Type 0} (R : X → X → Type 0) → AllPairs R []
 no_pairs R = λ i j d lt below. absurd (omega (arith, below))
 
@@ -209,7 +195,7 @@ module _ (declared : List TableDef) (S : Tables) where
   above_net : (ref : ℕ × List Value) (es : List ((ℕ × List Value) × Option (List Value))) → T (below_all ref_cmp ref es) → AllByRecursion (Above ref) (net_from declared S es)
   above_net ref [] h = tt
   above_net ref (own ∷ rest) h =
-      each_write declared S (Above ref) own.0 (row_in declared S own.0) own.1 _ (λ there. lt-Less _ (first _ _ h)) (above_net ref rest (second (is_lt (ref_cmp ref own.0)) _ h))
+      each_write declared S (Above ref) own.0 (row_in declared S own.0) own.1 _ (λ there. is_Less _ (first _ _ h)) (above_net ref rest (second (is_lt (ref_cmp ref own.0)) _ h))
 
   ordered_write : (ref : ℕ × List Value) (before after : Option (List Value)) (rest : List Write) → AllByRecursion (Above ref) rest → AllPairs Ordered rest → AllPairs Ordered (write_before ref before after rest)
   ordered_write ref None None rest above pairs = pairs

@@ -8,10 +8,9 @@ use Rattle.std.proofs.lemmas.List.Elements.{All-append, All-head, All-map, All-n
 use Rattle.node_model.specs.declared.result.BlockResult.{BlockResult}
 use Rattle.provenance.specs.Laws.{HasPlaces, PlacesAreTold}
 use Rattle.provenance.specs.Versions.{history_of, item_of, told_at}
-use Rattle.rel_base.specs.Tables.{Stamped}
+use Rattle.rel_base.specs.Tables.{Stamped, place_of}
 use Rattle.rel_base.specs.declared.access.Placed.{Placed}
 use Rattle.rel_base.proofs.Lists.{item_at}
-use Rattle.row_sets.specs.Lifespans.{place_of}
 
 -- an item is there at each place below the length
 item_there : {X : Type 0} (xs : List X) (index : ℕ) → index < length xs → IsSome (slice_get xs index)

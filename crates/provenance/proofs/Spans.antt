@@ -6,11 +6,11 @@ use Rattle.std.proofs.lemmas.List.Elements.{All-append, All-cons, All-head, All-
 use Rattle.node_model.specs.declared.result.BlockResult.{BlockResult}
 use Rattle.provenance.specs.Chosen.{IsTold, declared_spans}
 use Rattle.provenance.specs.Versions.{AreTold, history_of, told_at}
-use Rattle.rel_base.specs.Tables.{Stamped}
+use Rattle.rel_base.specs.Tables.{Stamped, place_of}
 use Rattle.rel_base.specs.declared.access.Place.{Place}
 use Rattle.rel_base.specs.declared.schema.TableDef.{TableDef}
 use Rattle.rel_base.specs.declared.value.Value.{Value}
-use Rattle.row_sets.specs.Lifespans.{ended_by, is_of_key, lifespan, lifespans, place_of}
+use Rattle.row_sets.specs.Lifespans.{ended_by, is_of_key, lifespan, lifespans}
 use Rattle.row_sets.specs.declared.versions.Lifespan.{Lifespan}
 
 module _ (P : Place → Type 0) where

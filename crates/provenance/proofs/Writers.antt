@@ -13,11 +13,11 @@ use Rattle.provenance.proofs.Spans.{HoldsOf, spans_hold}
 use Rattle.provenance.specs.Answer.{is_place_of, is_written_by, of_id}
 use Rattle.provenance.specs.Chosen.{is_writer, put_keys, written_on}
 use Rattle.provenance.specs.Versions.{history_of, keys_of, of_key, version_of}
-use Rattle.rel_base.specs.Tables.{Stamped, ref_cmp, ref_cmp-exact, write_ref}
+use Rattle.rel_base.specs.Tables.{Stamped, place_of, ref_cmp, ref_cmp-exact, write_ref}
 use Rattle.rel_base.specs.declared.access.Place.{Place}
 use Rattle.rel_base.specs.declared.schema.TableDef.{TableDef}
 use Rattle.rel_base.specs.declared.value.Value.{Value}
-use Rattle.row_sets.specs.Lifespans.{is_of_key, lifespans, place_of}
+use Rattle.row_sets.specs.Lifespans.{is_of_key, lifespans}
 
 -- ---- lists
 

@@ -5,9 +5,9 @@ use Rattle.provenance.specs.Answer.{is_place_of, is_written_by, was_visible}
 use Rattle.provenance.specs.Versions.{history_of, told_at, version_of}
 use Rattle.provenance.specs.declared.chosen.Choice.TheVariants.{Each, Visible, WrittenBy}
 use Rattle.provenance.specs.declared.chosen.Choice.{Choice}
-use Rattle.rel_base.specs.Tables.{Stamped, ref_cmp, write_ref}
+use Rattle.rel_base.specs.Tables.{Stamped, place_of, ref_cmp, write_ref}
 use Rattle.rel_base.specs.declared.value.Value.{Value}
-use Rattle.row_sets.specs.Lifespans.{is_of_key, lifespans, place_of}
+use Rattle.row_sets.specs.Lifespans.{is_of_key, lifespans}
 use Rattle.rel_base.specs.declared.schema.TableDef.{TableDef}
 use Rattle.row_sets.specs.declared.versions.Lifespan.{Lifespan}
 use Rattle.std.specs.BTreeSet.{insert_key}

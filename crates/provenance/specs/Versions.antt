@@ -5,11 +5,11 @@
 use Rattle.node_model.specs.declared.result.BlockResult.{BlockResult}
 use Rattle.node_model.specs.declared.result.Told.{Told}
 use Rattle.node_model.specs.declared.version.Version.{Version}
-use Rattle.rel_base.specs.Tables.{Stamped, ref_cmp, write_ref}
+use Rattle.rel_base.specs.Tables.{Stamped, place_of, ref_cmp, write_ref}
 use Rattle.rel_base.specs.declared.access.Place.{Place}
 use Rattle.rel_base.specs.declared.schema.TableDef.{TableDef}
 use Rattle.rel_base.specs.declared.value.Value.{Value}
-use Rattle.row_sets.specs.Lifespans.{is_of_key, is_of_table, lifespans, place_of}
+use Rattle.row_sets.specs.Lifespans.{is_of_key, is_of_table, lifespans}
 use Rattle.row_sets.specs.declared.versions.Lifespan.{Lifespan}
 use Rattle.std.specs.FinMap as finite
 use Rattle.std.specs.List.{filter, flat_map}

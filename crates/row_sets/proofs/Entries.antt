@@ -14,6 +14,7 @@ use Rattle.rel_base.specs.declared.value.Value.{Value}
 use Rattle.rel_base.specs.Tables.{ref_cmp, ref_cmp-total, ref_cmp-exact}
 use Rattle.rel_base.specs.Value.{key_cmp, key_cmp-total, key_cmp-exact}
 use Rattle.rel_base.proofs.Bits.{both, first, second, is_Less, is_Equal}
+use Rattle.rel_base.proofs.Frames.{not_there}
 
 module _ {K X : Type 0} (R : K → K → Ordering) where
   below_from_keys : (k : K) (es : List (K × X)) → AllByRecursion (λ q. R k q ≡ Less) (keys_of es) → T (below_all R k es)
@@ -33,19 +34,7 @@ module _ {K X : Type 0} (R : K → K → Ordering) where
       elim (R k e.0) as (λ o. match_ordering o ((k, v) ∷ e ∷ es) ((e.0, v) ∷ es) (e ∷ insert_entry R es k v) ≡ by_order o ((k, v) ∷ e ∷ es) ((e.0, v) ∷ es) (e ∷ put R k v es))
       [ Less ↦ refl | Equal ↦ refl | Greater ↦ ap (λ fs. e ∷ fs) (insert_is_put k v es) ]
 
-  -- a key below all others stands first
-  pub put_front : (k : K) (v : X) (es : List (K × X)) → T (below_all R k es) → put R k v es ≡ (k, v) ∷ es
-  put_front k v [] h = refl
-  put_front k v (e ∷ es) h = ap (λ o. by_order o ((k, v) ∷ e ∷ es) ((e.0, v) ∷ es) (e ∷ put R k v es)) (is_Less _ (first _ _ h))
-
-  -- and it is not there
-  not_there : (k : K) (es : List (K × X)) → T (below_all R k es) → where_key R (λ x. not (eq_by_cmp R k x)) es ≡ es
-  not_there k [] h = refl
-  not_there k (e ∷ es) h =
-      ap (λ o. cond (not (is_eq o)) (e ∷ where_key R (λ x. not (eq_by_cmp R k x)) es) (where_key R (λ x. not (eq_by_cmp R k x)) es)) (is_Less _ (first _ _ h))
-      ∙ ap (λ fs. e ∷ fs) (not_there k es (second (is_lt (R k e.0)) _ h))
-
-  -- and it is not found
+  -- a key below all others is not found
   pub not_found : (k : K) (es : List (K × X)) → T (below_all R k es) → find R k es ≡ None
   not_found k [] h = refl
   not_found k (e ∷ es) h = ap (λ o. cond (is_eq o) (Some e.1) (find R k es)) (is_Less _ (first _ _ h)) ∙ not_found k es (second (is_lt (R k e.0)) _ h)
@@ -58,7 +47,7 @@ module _ {K X : Type 0} (R : K → K → Ordering) where
       as (λ b. eq_by_cmp R k e.0 ≡ b → cond b es (e ∷ remove_entry (is_at (R k)) es) ≡ cond (not b) (e ∷ where_key R (λ x. not (eq_by_cmp R k x)) es) (where_key R (λ x. not (eq_by_cmp R k x)) es)) [
         | true ↦ λ same.
             let at_entry : k ≡ e.0 = exact k e.0 ((Equal-is (R k e.0)).0 same) in
-            sym (not_there k es (subst (λ x. T (below_all R x es)) (sym at_entry) (first _ _ up)))
+            sym (not_there R k es (subst (λ x. T (below_all R x es)) (sym at_entry) (first _ _ up)))
         | false ↦ λ differs. ap (λ fs. e ∷ fs) (remove_is_where exact k es (second (below_all R e.0 es) _ up))
       ] refl
 

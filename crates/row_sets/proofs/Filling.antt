@@ -8,7 +8,7 @@ use Rattle.rel_base.specs.declared.access.Seen.{Seen}
 use Rattle.rel_base.specs.declared.schema.TableDef.{TableDef}
 use Rattle.rel_base.specs.OwnWrites.{keyed}
 use Rattle.rel_base.proofs.Bits.{first, second}
-use Rattle.row_sets.proofs.Entries.{put_front}
+use Rattle.rel_base.proofs.Frames.{put_front}
 
 pub put_before : (def : TableDef) (seens : List Seen) (i : ℕ) (seen : Seen) → i < length seens → T (is_sorted key_cmp (keyed def seens)) → slice_index_or seens i seen ≡ seen
     → put key_cmp (key_of_row def seen.row) seen.row (keyed def (drop (suc i) seens)) ≡ keyed def (drop i seens)

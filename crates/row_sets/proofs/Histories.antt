@@ -1,5 +1,5 @@
 -- Items of lists by their numbers, and histories of committed writes.
-use Rattle.std.proofs.Common.{◌≡◌, ◌∙◌, ℕ, suc, zero, List, [], ◌∷◌, ◌++◌, Bool, true, false, ◌&&◌, ◌==◌, cond, Option, Some, refl, ap, sym, subst, arith, All, slice_get, drop, nat_lt}
+use Rattle.std.proofs.Common.{◌≡◌, ◌∙◌, ℕ, List, ◌++◌, Bool, true, false, ◌&&◌, ◌==◌, cond, Option, Some, refl, ap, sym, subst, arith, All, slice_get, nat_lt}
 use Rattle.std.specs.Option.{IsSomeAnd, unwrap_or}
 use Rattle.std.specs.Ordering.{is_eq, nat_cmp, ordering_then}
 use Rattle.std.specs.declared.cmp.Ordering.{Ordering}
@@ -12,17 +12,12 @@ use Rattle.rel_base.specs.declared.schema.TableDef.{TableDef}
 use Rattle.rel_base.specs.Access.{WriteFits}
 use Rattle.rel_base.specs.Among.{WriteFitsIn}
 use Rattle.rel_base.specs.Tables.{HistoryFits, Stamped}
+pub use Rattle.rel_base.proofs.Lists.{drop_next}
 use Rattle.row_sets.specs.Versions.{stamped_at}
 
 -- two values that are there are one
 pub unwrapped : {X : Type 0} (x y : X) → Some x ≡ Some y → x ≡ y
 unwrapped x y same = ap (λ found. unwrap_or found x) same
-
--- the items from a number on
-pub drop_next : {X : Type 0} (xs : List X) (number : ℕ) (x : X) → slice_get xs number ≡ Some x → drop number xs ≡ x ∷ drop (suc number) xs
-drop_next [] number x there = cc
-drop_next (y ∷ ys) zero x there = ap (λ z. z ∷ ys) (unwrapped y x there)
-drop_next (y ∷ ys) (suc number) x there = drop_next ys number x there
 
 -- tables and keys are one where both are
 pub same_parts : (a b : ℕ) (k : Ordering) → is_eq (ordering_then (nat_cmp a b) k) ≡ ((a == b) && is_eq k)

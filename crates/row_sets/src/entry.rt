@@ -2,9 +2,10 @@
 
 ghost use Rattle.std.specs.Prelude.{◌≡◌, ◌<◌, ◌≤◌, ◌+◌, ◌++◌, ◌∷◌, [], Some, length, slice_get};
 ghost use Rattle.std.specs.Vec.{vec_len, vec_capacity};
-ghost use Rattle.row_sets.specs.Lifespans.{is_of_key, place_of};
+ghost use Rattle.row_sets.specs.Lifespans.{is_of_key};
 ghost use Rattle.row_sets.specs.Log.{entry_of, history_of, room_of, stamped_of};
 ghost use Rattle.row_sets.specs.Versions.{stamped_at};
+ghost use Rattle.rel_base.specs.Tables.{place_of};
 
 use rel_base::{Key, List, Place, Placed, Write};
 

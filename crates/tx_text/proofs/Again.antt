@@ -13,6 +13,7 @@ use Rattle.std.proofs.lemmas.Fmt.{digits_decimal, decimal_nonempty}
 use Rattle.rel_base.specs.declared.value.Value.{Value}
 use Rattle.rel_base.specs.declared.value.Value.TheVariants as value
 use Rattle.rel_base.specs.Text.{is_lower_case, is_name_byte, is_id_byte, has_name_form, has_id_form}
+use Rattle.rel_base.specs.Reading.{as_kind}
 use Rattle.proc_syntax.specs.declared.call.Tx.{Tx}
 use Rattle.literals.specs.Text.{quote}
 use Rattle.literals.specs.Bytes.{letter_x}
@@ -21,7 +22,7 @@ use Rattle.literals.proofs.Numerals.{own}
 use Rattle.literals.specs.Laws.{starts_no_digit}
 use Rattle.literals.proofs.Again.{text_again, bytes_again, number_again}
 use Rattle.tx_text.specs.Fields.{is_space, after, word, past_word, id_at, name_at}
-use Rattle.tx_text.specs.Values.{as_kind, plain_int, minus_int, int_of, minus, value_at, value_of, alone, value_text, IsValue}
+use Rattle.tx_text.specs.Values.{plain_int, minus_int, int_of, minus, value_at, value_of, alone, value_text, IsValue}
 use Rattle.tx_text.specs.Lines.{first_and_more, args_within, args_of, call_of, height_and_call, tx_form, tx_of, arg_text, tx_text, IsTx}
 
 -- a front that is there

@@ -5,10 +5,8 @@ pub mod Listed
 pub mod Arriving
 pub mod Fed
 pub mod Longest
-pub mod Ascii
 pub mod Shrinks
 pub mod Args
-pub mod Made
 pub mod Again
 pub mod Sound
 pub mod Takes

@@ -5,12 +5,13 @@ use Rattle.std.specs.Option.{option_and_then, option_map, option_or}
 use Rattle.std.specs.Str.{bytes_eq}
 use Rattle.rel_base.specs.declared.value.Value.{Value}
 use Rattle.rel_base.specs.declared.value.Value.TheVariants as value
+use Rattle.rel_base.specs.Reading.{as_kind}
 use Rattle.literals.specs.Text.{quote}
 use Rattle.literals.specs.Bytes.{letter_x}
 use Rattle.literals.specs.Number.{u64_at}
 use Rattle.literals.proofs.Shrinks.{RestWithin, within_more, within_cond, text_within, bytes_within, u64_within}
 use Rattle.tx_text.specs.Fields.{after, is_space}
-use Rattle.tx_text.specs.Values.{as_kind, plain_int, minus_int, int_of, minus, int_at, flag, bool_at, value_at}
+use Rattle.tx_text.specs.Values.{plain_int, minus_int, int_of, minus, int_at, flag, bool_at, value_at}
 use Rattle.tx_text.specs.Lines.{arg_at, first_and_more, args_within}
 
 within_kind : {A : Type 0} (n : ℕ) (make : A → Value) (found : Option (A × List ℕ)) → RestWithin n found → RestWithin n (as_kind make found)

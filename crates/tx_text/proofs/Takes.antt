@@ -11,13 +11,14 @@ use Rattle.rel_base.specs.declared.value.Value.{Value}
 use Rattle.rel_base.specs.declared.value.Value.TheVariants as value
 use Rattle.rel_base.specs.Text.{has_name_form, has_id_form}
 use Rattle.rel_base.proofs.Bytes.{equal_bytes}
+use Rattle.rel_base.specs.Reading.{as_kind}
 use Rattle.proc_syntax.specs.declared.call.Tx.{Tx}
 use Rattle.literals.specs.Text.{quote, text_at, text_literal}
 use Rattle.literals.specs.Bytes.{letter_x, bytes_at, bytes_literal}
 use Rattle.literals.specs.Number.{u64_at}
 use Rattle.literals.proofs.Takes.{IsLiteral, IsText, IsShort, IsU64, text_takes, bytes_takes, u64_takes}
 use Rattle.tx_text.specs.Fields.{is_space, after, word, past_word, id_at, name_at}
-use Rattle.tx_text.specs.Values.{as_kind, plain_int, minus_int, int_of, minus, int_at, flag, bool_at, value_at, value_of, alone, value_text}
+use Rattle.tx_text.specs.Values.{plain_int, minus_int, int_of, minus, int_at, flag, bool_at, value_at, value_of, alone, value_text}
 use Rattle.tx_text.specs.Lines.{arg_at, first_and_more, args_within, args_of, call_of, height_and_call, tx_form, tx_of, arg_text, call_text, tx_text}
 
 -- the bytes are the text of what was found, and what was left

@@ -5,15 +5,11 @@ use Rattle.std.specs.Fmt.{signed_decimal}
 use Rattle.std.specs.Option.{option_and_then, option_map, option_or}
 use Rattle.rel_base.specs.declared.value.Value.{Value}
 use Rattle.rel_base.specs.declared.value.Value.TheVariants as value
+use Rattle.rel_base.specs.Reading.{as_kind}
 use Rattle.literals.specs.Text.{quote, is_text, text_at, text_literal}
 use Rattle.literals.specs.Bytes.{letter_x, bytes_at, bytes_literal}
 use Rattle.literals.specs.Number.{u64_at}
 use Rattle.tx_text.specs.Fields.{after}
-
--- a value of a kind, and what follows it
-abbrev pub as_kind : {A : Type 0} → (A → Value) → Option (A × List ℕ) → Option (Value × List ℕ)
-as_kind make None = None
-as_kind make (Some found) = Some (make found.0, found.1)
 
 -- a number as an int of 64 bits
 abbrev pub plain_int : ℕ → Option ℤ

@@ -51,7 +51,7 @@ pub fn split_word(bytes: &[u8]) -> (&[u8], &[u8])
 }
 
 /// The id of some bytes, if they are one.
-#[tactic(auto, using(crate::proofs::Ascii::no_id))]
+#[tactic(auto, using(rel_base::proofs::Utf8::no_id))]
 fn id_of(alloc: Global, word: &[u8]) -> Result<Id, LiteralFault>
     ensures { Gives result (cond (has_id_form word.now) (Some word.now) None) }
 {
@@ -66,7 +66,7 @@ fn id_of(alloc: Global, word: &[u8]) -> Result<Id, LiteralFault>
 }
 
 /// The name of some bytes, if they are one.
-#[tactic(auto, using(crate::proofs::Ascii::no_name))]
+#[tactic(auto, using(rel_base::proofs::Utf8::no_name))]
 fn name_of(alloc: Global, word: &[u8]) -> Result<Name, LiteralFault>
     ensures { Gives result (cond (has_name_form word.now) (Some word.now) None) }
 {

@@ -136,7 +136,7 @@ fn push_name(out: &mut Vec<u8>, name: &Name) -> Result<(), NoMemory>
 }
 
 /// Writes `PROCEDURE` and the arguments at the end, each after a space.
-#[tactic(auto, using(crate::proofs::Made::front_front))]
+#[tactic(auto, using(rel_base::proofs::Bytes::front_front))]
 fn push_call(out: &mut Vec<u8>, tx: &Tx) -> Result<(), NoMemory>
     ensures ok { OnOk result (out.new.items ≡ out.old.items ++ call_text tx.now) }
     ensures front { take (length out.old.items) out.new.items ≡ out.old.items }

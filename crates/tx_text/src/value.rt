@@ -9,7 +9,8 @@ ghost use Rattle.literals.specs.Number.{u64_at};
 ghost use Rattle.literals.specs.Text.{is_text, text_at, text_literal};
 ghost use Rattle.literals.specs.Bytes.{bytes_at, bytes_literal};
 ghost use Rattle.rel_base.specs.declared.value.Value.TheVariants as kinds;
-ghost use Rattle.tx_text.specs.Values.{int_at, bool_at, plain_int, minus_int, int_of, as_kind, value_at, value_of, value_text, IsValue};
+ghost use Rattle.rel_base.specs.Reading.{as_kind};
+ghost use Rattle.tx_text.specs.Values.{int_at, bool_at, plain_int, minus_int, int_of, value_at, value_of, value_text, IsValue};
 
 use crate::field::strip;
 use literals::{LiteralFault, push_bytes, push_int, push_text, read_bytes, read_number, read_text};
@@ -168,7 +169,7 @@ fn push_long(out: &mut Vec<u8>, int: i64) -> Result<(), NoMemory>
 }
 
 /// Writes a text in quotes at the end.
-#[tactic(auto, using(crate::proofs::Sound::text_sound))]
+#[tactic(auto, using(rel_base::proofs::Utf8::text_sound))]
 fn push_str(out: &mut Vec<u8>, text: &Str) -> Result<(), NoMemory>
     ensures ok { OnOk result (out.new.items ≡ out.old.items ++ text_literal text.now) }
     ensures err { OnErr result (out.new.items ≡ out.old.items) }

@@ -11,8 +11,8 @@ use Rattle.rel_base.specs.Access.{read_table, hits_write}
 use Rattle.rel_base.specs.Late.{least, least_hit, lesser, stamp_cmp, where_declared}
 use Rattle.rel_base.specs.Tables.{Stamped, writes_between}
 use Rattle.rel_base.proofs.Bits.{first_true}
-use Rattle.rel_base.proofs.Lists.{item_of}
-use Rattle.row_sets.proofs.Histories.{drop_next, unwrapped}
+use Rattle.rel_base.proofs.Lists.{drop_next, item_of}
+use Rattle.row_sets.proofs.Histories.{unwrapped}
 use Rattle.row_sets.specs.declared.entry.Entry.{Entry}
 use Rattle.row_sets.specs.Log.{history_of, stamped_of}
 use Rattle.row_sets.specs.Watched.{is_watched}

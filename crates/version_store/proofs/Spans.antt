@@ -1,10 +1,10 @@
 -- The versions that the writes of a history left, one write after the other.
 use Rattle.std.proofs.Common.{◌≡◌, ◌∙◌, ℕ, suc, List, [], ◌++◌, Bool, true, false, cond, Some, ap, sym, slice_get, drop, append_assoc}
 use Rattle.std.specs.List.{find}
-use Rattle.rel_base.specs.Tables.{Stamped}
+use Rattle.rel_base.specs.Tables.{Stamped, place_of}
+use Rattle.rel_base.proofs.Lists.{drop_next}
 use Rattle.row_sets.specs.declared.versions.Lifespan.{Lifespan}
-use Rattle.row_sets.specs.Lifespans.{ended_by, lifespan, lifespans, place_of}
-use Rattle.row_sets.proofs.Histories.{drop_next}
+use Rattle.row_sets.specs.Lifespans.{ended_by, lifespan, lifespans}
 
 module _ (test : Stamped → Bool) (history : List Stamped) (number : ℕ) (x : Stamped) (there : slice_get history number ≡ Some x) where
   -- one write more: what was made with the versions of the writes that are left is the whole

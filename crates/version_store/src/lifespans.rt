@@ -2,8 +2,8 @@
 
 ghost use Rattle.std.specs.Prelude.{◌≡◌, ◌++◌, ◌+◌, ◌<◌, [], IfOk, OnOk, Some, cond, drop, find, length, slice_get};
 ghost use Rattle.std.specs.Option.{option_map};
-ghost use Rattle.rel_base.specs.Tables.{Stamped};
-ghost use Rattle.row_sets.specs.Lifespans.{ended_by, is_of_key, is_of_table, lifespan, lifespans, place_of};
+ghost use Rattle.rel_base.specs.Tables.{Stamped, place_of};
+ghost use Rattle.row_sets.specs.Lifespans.{ended_by, is_of_key, is_of_table, lifespan, lifespans};
 ghost use Rattle.row_sets.specs.Log.{history_of};
 
 use rel_base::{Key, List, NoMemory, Place, Row, Twin};

@@ -1,8 +1,8 @@
 use Rattle.std.proofs.Common.{◌∙◌, ◌++◌, ◌+◌, ap, sym, cond, drop, List, []}
-use Rattle.rel_base.specs.Tables.{Stamped}
+use Rattle.rel_base.specs.Tables.{Stamped, place_of}
 use Rattle.row_sets.proofs.Endings.{on_ok_then}
 use Rattle.row_sets.proofs.Histories.{unwrapped}
-use Rattle.row_sets.specs.Lifespans.{ended_by, lifespan, place_of}
+use Rattle.row_sets.specs.Lifespans.{ended_by, lifespan}
 use Rattle.row_sets.specs.declared.versions.Lifespan.{Lifespan}
 use Rattle.row_sets.specs.Log.{history_of, stamped_of}
 use Rattle.version_store.proofs.Leasts.{get_history}

@@ -2,11 +2,12 @@ use Rattle.std.proofs.Common.{◌≡◌, ◌∙◌, ◌+◌, suc, ap, sym, arith
 use Rattle.std.specs.List.{find}
 use Rattle.std.specs.Option.{option_map}
 use Rattle.std.proofs.lemmas.List.{drop_all, length-map}
-use Rattle.row_sets.specs.Lifespans.{is_of_key, place_of}
+use Rattle.row_sets.specs.Lifespans.{is_of_key}
 use Rattle.row_sets.specs.Log.{history_of, stamped_of}
 use Rattle.version_store.proofs.Leasts.{get_history}
 use Rattle.version_store.proofs.Spans.{find_here, find_past}
 use Rattle.version_store.proofs.lifespans.next_on.Goals as goal
+use Rattle.rel_base.specs.Tables.{place_of}
 
 pub returns-then-is_on_key : goal.returns-then-is_on_key
 returns-then-is_on_key c =

@@ -1,9 +1,10 @@
 use Rattle.std.proofs.Common.{◌≡◌, ◌∙◌, ◌++◌, ◌+◌, suc, refl, subst, ap, arith, drop, cond, []}
-use Rattle.row_sets.specs.Lifespans.{is_of_table, ended_by, lifespan, lifespans, place_of}
+use Rattle.row_sets.specs.Lifespans.{is_of_table, ended_by, lifespan, lifespans}
 use Rattle.row_sets.specs.Log.{history_of, stamped_of}
 use Rattle.version_store.proofs.Leasts.{get_history}
 use Rattle.version_store.proofs.Spans.{spans_more}
 use Rattle.version_store.proofs.lifespans.of_table.Goals as goal
+use Rattle.rel_base.specs.Tables.{place_of}
 
 -- one write more
 pub loop-number-preserved : goal.loop-number-preserved

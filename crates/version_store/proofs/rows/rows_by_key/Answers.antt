@@ -2,7 +2,7 @@ use Rattle.std.proofs.Common.{◌≡◌, ◌∙◌, ◌+◌, suc, refl, ap, sym,
 use Rattle.std.proofs.lemmas.List.{drop_all, length-map}
 use Rattle.rel_base.specs.Access.{WriteFits, read_table}
 use Rattle.rel_base.specs.Tables.{Stamped, no_tables, set_stamped, writes_up_to}
-use Rattle.row_sets.proofs.Histories.{drop_next}
+use Rattle.rel_base.proofs.Lists.{drop_next}
 use Rattle.row_sets.specs.Log.{history_of, stamped_of}
 use Rattle.version_store.specs.Rows.{AreRows}
 use Rattle.version_store.proofs.Found.{rows_of_none, set_more}
