@@ -1,5 +1,4 @@
 pub mod Pushed
-pub mod Ascii
 pub mod Joins
 pub mod Outcomes
 pub mod Rising

@@ -1,12 +1,7 @@
 -- Pieces that are written one after another.
-use Rattle.std.proofs.Common.{Err, List, Ok, OnOk, Result, ap, ◌++◌, ◌∙◌, ◌≡◌, ℕ}
+use Rattle.std.proofs.Common.{List, OnOk, Result, ap, ◌++◌, ◌∙◌, ◌≡◌, ℕ}
 use Rattle.std.proofs.lemmas.List.{append_assoc}
-
--- two pieces
-pub pushed_two : {A E : Type 0} (result : Result A E) (old first between second new : List ℕ)
-    → between ≡ old ++ first → OnOk result (new ≡ between ++ second) → OnOk result (new ≡ old ++ (first ++ second))
-pushed_two (Ok done) old first between second new one two = two ∙ ap (λ bytes. bytes ++ second) one ∙ append_assoc old first second
-pushed_two (Err fault) old first between second new one two = tt
+use Rattle.rel_base.proofs.Bytes.{pushed_twice}
 
 -- four pieces
 pub pushed_four : {A E : Type 0} (result : Result A E) (old first with_one second with_two third with_three fourth new : List ℕ)
@@ -15,4 +10,4 @@ pub pushed_four : {A E : Type 0} (result : Result A E) (old first with_one secon
 pushed_four result old first with_one second with_two third with_three fourth new one two three four =
     let two_pieces : with_two ≡ old ++ (first ++ second) = two ∙ ap (λ bytes. bytes ++ second) one ∙ append_assoc old first second in
     let three_pieces : with_three ≡ old ++ (first ++ second ++ third) = three ∙ ap (λ bytes. bytes ++ third) two_pieces ∙ append_assoc old (first ++ second) third in
-    pushed_two result old (first ++ second ++ third) with_three fourth new three_pieces four
+    pushed_twice result old (first ++ second ++ third) with_three fourth new three_pieces four

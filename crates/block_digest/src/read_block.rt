@@ -23,7 +23,7 @@ use std::alloc::Global;
 pub const MOST_OUTCOMES: u32 = 1024;
 
 /// The id of some bytes, if they are one.
-#[tactic(auto, using(crate::proofs::Ascii::no_id))]
+#[tactic(auto, using(rel_base::proofs::Utf8::no_id))]
 fn id_of(alloc: Global, bytes: &[u8]) -> Result<Id, CodeFault>
     ensures { Gives result (cond (has_id_form bytes.now) (Some bytes.now) None) }
 {

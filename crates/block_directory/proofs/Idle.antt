@@ -24,18 +24,13 @@ use Rattle.rel_base.specs.declared.access.Read.{Read}
 use Rattle.rel_base.specs.declared.access.Write.{Write}
 use Rattle.rel_base.specs.declared.schema.TableDef.{TableDef}
 use Rattle.rel_base.specs.declared.value.Value.{Value}
-use Rattle.rel_base.proofs.Bits.{either, first_true, second_true}
-use Rattle.rw_graph.proofs.Cases.{or_true}
+use Rattle.rel_base.proofs.Bits.{either, first_true, not_true, or_true, second_true}
 use Rattle.rw_graph.proofs.Lists.{In, each_at}
 use Rattle.rw_graph.specs.Fitting.{IsMember, WritesFit}
 use Rattle.rw_graph.specs.Held.{holds}
 use Rattle.rw_graph.specs.declared.bits.Bits.{Bits}
 
 -- ---- tests of lists
-
-is_false : (test : Bool) → (test ≡ true → ⊥) → test ≡ false
-is_false true never = absurd (never refl)
-is_false false never = refl
 
 none_of : {X : Type 0} (test : X → Bool) (items : List X) → ((item : X) → In item items → test item ≡ false) → list_any test items ≡ false
 none_of test [] none = refl
@@ -93,7 +88,7 @@ module _ (tables : List TableDef) where
   untouched reads writes fit never =
       none_of (λ made. list_any (hits_in tables made.read) writes) reads (λ made of_reads.
       none_of (hits_in tables made.read) writes (λ write of_writes.
-      is_false (hits_in tables made.read write) (λ hits.
+      not_true (hits_in tables made.read write) (λ hits.
       never made of_reads write of_writes
       (hit_has_place made.read write (each_at (WriteFitsIn tables) writes (recursion_from_All (WriteFitsIn tables) writes fit) write of_writes) hits))))
 
@@ -113,7 +108,7 @@ module _ (words : List ℕ) (committed : List Committed) (found : Bits) (few : l
   no_clash writes marks finds number done at absent =
       no_place (is_shared done.writes) 0 writes (λ write of_writes.
       none_of (λ other. eq_by_cmp ref_cmp (write_ref write) (write_ref other)) done.writes (λ other of_done.
-      is_false (eq_by_cmp ref_cmp (write_ref write) (write_ref other)) (λ equal.
+      not_true (eq_by_cmp ref_cmp (write_ref write) (write_ref other)) (λ equal.
       let same : write_ref write ≡ write_ref other = tells_apart ref_cmp-exact (write_ref write) (write_ref other) equal in
       let place : write_place write ≡ write_place other = ap (λ ref. key_place ref.0 ref.1) same in
       let marked : is_marked words (write_place write) number ≡ true =

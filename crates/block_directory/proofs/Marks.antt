@@ -8,8 +8,8 @@ use Rattle.std.proofs.lemmas.List.{get_or-set_other, get_or-set_same}
 use Rattle.std.proofs.lemmas.Option.{none-some}
 use Rattle.block_directory.specs.Marking.{HasMarks, is_marked}
 use Rattle.node_model.specs.declared.result.Committed.{Committed}
-use Rattle.rw_graph.proofs.Cases.{or_true}
 use Rattle.rw_graph.specs.Sets.{is_one}
+use Rattle.rel_base.proofs.Bits.{or_true}
 
 -- ---- room
 

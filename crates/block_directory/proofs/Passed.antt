@@ -8,7 +8,7 @@ use Rattle.block_directory.specs.Marking.{NoneFound, OnlyFound}
 use Rattle.node_model.specs.Decide.{clash, clash_at, first_shared}
 use Rattle.node_model.specs.declared.result.Committed.{Committed}
 use Rattle.rel_base.specs.declared.access.Write.{Write}
-use Rattle.rw_graph.proofs.Cases.{and_false}
+use Rattle.rel_base.proofs.Bits.{and_false}
 use Rattle.rw_graph.proofs.Noted.{note_next, noted_all}
 use Rattle.rw_graph.specs.declared.bits.Bits.{Bits}
 

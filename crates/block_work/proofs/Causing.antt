@@ -2,13 +2,13 @@
 use Rattle.std.proofs.Common.{All, Bool, IfSome, List, None, Option, Some, [], ap, cond, false, map, refl, sym, true, ◌+◌, ◌∙◌, ◌≡◌, ◌∷◌, ℕ}
 use Rattle.std.proofs.lemmas.List.Elements.{All-filter, All-head, All-tail}
 use Rattle.std.specs.List.{filter}
-use Rattle.std.specs.Option.{option_map}
+use Rattle.std.specs.Option.{option_map, option_or}
 use Rattle.std.specs.Ordering.{is_gt}
 use Rattle.std.specs.Prelude.{slice_get}
 use Rattle.block_work.proofs.Bounds.{at_place, fitting_few}
-use Rattle.block_work.specs.Causes.{IsCause, before_edges, is_commit}
+use Rattle.block_work.specs.Causes.{IsCause, before_edges}
 use Rattle.node_model.specs.Danger.{danger}
-use Rattle.node_model.specs.Decide.{by_run, clash, conflict_outcome, danger_outcome, fault_outcome, late_outcome, or_committed, or_else}
+use Rattle.node_model.specs.Decide.{by_run, clash, conflict_outcome, danger_outcome, fault_outcome, is_committed, late_outcome, or_committed}
 use Rattle.node_model.specs.Fold.{join_committed}
 use Rattle.node_model.specs.declared.outcome.Outcome.TheVariants as outcome
 use Rattle.node_model.specs.declared.outcome.Outcome.{Outcome}
@@ -25,7 +25,7 @@ use Rattle.rel_base.specs.declared.access.Write.{Write}
 use Rattle.rel_base.specs.declared.schema.TableDef.{TableDef}
 
 -- with an abort the committed transactions stay as they are
-pub join_abort : (committed : List Committed) (pos : ℕ) (ran : Ran) (found : Outcome) → is_commit found ≡ false → join_committed committed pos ran found ≡ committed
+pub join_abort : (committed : List Committed) (pos : ℕ) (ran : Ran) (found : Outcome) → is_committed found ≡ false → join_committed committed pos ran found ≡ committed
 join_abort committed pos ran outcome.Committed is = cc
 join_abort committed pos ran outcome.DuplicateId is = refl
 join_abort committed pos ran outcome.FutureHeight is = refl
@@ -40,7 +40,7 @@ join_abort committed pos ran (outcome.Danger danger) is = refl
 abbrev MayBeCause : Option Outcome → Type 0
 MayBeCause found = IfSome found IsCause
 
-else_cause : (first second : Option Outcome) → MayBeCause first → MayBeCause second → MayBeCause (or_else first second)
+else_cause : (first second : Option Outcome) → MayBeCause first → MayBeCause second → MayBeCause (option_or first second)
 else_cause None second is rest = rest
 else_cause (Some found) second is rest = is
 
@@ -101,21 +101,21 @@ module _ (tables : List TableDef) (small : All IsSmall tables) where
 
 -- ---- the first of the causes of a run
 
-or_last : (a b c d : Option Outcome) → or_else a (or_else b (or_else c d)) ≡ or_else (or_else a (or_else b c)) d
+or_last : (a b c d : Option Outcome) → option_or a (option_or b (option_or c d)) ≡ option_or (option_or a (option_or b c)) d
 or_last None None c d = refl
 or_last None (Some b) c d = refl
 or_last (Some a) b c d = refl
 
 module _ (tables : List TableDef) (since : List Stamped) (committed : List Committed) (ran : Ran) where
-  by_parts : by_run tables since committed ran ≡ or_else (before_edges tables since committed ran) (danger_outcome (danger tables committed ran.reads ran.writes))
+  by_parts : by_run tables since committed ran ≡ option_or (before_edges tables since committed ran) (danger_outcome (danger tables committed ran.reads ran.writes))
   by_parts =
       or_last (late_outcome tables (late tables (map (λ made. made.read) ran.reads) since)) (fault_outcome ran.ending) (conflict_outcome ran.writes (clash committed ran.writes))
       (danger_outcome (danger tables committed ran.reads ran.writes))
 
   -- where nothing else aborts a transaction, its danger decides
   pub danger_decides : before_edges tables since committed ran ≡ None → or_committed (danger_outcome (danger tables committed ran.reads ran.writes)) ≡ or_committed (by_run tables since committed ran)
-  danger_decides none = ap (λ first. or_committed (or_else first (danger_outcome (danger tables committed ran.reads ran.writes)))) (sym none) ∙ ap or_committed (sym by_parts)
+  danger_decides none = ap (λ first. or_committed (option_or first (danger_outcome (danger tables committed ran.reads ran.writes)))) (sym none) ∙ ap or_committed (sym by_parts)
 
   -- a cause that it shows without its edges comes before a danger
   pub cause_decides : (cause : Outcome) → before_edges tables since committed ran ≡ Some cause → cause ≡ or_committed (by_run tables since committed ran)
-  cause_decides cause is = ap (λ first. or_committed (or_else first (danger_outcome (danger tables committed ran.reads ran.writes)))) (sym is) ∙ ap or_committed (sym by_parts)
+  cause_decides cause is = ap (λ first. or_committed (option_or first (danger_outcome (danger tables committed ran.reads ran.writes)))) (sym is) ∙ ap or_committed (sym by_parts)

@@ -1,5 +1,5 @@
 -- The run of a call on the tables of a history that fits.
-use Rattle.std.proofs.Common.{Bool, List, [], arith, false, refl, subst, sym, true, ◌&&◌, ◌≡◌, ◌∷◌}
+use Rattle.std.proofs.Common.{List, [], arith, refl, subst, sym, true, ◌≡◌, ◌∷◌}
 use Rattle.std.specs.List.{AllPairs}
 use Rattle.std.specs.Ordering.{is_lt}
 use Rattle.std.specs.Prelude.{IsTrue, suc, ℤ}
@@ -17,15 +17,12 @@ use Rattle.rel_base.specs.Among.{TablesFit}
 use Rattle.rel_base.specs.Tables.{HistoryFits, Stamped, Tables, ref_cmp, tables_at, write_ref}
 use Rattle.rel_base.specs.declared.access.Write.{Write}
 use Rattle.rel_base.specs.declared.schema.TableDef.{TableDef}
+use Rattle.rel_base.proofs.Bits.{both_true}
 use Rattle.row_sets.specs.Versions.{are_rising, follows}
 use Rattle.serial_laws.proofs.Fitting.{tables_fit}
 
 abbrev Precedes : Write → Write → Type 0
 Precedes a b = ref_cmp (write_ref a) (write_ref b) ≡ Less
-
-both_true : (a b : Bool) → a ≡ true → IsTrue b → IsTrue (a && b)
-both_true true b is holds = holds
-both_true false b is holds = cc
 
 is_less : (a b : Write) → Precedes a b → is_lt (ref_cmp (write_ref a) (write_ref b)) ≡ true
 is_less a b precedes = subst (λ o. is_lt o ≡ true) (sym precedes) refl

@@ -12,6 +12,7 @@ use Rattle.node_model.specs.Order.{is_free, order, order_from, place, serial_ord
 use Rattle.node_model.specs.declared.result.BlockResult.{BlockResult}
 use Rattle.node_model.specs.declared.result.Committed.{Committed}
 use Rattle.node_model.specs.declared.result.Told.{Told}
+use Rattle.node_model.specs.Edges.{StandByPosition}
 use Rattle.block_work.proofs.Bounds.{fitting_few}
 use Rattle.block_work.proofs.Consistent.{fewer, rising}
 use Rattle.block_work.specs.Block.{IsConsistent, KeepsEdges, StandInOrder}
@@ -22,7 +23,6 @@ use Rattle.rel_base.specs.Among.{WriteFitsIn}
 use Rattle.rel_base.specs.declared.access.Placed.{Placed}
 use Rattle.rel_base.specs.declared.schema.TableDef.{TableDef}
 use Rattle.rw_graph.specs.Graph.{has_edge, positions_of}
-use Rattle.rw_graph.specs.Laws.{AreRising}
 use Rattle.rw_graph.specs.declared.edge_set.EdgeSet.{EdgeSet}
 use Rattle.serial_laws.proofs.Positions.{order_by_position}
 
@@ -107,14 +107,14 @@ abbrev pub with_parts : ℕ → ℤ → List Told → List ℕ → List Placed �
 with_parts number time outcomes list writes digest = record { number = number; time = time; outcomes = outcomes; order = list; writes = writes; digest = digest }
 
 -- the order of an edge set that keeps the edges of committed transactions is their serial order
-pub order_kept : (tables : List TableDef) (committed : List Committed) (set : EdgeSet) (list : List ℕ) → AreRising committed → list ≡ order (has_edge set) (positions_of set)
+pub order_kept : (tables : List TableDef) (committed : List Committed) (set : EdgeSet) (list : List ℕ) → StandByPosition committed → list ≡ order (has_edge set) (positions_of set)
     → KeepsEdges tables committed set → list ≡ serial_order tables committed
 order_kept tables committed set list rise is keeps =
     is ∙ (λ i. order (λ from to. keeps.edges from to i) (keeps.positions i)) ∙ order_by_position tables committed rise
 
 -- the result that is made of a block is that of the definition
 pub result_is : (tables : List TableDef) (previous : List ℕ) (block : Sealed) (time : ℤ) (outcomes : List Told) (edges : EdgeSet) (list : List ℕ) (writes : List Placed)
-    → time ≡ block.time → outcomes ≡ block.outcomes → AreRising block.committed → KeepsEdges tables block.committed edges → list ≡ order (has_edge edges) (positions_of edges) → writes ≡ placed_of block.committed
+    → time ≡ block.time → outcomes ≡ block.outcomes → StandByPosition block.committed → KeepsEdges tables block.committed edges → list ≡ order (has_edge edges) (positions_of edges) → writes ≡ placed_of block.committed
     → with_parts block.number time outcomes list writes (digest_of previous (with_parts block.number time outcomes list writes no_digest))
     ≡ block_result tables previous block
 result_is tables previous block time outcomes edges list writes same copied rise keeps listed placed =

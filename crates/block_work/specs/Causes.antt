@@ -3,7 +3,7 @@ use Rattle.block_digest.specs.Codable.{HasFewKey}
 use Rattle.block_work.specs.declared.verdict.Verdict.TheVariants.{Aborts, Commits}
 use Rattle.block_work.specs.declared.verdict.Verdict.{Verdict}
 use Rattle.conflict_rules.specs.Late.{Overtaken}
-use Rattle.node_model.specs.Decide.{bad_call, clash, conflict_outcome, fault_outcome, future, late_outcome, or_else}
+use Rattle.node_model.specs.Decide.{bad_call, clash, conflict_outcome, fault_outcome, future, is_committed, late_outcome}
 use Rattle.node_model.specs.Edges.{comes_from, leads_to}
 use Rattle.node_model.specs.declared.outcome.Outcome.TheVariants as outcome
 use Rattle.node_model.specs.declared.outcome.Outcome.{Outcome}
@@ -19,22 +19,18 @@ use Rattle.rel_base.specs.declared.schema.TableDef.{TableDef}
 use Rattle.row_sets.specs.Versions.{are_rising}
 use Rattle.rw_graph.specs.Held.{holds}
 use Rattle.rw_graph.specs.declared.edges.Edges.{Edges}
-use Rattle.std.specs.Prelude.{All, Bool, IsTrue, List, None, Option, Some, cond, false, length, map, true, ◌<◌, ◌^◌, ◌≡◌, ◌≤◌, ℕ}
-
--- whether an outcome is that the transaction commits
-abbrev pub is_commit : Outcome → Bool
-is_commit outcome.Committed = true
-is_commit _ = false
+use Rattle.std.specs.Prelude.{All, Bool, IsTrue, List, None, Option, Some, cond, false, length, map, ◌<◌, ◌^◌, ◌≡◌, ◌≤◌, ℕ}
+use Rattle.std.specs.Option.{option_or}
 
 -- a cause of an abort: no commit, and the key that it names, if any, has few values
 abbrev pub IsCause : Outcome → Type 0
-IsCause found = (is_commit found ≡ false) × HasFewKey found
+IsCause found = (is_committed found ≡ false) × HasFewKey found
 
 -- ---- without a run
 
 -- the causes that are known without a run, where it is known whether the id stands earlier in the chain
 abbrev pub early_by : Bool → App → ℕ → Tx → Option Outcome
-early_by known app number tx = or_else (cond known (Some outcome.DuplicateId) None) (or_else (future number tx) (bad_call (call_fault app tx)))
+early_by known app number tx = option_or (cond known (Some outcome.DuplicateId) None) (option_or (future number tx) (bad_call (call_fault app tx)))
 
 -- ---- by a run
 
@@ -59,7 +55,7 @@ outcome_of_late found = outcome.Late (record {
 -- the causes that a run shows without its edges
 abbrev pub before_edges : List TableDef → List Stamped → List Committed → Ran → Option Outcome
 before_edges tables since committed ran =
-    or_else (late_outcome tables (late tables (map (λ made. made.read) ran.reads) since)) (or_else (fault_outcome ran.ending) (conflict_outcome ran.writes (clash committed ran.writes)))
+    option_or (late_outcome tables (late tables (map (λ made. made.read) ran.reads) since)) (option_or (fault_outcome ran.ending) (conflict_outcome ran.writes (clash committed ran.writes)))
 
 -- these are the edges of a run to and from transactions that committed before it
 pub record AreOwnEdges (tables : List TableDef) (committed : List Committed) (ran : Ran) (edges : Edges) : Type 0 where

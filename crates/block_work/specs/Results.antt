@@ -4,9 +4,9 @@ use Rattle.node_model.specs.Fold.{digest_after, no_digest}
 use Rattle.node_model.specs.declared.result.BlockResult.{BlockResult}
 use Rattle.node_model.specs.declared.result.Committed.{Committed}
 use Rattle.node_model.specs.declared.result.Told.{Told}
+use Rattle.node_model.specs.Edges.{StandByPosition}
 use Rattle.rel_base.specs.declared.access.Placed.{Placed}
 use Rattle.rel_base.specs.declared.access.Write.{Write}
-use Rattle.rw_graph.specs.Laws.{AreRising}
 use Rattle.std.specs.Prelude.{All, List, [], length, ◌≤◌, ◌∷◌, ℕ}
 
 -- a write at a position
@@ -25,6 +25,6 @@ HasFewWrites done = (length done.writes ≤ 100000) × All (λ write. IsFewWrite
 pub record IsWithinLimits (outcomes : List Told) (committed : List Committed) : Type 0 where
   pub few_outcomes : length outcomes ≤ 1024
   pub few_committed : length committed ≤ 1024
-  pub rise : AreRising committed
+  pub rise : StandByPosition committed
   pub keys : All (λ told. HasFewKey told.outcome) outcomes
   pub writes : All HasFewWrites committed

@@ -2,12 +2,13 @@
 use Rattle.std.proofs.Common.{All, Bool, Contains, List, MatchOption, None, Option, Some, [], ap, arith, cond, false, refl, subst, suc, sym, true, ◌+◌, ◌-◌, ◌∙◌, ◌≡◌, ◌≤◌, ◌∷◌, ℕ}
 use Rattle.cause_laws.proofs.Finding.{IsFirst, find_first, from_map, into_map}
 use Rattle.cause_laws.proofs.Positions.{IsFirstAt, first_at, one_at}
-use Rattle.cause_laws.specs.Conflicts.{HasNoConflict, KeyUpTo, StandByKey, StandByPosition, Wrote}
+use Rattle.cause_laws.specs.Conflicts.{HasNoConflict, KeyUpTo, StandByKey, Wrote}
 use Rattle.cause_laws.specs.Laws.{ConflictIsLeast, NamesConflict}
 use Rattle.node_model.specs.Decide.{clash, clash_at, conflict_outcome, first_shared, is_shared}
 use Rattle.node_model.specs.declared.outcome.Outcome.TheVariants as outcome
 use Rattle.node_model.specs.declared.outcome.Outcome.{Outcome}
 use Rattle.node_model.specs.declared.result.Committed.{Committed}
+use Rattle.node_model.specs.Edges.{StandByPosition}
 use Rattle.rel_base.proofs.Bits.{is_Equal, no_both}
 use Rattle.rel_base.specs.Tables.{ref_cmp, ref_cmp-exact, ref_cmp-total, write_ref}
 use Rattle.rel_base.specs.declared.access.Write.{Write}

@@ -1,11 +1,10 @@
 -- The danger that is named is the least, by positions.
 use Rattle.std.proofs.Common.{Contains, List, MatchOption, None, Option, Some, arith, subst, sym, true, ◌∙◌, ◌≡◌, ℕ}
 use Rattle.cause_laws.proofs.Positions.{IsFirstPair, NoneRelated, at_from, at_into, is_first_pair, least_pair, no_pair, one_at}
-use Rattle.cause_laws.specs.Conflicts.{StandByPosition}
 use Rattle.cause_laws.specs.Dangers.{AreInFormOne, AreInFormTwo, HasNoDanger, IsLeastDanger}
 use Rattle.cause_laws.specs.Laws.{DangerIsLeast}
 use Rattle.node_model.specs.Danger.{first_pair, is_form_one, is_form_two}
-use Rattle.node_model.specs.Edges.{edge, touches}
+use Rattle.node_model.specs.Edges.{StandByPosition, edge, touches}
 use Rattle.node_model.specs.declared.danger.Danger.TheVariants.{One, Two}
 use Rattle.node_model.specs.declared.result.Committed.{Committed}
 use Rattle.rel_base.proofs.Bits.{both_true, first_true, second_true}

@@ -2,11 +2,11 @@
 use Rattle.std.proofs.Common.{All, List, MatchOption, None, Option, Some, [], ap, append-nil, append_assoc, arith, length, refl, subst, sym, ◌+◌, ◌++◌, ◌<◌, ◌∙◌, ◌≡◌, ◌≤◌, ◌∷◌, ℕ}
 use Rattle.cause_laws.proofs.Conflicting.{conflict_is_least}
 use Rattle.cause_laws.proofs.Dangerous.{danger_is_least}
-use Rattle.cause_laws.specs.Conflicts.{HasNoConflict, StandByPosition}
+use Rattle.cause_laws.specs.Conflicts.{HasNoConflict}
 use Rattle.cause_laws.specs.Dangers.{HasNoDanger, IsLeastDanger}
 use Rattle.cause_laws.specs.Laws.{NamesConflict, NamesTheLeast, OutcomesNameTheLeast, PremisesAreMet, committed_among}
 use Rattle.node_model.specs.Danger.{danger}
-use Rattle.node_model.specs.Decide.{bad_call, by_run, clash, conflict_outcome, danger_outcome, decide, duplicate, early, fault_outcome, future, late_outcome, or_committed, or_else, run_at, writes_since}
+use Rattle.node_model.specs.Decide.{bad_call, by_run, clash, conflict_outcome, danger_outcome, decide, duplicate, early, fault_outcome, future, late_outcome, or_committed, run_at, writes_since}
 use Rattle.node_model.specs.Fold.{Work, fold, join_committed, no_work, work_on, work_through}
 use Rattle.node_model.specs.History.{Sealed, ids_of, ids_told, snapshot, time_at}
 use Rattle.node_model.specs.declared.danger.Danger.{Danger}
@@ -14,6 +14,7 @@ use Rattle.node_model.specs.declared.outcome.Outcome.TheVariants as outcome
 use Rattle.node_model.specs.declared.outcome.Outcome.{Outcome}
 use Rattle.node_model.specs.declared.result.Committed.{Committed}
 use Rattle.node_model.specs.declared.result.Told.{Told}
+use Rattle.node_model.specs.Edges.{StandByPosition}
 use Rattle.proc_syntax.proofs.Runs.{writes_in_order}
 use Rattle.proc_syntax.specs.Call.{call_fault}
 use Rattle.proc_syntax.specs.Declaring.{tables_of}
@@ -32,7 +33,7 @@ use Rattle.std.proofs.lemmas.List.Elements.{All-nil, All-push, All-weaker}
 use Rattle.std.proofs.lemmas.List.Quantifiers.{all_pairs_push}
 use Rattle.std.proofs.lemmas.List.{length-append}
 use Rattle.std.specs.List.{list_any}
-use Rattle.std.specs.Option.{IsSomeAnd}
+use Rattle.std.specs.Option.{IsSomeAnd, option_or}
 use Rattle.std.specs.Prelude.{Bool, cond, false, map, nat_le, slice_get, true}
 use Rattle.std.specs.Str.{bytes_eq}
 
@@ -116,11 +117,11 @@ module _ (tables : List TableDef) (committed : List Committed) (ran : Ran) where
   NamesIfSome None = Unit {0}
   NamesIfSome (Some found) = NamesTheLeast tables committed ran found
 
-  names_either : (first second : Option Outcome) → NamesIfSome first → NamesIfSome second → NamesIfSome (or_else first second)
+  names_either : (first second : Option Outcome) → NamesIfSome first → NamesIfSome second → NamesIfSome (option_or first second)
   names_either None second is rest = rest
   names_either (Some found) second is rest = is
 
-  names_next : (first second : Option Outcome) → NamesIfSome first → NamesTheLeast tables committed ran (or_committed second) → NamesTheLeast tables committed ran (or_committed (or_else first second))
+  names_next : (first second : Option Outcome) → NamesIfSome first → NamesTheLeast tables committed ran (or_committed second) → NamesTheLeast tables committed ran (or_committed (option_or first second))
   names_next None second is rest = rest
   names_next (Some found) second is rest = is
 
@@ -134,7 +135,7 @@ module _ (tables : List TableDef) (committed : List Committed) (ran : Ran) where
   names_bad_call (Some BadArguments) = tt
 
   names_early : (app : App) (ids : List (List ℕ)) (number : ℕ) (tx : Tx) → NamesIfSome (early app ids number tx)
-  names_early app ids number tx = names_either (duplicate ids tx) (or_else (future number tx) (bad_call (call_fault app tx))) (names_if (list_any (bytes_eq tx.id) ids) outcome.DuplicateId tt)
+  names_early app ids number tx = names_either (duplicate ids tx) (option_or (future number tx) (bad_call (call_fault app tx))) (names_if (list_any (bytes_eq tx.id) ids) outcome.DuplicateId tt)
       (names_either (future number tx) (bad_call (call_fault app tx)) (names_if (nat_le number tx.height) outcome.FutureHeight tt) (names_bad_call (call_fault app tx)))
 
   names_late : (found : Option LateRead) → NamesIfSome (late_outcome tables found)
@@ -152,7 +153,7 @@ module _ (tables : List TableDef) (committed : List Committed) (ran : Ran) where
 
   names_last : (conflict : Option Outcome) (found : Option Danger) → MatchOption conflict (HasNoConflict committed ran.writes) (NamesConflict committed ran.writes)
       → MatchOption found (HasNoDanger tables committed ran.reads ran.writes) (IsLeastDanger tables committed ran.reads ran.writes)
-      → NamesTheLeast tables committed ran (or_committed (or_else conflict (danger_outcome found)))
+      → NamesTheLeast tables committed ran (or_committed (option_or conflict (danger_outcome found)))
   names_last (Some conflict) found is _ = names_conflict conflict is
   names_last None (Some found) none is = (none, is)
   names_last None None none safe = (none, safe)

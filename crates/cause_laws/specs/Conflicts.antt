@@ -7,12 +7,8 @@ use Rattle.rel_base.specs.Tables.{ref_cmp, write_ref}
 use Rattle.rel_base.specs.declared.access.Write.{Write}
 use Rattle.rel_base.specs.declared.value.Value.{Value}
 use Rattle.std.specs.Ordering.{is_le}
-use Rattle.std.specs.Prelude.{AllPairs, Any, Contains, IsTrue, List, map, ◌<◌, ◌≡◌, ℕ}
+use Rattle.std.specs.Prelude.{AllPairs, Any, Contains, IsTrue, List, map, ◌≡◌, ℕ}
 use Rattle.std.specs.declared.cmp.Ordering.TheVariants.{Less}
-
--- committed transactions whose positions rise
-abbrev pub StandByPosition : List Committed → Type 0
-StandByPosition committed = AllPairs (λ earlier later. earlier.pos < later.pos) committed
 
 -- writes whose tables and keys rise
 abbrev pub StandByKey : List Write → Type 0

@@ -1,5 +1,5 @@
 -- The laws, each the contract of a function of the module `laws`.
-use Rattle.cause_laws.specs.Conflicts.{HasNoConflict, IsLeastConflict, StandByKey, StandByPosition}
+use Rattle.cause_laws.specs.Conflicts.{HasNoConflict, IsLeastConflict, StandByKey}
 use Rattle.cause_laws.specs.Dangers.{HasNoDanger, IsLeastDanger}
 use Rattle.node_model.specs.Danger.{danger}
 use Rattle.node_model.specs.Decide.{clash, conflict_outcome, run_at}
@@ -8,6 +8,7 @@ use Rattle.node_model.specs.History.{Sealed}
 use Rattle.node_model.specs.declared.outcome.Outcome.TheVariants as outcome
 use Rattle.node_model.specs.declared.outcome.Outcome.{Outcome}
 use Rattle.node_model.specs.declared.result.Committed.{Committed}
+use Rattle.node_model.specs.Edges.{StandByPosition}
 use Rattle.proc_syntax.specs.Declaring.{tables_of}
 use Rattle.proc_syntax.specs.declared.call.Block.{Block}
 use Rattle.proc_syntax.specs.declared.call.Tx.{Tx}

@@ -5,11 +5,10 @@ use Rattle.std.specs.List.{sum_by}
 use Rattle.std.specs.List.Sorted.{IsPermutation}
 use Rattle.std.proofs.lemmas.List.Sorted.{sum_by-IsPermutation}
 use Rattle.std.proofs.lemmas.List.Sums.{sum_by-cons}
-use Rattle.std.proofs.lemmas.Slice.Eq.{bytes_eq-Decides}
 use Rattle.cli_words.specs.declared.options.CommandOption.{CommandOption}
 use Rattle.cli_words.specs.Language.{Item, values_in}
 use Rattle.cli_words.specs.Table.{is_same}
-use Rattle.rel_base.proofs.Bytes.{equal_bytes}
+use Rattle.rel_base.proofs.Bytes.{bytes_same, equal_bytes}
 
 -- what the values of an option add up to, over all options
 abbrev share : (List ℕ → ℕ) → CommandOption → Item → ℕ
@@ -34,9 +33,6 @@ one value = 1
 abbrev sameness : List ℕ → List ℕ → ℕ
 sameness value other = cond (bytes_eq value other) 1 0
 
-self_same : (value : List ℕ) → bytes_eq value value ≡ true
-self_same value = (bytes_eq-Decides value value).1 refl
-
 tested : (b : Bool) → cond b 1 0 + 0 ≡ 1 → b ≡ true
 tested true e = refl
 tested false e = absurd (omega (arith, e))
@@ -46,7 +42,7 @@ few_alike [] [] few alike = refl
 few_alike [] (other ∷ others) few alike = absurd (omega (arith, alike one, sum_by-cons one other others))
 few_alike (value ∷ []) [] few alike = absurd (omega (arith, alike one))
 few_alike (value ∷ []) (other ∷ []) few alike =
-    let own : sum_by (sameness value) (value ∷ []) ≡ 1 = sum_by-cons (sameness value) value [] ∙ ap (λ b. cond b 1 0 + 0) (self_same value) in
+    let own : sum_by (sameness value) (value ∷ []) ≡ 1 = sum_by-cons (sameness value) value [] ∙ ap (λ b. cond b 1 0 + 0) (bytes_same value) in
     let is : bytes_eq value other ≡ true = tested (bytes_eq value other) (sym (sum_by-cons (sameness value) other []) ∙ alike (sameness value) ∙ own) in
     ap (λ v. v ∷ []) (sym (equal_bytes value other is))
 few_alike (value ∷ []) (other ∷ another ∷ others) few alike = absurd (omega (arith, alike one, sum_by-cons one other (another ∷ others), sum_by-cons one another others))

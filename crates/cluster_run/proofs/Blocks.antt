@@ -5,7 +5,7 @@ use Rattle.std.proofs.lemmas.Option.{none-some}
 use Rattle.std.specs.Option.{option_and_then}
 use Rattle.cluster_run.proofs.Quiet.{step_blocks}
 use Rattle.cluster_run.proofs.Turning.{answer_is, at_work, finds_none, found_later, look_blocks, look_none, step_delivers, step_none, step_state}
-use Rattle.cluster_run.specs.Standing.{AllDecided, HasNone, HoldsNone, IsTrue, SameBlocks, Says, delivered_by, in_work, state_seen}
+use Rattle.cluster_run.specs.Standing.{AllDecided, HasNone, IsTrue, SameBlocks, Says, delivered_by, in_work, state_seen}
 use Rattle.node_core.specs.Answers.{decided_as, delivered_as, sealed_as}
 use Rattle.node_core.specs.Core.{Core, entries_for}
 use Rattle.node_core.specs.declared.answers.Decided.TheVariants as answered
@@ -17,7 +17,7 @@ use Rattle.node_model.specs.History.{Sealed, ids_of}
 use Rattle.node_model.specs.Journals.{delivered, world}
 use Rattle.node_model.specs.Steps as steps
 use Rattle.node_model.specs.Steps.{Answer, Reply, Shared, ToCommit, ToDeliver, ToSeal, commits, commits_due, delivers, is_ready, noted, reply, seals, seals_due}
-use Rattle.node_model.specs.World.{BlockInWork, Holds, Job, World, decided, due, is_held, job_at, new_job}
+use Rattle.node_model.specs.World.{BlockInWork, Holds, HoldsNone, Job, World, decided, due, is_held, job_at, new_job}
 use Rattle.node_model.specs.declared.journal.Entry.{Entry}
 use Rattle.node_model.specs.declared.journal.Event.TheVariants.{Commit, Deliver}
 use Rattle.node_model.specs.declared.journal.Event.{Event}

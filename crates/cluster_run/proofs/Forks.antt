@@ -3,10 +3,10 @@ use Rattle.std.proofs.Common.{All, List, [], ap, length, length-append, subst, s
 use Rattle.std.proofs.lemmas.List.Elements.{All-append, All-cons, All-nil}
 use Rattle.std.proofs.lemmas.Option.{none-some}
 use mathlib.Core.List.{IsPrefix}
-use Rattle.cluster_run.specs.Standing.{HasNone, HoldsNone, SameBlocks, state_seen}
+use Rattle.cluster_run.specs.Standing.{HasNone, SameBlocks, state_seen}
 use Rattle.node_core.specs.Core.{Core}
 use Rattle.node_model.specs.Journals.{IsLegal, delivered, world}
-use Rattle.node_model.specs.World.{Holds, Job, World}
+use Rattle.node_model.specs.World.{Holds, HoldsNone, Job, World}
 use Rattle.node_model.specs.declared.journal.Entry.{Entry}
 use Rattle.node_shared.proofs.Turns.{turns_find_own}
 use Rattle.node_shared.specs.Turn.{IsFound, IsLook}

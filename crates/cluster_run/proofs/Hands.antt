@@ -1,10 +1,10 @@
 -- What a pass has in hand after a turn with a job.
-use Rattle.std.proofs.Common.{Bool, IfSome, List, None, Option, Some, [], ap, cond, false, inl, inr, refl, subst, suc, sym, true, zero, ◌||◌, ◌∙◌, ◌≡◌, ◌⊎◌, ◌∷◌, ℕ}
-use Rattle.std.proofs.lemmas.Bool.{eqb-true, false≢true}
+use Rattle.std.proofs.Common.{Bool, IfSome, List, None, Option, Some, ap, cond, false, inl, inr, refl, subst, sym, true, ◌∙◌, ◌≡◌, ◌⊎◌, ℕ}
+use Rattle.std.proofs.lemmas.Bool.{false≢true}
 use Rattle.std.proofs.lemmas.Option.{none-some, same_Some}
 use Rattle.std.specs.List.{list_any}
 use Rattle.cluster_run.proofs.Turning.{answer_is, finds_held, finds_none, finds_only, step_none, step_state, step_work}
-use Rattle.cluster_run.specs.Standing.{Has, HasNone, HasWork, HoldsNone, HoldsOnly, state_seen}
+use Rattle.cluster_run.specs.Standing.{Has, HasNone, HasWork, HoldsOnly, state_seen}
 use Rattle.node_core.proofs.Claims.{changed_at}
 use Rattle.node_core.specs.Answers.{claimed_as, got_as}
 use Rattle.node_core.specs.Core.{Core, IsHeld, world_of}
@@ -15,7 +15,7 @@ use Rattle.node_model.specs.Decide.{run_at}
 use Rattle.node_model.specs.Events.{claimed, dropped, ended, finished, is_settled, read_on, released, settled_in}
 use Rattle.node_model.specs.Steps as steps
 use Rattle.node_model.specs.Steps.{Answer, Reply, ToClaim, ToFinish, ToRead, ToRelease, chosen, claims, finishes, noted, reads, reads_unless}
-use Rattle.node_model.specs.World.{Done, Dropped, Held, Holds, Job, Status, Waiting, World, change_job, is_held, is_held_by, job_at, new_job}
+use Rattle.node_model.specs.World.{Done, Held, Holds, HoldsNone, Job, World, change_job, is_held, is_held_by, job_at, new_job}
 use Rattle.node_model.specs.declared.journal.Entry.{Entry}
 use Rattle.node_model.specs.declared.journal.Event.TheVariants as event_of
 use Rattle.node_model.specs.declared.journal.Pick.{Pick}
@@ -23,6 +23,7 @@ use Rattle.node_shared.specs.Turn.{IsTurn, node_seen}
 use Rattle.proc_syntax.specs.declared.tree.App.{App}
 use Rattle.rel_base.specs.declared.storied.Storied.{Ghosts}
 use Rattle.schedule_laws.proofs.Lists.{job-change}
+use Rattle.schedule_laws.proofs.Asking.{holds_any}
 use Rattle.turn_lock.specs.Passes.{IsSamePass, pass_base, pass_number}
 use Rattle.turn_lock.specs.declared.pass.Pass.{Pass}
 
@@ -135,25 +136,6 @@ module _ {ghosts : Ghosts Core App Entry} (old new : Pass Core App Entry ghosts)
         (finds_only old new same has.true_to turn.journal turn.found work.job has.only)))
 
 -- ---- who may claim
-
--- where any job is held by an actor, one of a number is
-holds_any : (actor : ℕ) (jobs : List Job) → list_any (λ job. is_held_by actor job.status) jobs ≡ true → (number : ℕ) × (job : Job) × Holds jobs actor number job
-holds_any actor [] e = absurd (false≢true e)
-holds_any actor (y ∷ ys) e =
-    (elim (is_held_by actor y.status) as (λ b. is_held_by actor y.status ≡ b → (b || list_any (λ job. is_held_by actor job.status) ys) ≡ true → (number : ℕ) × (job : Job) × Holds (y ∷ ys) actor number job) [
-      | true ↦ λ is e. (1, y, record { stands = refl; held = holder y.status is })
-      | false ↦ λ is e. let r = holds_any actor ys e in deeper r.0 r.1 r.2
-    ]) refl e
-  where
-    holder : (s : Status) → is_held_by actor s ≡ true → s ≡ Held actor
-    holder Waiting e = absurd (false≢true e)
-    holder (Held other) e = ap Held (eqb-true other actor e)
-    holder Done e = absurd (false≢true e)
-    holder Dropped e = absurd (false≢true e)
-
-    deeper : (number : ℕ) (job : Job) → Holds ys actor number job → (number : ℕ) × (job : Job) × Holds (y ∷ ys) actor number job
-    deeper zero job h = absurd (none-some job h.stands)
-    deeper (suc place) job h = (suc (suc place), job, record { stands = h.stands; held = h.held })
 
 -- one who holds none
 pub may_claim : (w : World) (actor : ℕ) → HoldsNone w actor → list_any (λ job. is_held_by actor job.status) w.jobs ≡ false

@@ -1,42 +1,30 @@
 -- What a turn leaves to its pass, and what it changes for it.
-use Rattle.std.proofs.Common.{All, List, None, Option, Some, [], ap, append-nil, append_assoc, refl, subst, sym, ◌++◌, ◌∙◌, ◌≡◌, ◌∷◌, ℕ}
-use Rattle.std.proofs.lemmas.List.Elements.{All-cons, All-nil}
-use Rattle.cluster_run.specs.Standing.{HasNone, HasWork, HoldsNone, HoldsOnly, IsTrue, SameBlocks, delivered_by, state_seen}
+use Rattle.std.proofs.Common.{List, None, Option, Some, ap, append-nil, subst, sym, ◌++◌, ◌∙◌, ◌≡◌, ℕ}
+use Rattle.cluster_run.specs.Standing.{HasNone, HasWork, HoldsOnly, IsTrue, SameBlocks, delivered_by, state_seen}
 use Rattle.node_core.specs.Core.{Core, IsHeld, entries_for}
 use Rattle.node_core.specs.InHand.{InHand}
-use Rattle.node_model.specs.Events.{after}
-use Rattle.node_model.specs.Journals.{IsLegal, delivered, delivery, world, world_from}
+use Rattle.node_model.specs.Journals.{IsLegal, delivered, world}
 use Rattle.node_model.specs.Steps.{Answer, Ask, noted, reply}
-use Rattle.node_model.specs.World.{World, empty}
+use Rattle.node_model.specs.World.{HoldsNone, World, empty}
 use Rattle.node_model.specs.declared.journal.Entry.{Entry}
 use Rattle.node_model.specs.declared.journal.Event.{Event}
-use Rattle.node_shared.proofs.Turns.{found_held, turns_find_own}
+use Rattle.node_shared.proofs.Turns.{all_own, found_held, turns_find_own}
 use Rattle.node_shared.specs.Turn.{IsFound, IsLook, IsTurn, node_seen}
 use Rattle.proc_syntax.specs.declared.tree.App.{App}
 use Rattle.rel_base.proofs.Stories.{entries_grown}
 use Rattle.rel_base.specs.declared.storied.Storied.{Ghosts}
 use Rattle.schedule_laws.specs.Scheduled.{block_in}
 use Rattle.schedule_laws.specs.Stable.{IsLater, entries_by}
+use Rattle.schedule_laws.proofs.Lasting.{world-more}
+use Rattle.schedule_laws.proofs.Folding.{delivered-append}
 use Rattle.turn_lock.specs.Passes.{IsSamePass, mine, pass_base, pass_number, seen}
 use Rattle.turn_lock.specs.declared.pass.Pass.{Pass}
 
 -- ---- journals that grow
 
-pub delivered-append : (one two : List Entry) → delivered (one ++ two) ≡ delivered one ++ delivered two
-delivered-append [] two = refl
-delivered-append (entry ∷ one) two = ap (λ rest. delivery entry.event ++ rest) (delivered-append one two) ∙ sym (append_assoc (delivery entry.event) (delivered one) (delivered two))
-
-world-more : (app : App) (w : World) (journal : List Entry) (entry : Entry) → world_from app w (journal ++ entry ∷ []) ≡ after app (world_from app w journal) entry
-world-more app w [] entry = refl
-world-more app w (first ∷ journal) entry = world-more app (after app w first) journal entry
-
 world_noted : (app : App) (journal : List Entry) (actor : ℕ) (o : Option Event) → world app (journal ++ entries_for actor o) ≡ noted app (world app journal) actor o
 world_noted app journal actor None = ap (world app) (append-nil journal)
 world_noted app journal actor (Some event) = world-more app empty journal (record { actor = actor; event = event })
-
-all_own : (actor : ℕ) (event : Option Event) → All (λ (entry : Entry). entry.actor ≡ actor) (entries_for actor event)
-all_own actor None = All-nil (λ (entry : Entry). entry.actor ≡ actor)
-all_own actor (Some event) = All-cons (λ (entry : Entry). entry.actor ≡ actor) (record { actor = actor; event = event }) [] refl (All-nil (λ (entry : Entry). entry.actor ≡ actor))
 
 module _ {ghosts : Ghosts Core App Entry} (old new : Pass Core App Entry ghosts) (same : IsSamePass old new) where
   -- ---- a pass that others may have gone ahead of

@@ -4,7 +4,7 @@ use Rattle.node_core.specs.InHand.{InHand}
 use Rattle.node_core.specs.declared.answers.Decided.TheVariants as decided
 use Rattle.node_core.specs.declared.answers.Decided.{Decided}
 use Rattle.node_model.specs.Journals.{IsLegal, delivered}
-use Rattle.node_model.specs.World.{Holds, Job, World, due}
+use Rattle.node_model.specs.World.{Holds, HoldsNone, Job, World, due}
 use Rattle.node_model.specs.declared.journal.Entry.{Entry}
 use Rattle.node_shared.specs.Turn.{node_seen}
 use Rattle.proc_syntax.specs.declared.call.Block.{Block}
@@ -16,10 +16,6 @@ use Rattle.std.specs.Option.{option_and_then}
 use Rattle.std.specs.Prelude.{Err, List, None, Ok, Option, Result, Some, ◌≡◌, ℕ}
 use Rattle.turn_lock.specs.Passes.{mine, pass_base, pass_number, seen}
 use Rattle.turn_lock.specs.declared.pass.Pass.{Pass}
-
--- an actor holds no job
-abbrev pub HoldsNone : World → ℕ → Type 0
-HoldsNone w actor = (number : ℕ) (job : Job) → Holds w.jobs actor number job → ⊥
 
 -- an actor holds no job but one
 abbrev pub HoldsOnly : World → ℕ → ℕ → Type 0

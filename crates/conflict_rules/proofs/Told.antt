@@ -1,7 +1,7 @@
 -- What is told of the first late read is told of the late read of the definition.
 use Rattle.std.proofs.Common.{List, None, Option, Some, [], ap, map, refl, ◌+◌, ◌∙◌, ◌≡◌, ◌∷◌, ℕ}
-use Rattle.std.specs.Option.{option_map}
-use Rattle.conflict_rules.specs.Late.{Overtaken, or_later, overtaken, overtaken_at, overtaken_from}
+use Rattle.std.specs.Option.{option_map, option_or}
+use Rattle.conflict_rules.specs.Late.{Overtaken, overtaken, overtaken_at, overtaken_from}
 use Rattle.rel_base.specs.Late.{LateRead, late, late_at, late_from, least_hit}
 use Rattle.rel_base.specs.Tables.{Stamped}
 use Rattle.rel_base.specs.declared.access.Made.{Made}
@@ -11,7 +11,7 @@ use Rattle.row_sets.specs.Versions.{hit_by}
 use Rattle.rel_base.specs.Access.{read_table}
 
 told_at : (tables : List TableDef) (number : ℕ) (read : Read) (found : Option Stamped) (later : Option LateRead) (told : Option Overtaken) → told ≡ option_map (overtaken tables) later
-    → or_later (option_map (λ stamped. record { read = number; table = read_table read; hit = hit_by tables read stamped }) found) told ≡ option_map (overtaken tables) (late_at number read found later)
+    → option_or (option_map (λ stamped. record { read = number; table = read_table read; hit = hit_by tables read stamped }) found) told ≡ option_map (overtaken tables) (late_at number read found later)
 told_at tables number read None later told is = is
 told_at tables number read (Some stamped) later told is = refl
 

@@ -1,6 +1,6 @@
 -- What is told of a late read.
-use Rattle.std.specs.Option.{option_map}
-use Rattle.std.specs.Prelude.{List, None, Option, Some, [], ◌+◌, ◌∷◌, ℕ}
+use Rattle.std.specs.Option.{option_map, option_or}
+use Rattle.std.specs.Prelude.{List, None, Option, [], ◌+◌, ◌∷◌, ℕ}
 use Rattle.conflict_rules.specs.declared.overtaken.LateRef.{LateRef}
 use Rattle.rel_base.specs.Access.{read_table}
 use Rattle.rel_base.specs.Late.{LateRead, least_hit}
@@ -24,10 +24,6 @@ overtaken tables found = record { read = found.number; table = read_table found.
 abbrev pub overtaken_of : LateRef → Overtaken
 overtaken_of late = record { read = late.read; table = late.table; hit = hit_of late.hit }
 
-abbrev pub or_later : {X : Type 0} → Option X → Option X → Option X
-or_later None later = later
-or_later (Some found) later = Some found
-
 -- of one read of a number, if a write hits it
 abbrev pub overtaken_at : List TableDef → ℕ → Read → List Stamped → Option Overtaken
 overtaken_at tables number read since =
@@ -36,4 +32,4 @@ overtaken_at tables number read since =
 -- of the first of some reads that a write hits, of which the first has a number
 abbrev pub overtaken_from : List TableDef → ℕ → List Made → List Stamped → Option Overtaken
 overtaken_from tables number [] since = None
-overtaken_from tables number (made ∷ rest) since = or_later (overtaken_at tables number made.read since) (overtaken_from tables (number + 1) rest since)
+overtaken_from tables number (made ∷ rest) since = option_or (overtaken_at tables number made.read since) (overtaken_from tables (number + 1) rest since)

@@ -1,16 +1,13 @@
 -- Transactions and blocks of a load, one after another.
-use Rattle.std.proofs.Common.{Bool, List, [], ap, arith, cond, false, length, map, refl, subst, suc, sym, zero, ◌+◌, ◌++◌, ◌∙◌, ◌≡◌, ◌≤◌, ◌∷◌, ℕ}
+use Rattle.std.proofs.Common.{Bool, List, [], ap, arith, cond, false, length, map, refl, suc, sym, true, zero, ◌+◌, ◌++◌, ◌∙◌, ◌≡◌, ◌∷◌, ℕ}
 use Rattle.load_gen.specs.Blocks.{arrivals_among, first_block, goes_to, later_block, txs_from}
 use Rattle.load_gen.specs.Transactions.{load_tx}
 use Rattle.proc_syntax.specs.declared.call.Block.{Block}
 use Rattle.proc_syntax.specs.declared.call.Tx.{Tx}
-use Rattle.std.proofs.Math.Bool.{Bool-set}
-use Rattle.std.proofs.Math.Bridge.{le_prop}
 use Rattle.std.proofs.lemmas.List.FromFn.{length-map-range_with_len, map-range_with_len_more}
 use Rattle.std.proofs.lemmas.List.Elements.{filter-append}
 use Rattle.std.proofs.lemmas.List.{map-append}
 use Rattle.std.specs.List.{filter, range_with_len}
-use Rattle.std.specs.Prelude.{int_le, pos, true, ℤ}
 
 -- ---- transactions
 
@@ -31,31 +28,6 @@ unfolding txs_from
 length_txs tx first count = length-map-range_with_len tx first count
 
 -- ---- blocks
-
-abbrev block : (number : ℕ) (time : ℤ) (txs : List Tx) → length txs ≤ 1024 → int_le (pos 0) time ≡ true → Block
-block number time txs few fine = record { number = number; time = time; txs = txs; few = few; not_negative = fine }
-
--- the facts of a block do not tell two blocks apart
-same_facts : (number : ℕ) (time : ℤ) (txs : List Tx) (few less : length txs ≤ 1024) (fine good : int_le (pos 0) time ≡ true) → block number time txs few fine ≡ block number time txs less good
-same_facts number time txs few less fine good =
-    let one : IsProp (length txs ≤ 1024) = hlevel (le_prop, Bool-set) in
-    let two : IsProp (int_le (pos 0) time ≡ true) = hlevel (le_prop, Bool-set) in
-    ap (λ (f : length txs ≤ 1024). block number time txs f fine) (one few less) ∙ ap (λ (g : int_le (pos 0) time ≡ true). block number time txs less g) (two fine good)
-
-same_txs : (number : ℕ) (time : ℤ) (txs others : List Tx) → txs ≡ others → (few : length txs ≤ 1024) (less : length others ≤ 1024) (fine good : int_le (pos 0) time ≡ true)
-    → block number time txs few fine ≡ block number time others less good
-same_txs number time txs others same few less fine good =
-    subst (λ (some : List Tx). (less : length some ≤ 1024) → block number time txs few fine ≡ block number time some less good) same (λ less. same_facts number time txs few less fine good) less
-
-same_time : (number : ℕ) (time other : ℤ) → time ≡ other → (txs others : List Tx) → txs ≡ others → (few : length txs ≤ 1024) (less : length others ≤ 1024) (fine : int_le (pos 0) time ≡ true) (good : int_le (pos 0) other ≡ true)
-    → block number time txs few fine ≡ block number other others less good
-same_time number time other is txs others same few less fine good =
-    subst (λ (some : ℤ). (good : int_le (pos 0) some ≡ true) → block number time txs few fine ≡ block number some others less good) is (λ good. same_txs number time txs others same few less fine good) good
-
--- two blocks of one number, one time and the same transactions are one
-pub same_block : (a b : Block) → a.number ≡ b.number → a.time ≡ b.time → a.txs ≡ b.txs → a ≡ b
-same_block a b number time txs =
-    ap (λ n. block n a.time a.txs a.few a.not_negative) number ∙ same_time b.number a.time b.time time a.txs b.txs txs a.few b.few a.not_negative b.not_negative
 
 -- one more behind those so far
 pub more_blocks : (load count number next : ℕ) (blocks after : List Block) (one : Block) → after ≡ blocks ++ one ∷ [] → blocks ≡ first_block ∷ map (later_block load) (range_with_len 2 count) → one ≡ later_block load number

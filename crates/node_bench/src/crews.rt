@@ -1,7 +1,6 @@
 // Passes for threads.
 ghost use Rattle.std.specs.Prelude.{◌≡◌, ◌≤◌, All, IfOk};
-ghost use Rattle.node_bench.specs.Idle.{IsIdle};
-ghost use Rattle.turn_lock.specs.Passes.{made, pass_number};
+ghost use Rattle.turn_lock.specs.Passes.{IsIdle, made, pass_number};
 
 use node_shared::{NodePass, SharedNode};
 use rel_base::NoMemory;

@@ -1,7 +1,6 @@
 // Turns per second of a shared node.
 ghost use Rattle.std.specs.Prelude.{◌≡◌, ◌≤◌, IfSome};
-ghost use Rattle.node_bench.specs.Idle.{IsIdle};
-ghost use Rattle.turn_lock.specs.Passes.{made, pass_number};
+ghost use Rattle.turn_lock.specs.Passes.{IsIdle, made, pass_number};
 
 use crate::crews::split_crew;
 use crate::turns::{Kind, Plan, run_each};

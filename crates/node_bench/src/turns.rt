@@ -1,6 +1,6 @@
 // Turns of one kind, one after another, in some threads.
 ghost use Rattle.std.specs.Prelude.{All};
-ghost use Rattle.node_bench.specs.Idle.{IsIdle};
+ghost use Rattle.turn_lock.specs.Passes.{IsIdle};
 
 use node_shared::{NodePass, SharedNode};
 use proc_syntax::Tx;

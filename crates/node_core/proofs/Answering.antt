@@ -17,7 +17,7 @@ use Rattle.node_core.specs.declared.jobs.Stage.{Stage}
 use Rattle.node_model.specs.Events.{after, hit_since, next_read, read_on, record_read, settled_in}
 use Rattle.node_model.specs.History.{snapshot, time_at}
 use Rattle.node_model.specs.Journals.{world}
-use Rattle.node_model.specs.Steps.{Gone, May, Reply, ToRead, doomed_or_rows, place_of, reads, reads_unless, reply}
+use Rattle.node_model.specs.Steps.{Gone, May, Reply, ToRead, doomed_or_rows, reads, reads_unless, reply}
 use Rattle.node_model.specs.World.{Job, World, is_held, job_at}
 use Rattle.node_model.specs.declared.journal.Entry.{Entry}
 use Rattle.node_model.specs.declared.journal.Event.TheVariants as event
@@ -27,7 +27,7 @@ use Rattle.proc_syntax.specs.Declaring.{tables_of}
 use Rattle.proc_syntax.specs.declared.tree.App.{App}
 use Rattle.rel_base.specs.Among.{rows_in}
 use Rattle.rel_base.specs.Late.{least_hit}
-use Rattle.rel_base.specs.Tables.{Stamped, tables_at, writes_between}
+use Rattle.rel_base.specs.Tables.{Stamped, place_of, tables_at, writes_between}
 use Rattle.rel_base.specs.declared.access.Place.{Place}
 use Rattle.rel_base.specs.declared.access.Read.{Read}
 use Rattle.rel_base.specs.declared.access.Seen.{Seen}

@@ -6,13 +6,14 @@ use Rattle.std.proofs.lemmas.Option.{slice_get_within}
 use Rattle.std.proofs.lemmas.Slice.Eq.{bytes_eq-Decides}
 use Rattle.std.specs.List.{list_any}
 use Rattle.std.specs.Str.{bytes_eq}
+use Rattle.std.specs.Option.{option_or}
 use Rattle.block_work.proofs.Places.{places_more}
 use Rattle.block_work.specs.Block.{IsConsistent, IsSameWork, work_of}
 use Rattle.block_work.specs.Chain.{HoldsChain}
 use Rattle.block_work.specs.Ids.{HasFirstPlaces, SamePlaces}
 use Rattle.block_work.specs.declared.ids.IdIndex.{IdIndex}
 use Rattle.node_core.proofs.Claims.{early_is}
-use Rattle.node_core.proofs.Commits.{commit_idle, commit_so, inside, or_true, reply_of, rows_take, rows_told, told_here}
+use Rattle.node_core.proofs.Commits.{commit_idle, commit_so, inside, reply_of, rows_take, rows_told, told_here}
 use Rattle.node_core.proofs.Due_jobs.{IsByJob, IsEarly, IsJobOf, is_done, its_job, its_stage, ran_is, row_tx}
 use Rattle.node_core.proofs.Journal.{core_of, facts, legal_noted, stays, steps, world_noted}
 use Rattle.node_core.proofs.Settled.{number_next}
@@ -27,7 +28,7 @@ use Rattle.node_core.specs.declared.due.Due.{Due}
 use Rattle.node_core.specs.declared.jobs.Row.{Row}
 use Rattle.node_core.specs.declared.jobs.Stage.TheVariants as stage
 use Rattle.node_core.specs.declared.working.Working.{Working}
-use Rattle.node_model.specs.Decide.{by_run, decide_by, or_committed, or_else}
+use Rattle.node_model.specs.Decide.{by_run, decide_by, or_committed}
 use Rattle.node_model.specs.Events.{after, commit_next, decide_due, recorded_ran}
 use Rattle.node_model.specs.Fold.{Work}
 use Rattle.node_model.specs.History.{history_of, ids_told}
@@ -44,6 +45,7 @@ use Rattle.proc_syntax.specs.declared.call.Tx.{Tx}
 use Rattle.proc_syntax.specs.declared.run.Ran.{Ran}
 use Rattle.rel_base.specs.Tables.{Stamped, writes_between}
 use Rattle.rel_base.specs.declared.access.Place.{Place}
+use Rattle.rel_base.proofs.Bits.{or_true}
 
 abbrev at_pos : ℕ → ℕ → Place
 at_pos number pos = record { block = number; pos = pos }
@@ -121,13 +123,13 @@ module _ (kept : Kept) (node : IsNode kept) (working : Working) (here : kept.wor
 
   early_is_so : (cause : Outcome) (early : IsEarly kept.app kept.ids working cause) → decided_so early.tx ≡ cause
   early_is_so cause early =
-      ap (λ (o : Option Outcome). or_committed (or_else o (by_run (tables_of kept.app) (writes_between early.tx.height (working.block.value.number - 1) (history_of (world_in kept).sealed)) working.done.committed.items (ran_of early.tx))))
+      ap (λ (o : Option Outcome). or_committed (option_or o (by_run (tables_of kept.app) (writes_between early.tx.height (working.block.value.number - 1) (history_of (world_in kept).sealed)) working.done.committed.items (ran_of early.tx))))
       (sym (early_is kept node working early.tx here) ∙ early.early)
 
   job_is_so : (number : ℕ) (found : IsByJob kept.app kept.ids working kept.rows number)
       → decided_so found.tx ≡ outcome_by (tables_of kept.app) kept.history working.done kept.rows (is_done kept node working number found)
   job_is_so number found =
-      ap (λ (o : Option Outcome). or_committed (or_else o (by_run (tables_of kept.app) (writes_between found.tx.height (working.block.value.number - 1) (history_of (world_in kept).sealed)) working.done.committed.items (ran_of found.tx))))
+      ap (λ (o : Option Outcome). or_committed (option_or o (by_run (tables_of kept.app) (writes_between found.tx.height (working.block.value.number - 1) (history_of (world_in kept).sealed)) working.done.committed.items (ran_of found.tx))))
       (sym (early_is kept node working found.tx here) ∙ found.late)
       ∙ ap (λ (ran : Ran). or_committed (by_run (tables_of kept.app) (writes_between found.tx.height (working.block.value.number - 1) (history_of (world_in kept).sealed)) working.done.committed.items ran)) (ran_is kept node working number found)
       ∙ ap (λ (tx : Tx). or_committed (by_run (tables_of kept.app) (writes_between tx.height (working.block.value.number - 1) (history_of (world_in kept).sealed)) working.done.committed.items found.recorded.ran)) (sym (row_tx kept node working number found))

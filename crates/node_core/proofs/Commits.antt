@@ -14,7 +14,7 @@ use Rattle.node_core.specs.declared.jobs.Row.{Row}
 use Rattle.node_core.specs.declared.jobs.Stage.TheVariants as stage
 use Rattle.node_core.specs.declared.jobs.Stage.{Stage}
 use Rattle.node_core.specs.declared.working.Working.{Working}
-use Rattle.node_model.specs.Decide.{bad_call, future, or_else}
+use Rattle.node_model.specs.Decide.{bad_call, future}
 use Rattle.node_model.specs.History.{ids_of, ids_told}
 use Rattle.node_model.specs.Steps.{AllDecided, Decided, NoBlock, NotReady, Reply, ToCommit, commits, commits_due, early_cause, is_done_job, is_ready, reply}
 use Rattle.node_model.specs.World as model
@@ -26,9 +26,10 @@ use Rattle.proc_syntax.specs.Call.{call_fault}
 use Rattle.proc_syntax.specs.Declaring.{tables_of}
 use Rattle.proc_syntax.specs.declared.call.Tx.{Tx}
 use Rattle.rel_base.specs.declared.schema.TableDef.{TableDef}
+use Rattle.rel_base.proofs.Bits.{or_true}
 use Rattle.schedule_laws.proofs.Lists.{job_of-is, same_tx-exact}
 use Rattle.std.specs.List.{list_any}
-use Rattle.std.specs.Option.{is_some, option_and_then, option_map}
+use Rattle.std.specs.Option.{is_some, option_and_then, option_map, option_or}
 use Rattle.std.specs.Str.{bytes_eq}
 
 -- an answer to a commit, as a reply
@@ -39,10 +40,6 @@ reply_of (stand.Waits holder) pos number = (NotReady pos holder, None)
 reply_of (stand.Done job) pos number = (Decided pos, Some (event.Commit pos))
 
 -- ---- small facts
-
-pub or_true : (b : Bool) → (b || true) ≡ true
-or_true true = refl
-or_true false = refl
 
 -- ids that were decided stay so
 any_more : (id : List ℕ) (told more : List (List ℕ)) → list_any (bytes_eq id) told ≡ true → list_any (bytes_eq id) (told ++ more) ≡ true
@@ -97,7 +94,7 @@ module _ (kept : Kept) (node : IsNode kept) (working : Working) (here : kept.wor
           list_any-append (bytes_eq tx.id) (ids_of (world_in kept).sealed) (ids_told working.done.outcomes.items)
           ∙ ap (λ b. list_any (bytes_eq tx.id) (ids_of (world_in kept).sealed) || b) told ∙ or_true (list_any (bytes_eq tx.id) (ids_of (world_in kept).sealed))
 
-      by : (b : Bool) → b ≡ true → is_some (or_else (cond b (Some outcome.DuplicateId) None) (or_else (future working.block.value.number tx) (bad_call (call_fault kept.app tx)))) ≡ true
+      by : (b : Bool) → b ≡ true → is_some (option_or (cond b (Some outcome.DuplicateId) None) (option_or (future working.block.value.number tx) (bad_call (call_fault kept.app tx)))) ≡ true
       by true is = refl
       by false is = cc
 

@@ -6,23 +6,15 @@ use Rattle.node_core.specs.Core.{Core, Steps, entries_for}
 use Rattle.node_core.specs.Kept.{AreRowsOf, IsNode, Kept, number_of_work, outcomes_of, told_in, world_in}
 use Rattle.node_core.specs.declared.jobs.Row.{Row}
 use Rattle.node_model.specs.Events.{after}
-use Rattle.node_model.specs.Journals.{IsLegal, IsLegalFrom, IsStep, world, world_from}
+use Rattle.node_model.specs.Journals.{IsLegal, world}
 use Rattle.node_model.specs.Steps.{Answer, Ask, May, Reply, reply}
 use Rattle.node_model.specs.World.{World, empty}
 use Rattle.node_model.specs.declared.journal.Entry.{Entry}
 use Rattle.node_model.specs.declared.journal.Event.{Event}
 use Rattle.proc_syntax.specs.Declaring.{tables_of}
-use Rattle.proc_syntax.specs.declared.tree.App.{App}
 use Rattle.schedule_laws.proofs.Facts.{facts_always_hold}
 use Rattle.schedule_laws.specs.Facts.{FactsHold}
-
-world_more : (app : App) (w : World) (journal : List Entry) (entry : Entry) → world_from app w (journal ++ entry ∷ []) ≡ after app (world_from app w journal) entry
-world_more app w [] entry = refl
-world_more app w (first ∷ journal) entry = world_more app (after app w first) journal entry
-
-legal_more : (app : App) (w : World) (journal : List Entry) (entry : Entry) → IsLegalFrom app w journal → IsStep app (world_from app w journal) entry → IsLegalFrom app w (journal ++ entry ∷ [])
-legal_more app w [] entry legal step = (step, tt)
-legal_more app w (first ∷ journal) entry legal step = (legal.0, legal_more app (after app w first) journal entry legal.1 step)
+use Rattle.schedule_laws.proofs.Lasting.{legal_more, world-more}
 
 -- the node as its callers see it
 abbrev pub core_of : Kept → Core
@@ -58,7 +50,7 @@ module _ (kept : Kept) (node : IsNode kept) where
         ∙ ap (λ (r : Reply). (r.0, record { app = kept.app; journal = kept.journal ++ entries_for actor r.1 })) (sym told)
 
     pub world_noted : world kept.app journal' ≡ later
-    world_noted = ap (world kept.app) noted ∙ world_more kept.app empty kept.journal (record { actor = actor; event = event })
+    world_noted = ap (world kept.app) noted ∙ world-more kept.app empty kept.journal (record { actor = actor; event = event })
 
     pub legal_noted : IsLegal kept.app journal'
     legal_noted = subst (IsLegal kept.app) (sym noted)

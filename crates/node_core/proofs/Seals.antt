@@ -42,6 +42,7 @@ use Rattle.proc_syntax.specs.declared.call.Tx.{Tx}
 use Rattle.proc_syntax.specs.declared.tree.App.{App}
 use Rattle.rel_base.specs.Tables.{Stamped}
 use Rattle.rel_base.specs.declared.schema.TableDef.{TableDef}
+use Rattle.rel_base.proofs.Bits.{or_true}
 use Rattle.schedule_laws.proofs.Chains.{settled-known}
 use Rattle.schedule_laws.specs.Facts.{EachJob, JobFits}
 
@@ -55,10 +56,6 @@ keeps_stage tables told (stage.Held actor) job known is settles stays_so = is
 keeps_stage tables told (stage.Done recorded) job known is settles stays_so = is
 keeps_stage tables told stage.Taken job known is settles stays_so = absurd (false≢true (sym stays_so ∙ settles is.1))
 keeps_stage tables told stage.Dropped job known is settles stays_so = is
-
-or_true : (b : Bool) → (b || true) ≡ true
-or_true true = refl
-or_true false = refl
 
 -- nothing stands at a place behind a list's end
 past_end : (txs : List Tx) (n : ℕ) → slice_get txs n ≡ None → length txs ≤ n

@@ -6,10 +6,9 @@ ghost use Rattle.node_core.specs.Answers.{finished_of, got_of};
 ghost use Rattle.node_core.specs.Ends.{stage_at_end, stage_given_back};
 ghost use Rattle.node_core.specs.Rows.{put_row, row_at, status_of};
 ghost use Rattle.node_model.specs.World.{is_held};
-ghost use Rattle.node_model.specs.Steps.{place_of};
 ghost use Rattle.rel_base.specs.Among.{ReadFitsIn};
 ghost use Rattle.rel_base.specs.Late.{least_hit};
-ghost use Rattle.rel_base.specs.Tables.{writes_between};
+ghost use Rattle.rel_base.specs.Tables.{place_of, writes_between};
 
 use crate::answers::{Finished, Got};
 use crate::jobs::{Jobs, Record};

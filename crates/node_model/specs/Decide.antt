@@ -23,15 +23,10 @@ use Rattle.rel_base.specs.Tables.{Stamped, ref_cmp, write_ref, writes_between}
 use Rattle.rel_base.specs.declared.access.Write.{Write}
 use Rattle.rel_base.specs.declared.schema.TableDef.{TableDef}
 use Rattle.std.specs.List.{list_any, position_from}
-use Rattle.std.specs.Option.{option_map}
+use Rattle.std.specs.Option.{option_map, option_or}
 use Rattle.std.specs.Ordering.{eq_by_cmp}
-use Rattle.std.specs.Prelude.{Bool, List, None, Option, Some, [], cond, map, nat_le, slice_get, ◌-◌, ℕ, ◌∷◌, ◌++◌}
+use Rattle.std.specs.Prelude.{Bool, List, None, Option, Some, [], cond, false, map, nat_le, slice_get, true, ◌-◌, ℕ, ◌∷◌, ◌++◌}
 use Rattle.std.specs.Str.{bytes_eq}
-
--- the first of two that is there
-abbrev pub or_else : {X : Type 0} → Option X → Option X → Option X
-or_else None second = second
-or_else (Some first) second = Some first
 
 -- ---- before its run
 
@@ -51,7 +46,7 @@ bad_call (Some BadArguments) = Some outcome.BadArguments
 
 -- the causes that are known without a run, where some ids stand earlier in the chain
 abbrev pub early : App → List (List ℕ) → ℕ → Tx → Option Outcome
-early app ids number tx = or_else (duplicate ids tx) (or_else (future number tx) (bad_call (call_fault app tx)))
+early app ids number tx = option_or (duplicate ids tx) (option_or (future number tx) (bad_call (call_fault app tx)))
 
 -- ---- by its run
 
@@ -111,9 +106,14 @@ writes_since chain number tx = writes_between tx.height (number - 1) (history_of
 -- the causes that its run shows
 abbrev pub by_run : List TableDef → List Stamped → List Committed → Ran → Option Outcome
 by_run tables since committed ran =
-    or_else (late_outcome tables (late tables (map (λ made. made.read) ran.reads) since))
-    (or_else (fault_outcome ran.ending)
-    (or_else (conflict_outcome ran.writes (clash committed ran.writes)) (danger_outcome (danger tables committed ran.reads ran.writes))))
+    option_or (late_outcome tables (late tables (map (λ made. made.read) ran.reads) since))
+    (option_or (fault_outcome ran.ending)
+    (option_or (conflict_outcome ran.writes (clash committed ran.writes)) (danger_outcome (danger tables committed ran.reads ran.writes))))
+
+-- whether an outcome is that the transaction commits
+abbrev pub is_committed : Outcome → Bool
+is_committed outcome.Committed = true
+is_committed _ = false
 
 abbrev pub or_committed : Option Outcome → Outcome
 or_committed None = outcome.Committed
@@ -122,7 +122,7 @@ or_committed (Some cause) = cause
 -- the outcome of a transaction of the block of a number, on the results of the blocks before, on the outcomes and the
 -- committed transactions of its block so far, and by a run
 abbrev pub decide_by : App → List Sealed → ℕ → List Told → List Committed → Tx → Ran → Outcome
-decide_by app chain number outcomes committed tx ran = or_committed (or_else (early app (ids_of chain ++ ids_told outcomes) number tx)
+decide_by app chain number outcomes committed tx ran = or_committed (option_or (early app (ids_of chain ++ ids_told outcomes) number tx)
     (by_run (tables_of app) (writes_since chain number tx) committed ran))
 
 -- by its run on the tables of its height

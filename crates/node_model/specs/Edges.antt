@@ -7,7 +7,7 @@ use Rattle.rel_base.specs.declared.access.Write.{Write}
 use Rattle.rel_base.specs.declared.schema.TableDef.{TableDef}
 use Rattle.std.specs.Bool.{nat_eq}
 use Rattle.std.specs.List.{list_any}
-use Rattle.std.specs.Prelude.{Bool, List, not, ◌&&◌, ℕ}
+use Rattle.std.specs.Prelude.{AllPairs, Bool, List, not, ◌&&◌, ◌<◌, ℕ}
 
 -- some read hits some write
 abbrev pub touches : List TableDef → List Made → List Write → Bool
@@ -29,3 +29,7 @@ comes_from tables committed writes pos = list_any (λ done. nat_eq done.pos pos 
 abbrev pub edge_at : List TableDef → List Committed → ℕ → ℕ → Bool
 edge_at tables committed from to =
     list_any (λ first. nat_eq first.pos from && list_any (λ second. nat_eq second.pos to && edge tables first second) committed) committed
+
+-- committed transactions whose positions rise
+abbrev pub StandByPosition : List Committed → Type 0
+StandByPosition committed = AllPairs (λ earlier later. earlier.pos < later.pos) committed

@@ -15,7 +15,7 @@ use Rattle.proc_syntax.specs.Declaring.{tables_of}
 use Rattle.proc_syntax.specs.declared.call.Block.{Block}
 use Rattle.proc_syntax.specs.declared.call.Tx.{Tx}
 use Rattle.proc_syntax.specs.declared.tree.App.{App}
-use Rattle.rel_base.specs.Tables.{Stamped}
+use Rattle.rel_base.specs.Tables.{Stamped, place_of}
 use Rattle.rel_base.specs.declared.access.Place.{Place}
 use Rattle.std.specs.List.{list_any}
 use Rattle.std.specs.Option.{is_some, option_and_then}
@@ -115,9 +115,6 @@ claims None = (NoJob, None)
 claims (Some number) = (Claimed number, Some (Claim number))
 
 -- ---- the run of a job
-
-abbrev pub place_of : Stamped → Place
-place_of stamped = record { block = stamped.0; pos = stamped.1.pos }
 
 abbrev pub doomed_or_rows : Option Stamped → Answer
 doomed_or_rows None = Rows

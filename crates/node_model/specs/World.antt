@@ -149,3 +149,7 @@ due work = slice_get work.block.txs (decided work)
 pub record Holds (jobs : List Job) (actor number : ℕ) (job : Job) : Type 0 where
   pub stands : job_at jobs number ≡ Some job
   pub held : job.status ≡ Held actor
+
+-- an actor holds no job
+abbrev pub HoldsNone : World → ℕ → Type 0
+HoldsNone w actor = (number : ℕ) (job : Job) → Holds w.jobs actor number job → ⊥

@@ -65,7 +65,7 @@ turns_find_own app number seen mine journal own found = found_later app number s
 -- ---- what a call of the core adds to the journal
 
 -- the entries of a step are its actor's
-all_own : (actor : ℕ) (event : Option Event) → All (λ (entry : Entry). entry.actor ≡ actor) (entries_for actor event)
+pub all_own : (actor : ℕ) (event : Option Event) → All (λ (entry : Entry). entry.actor ≡ actor) (entries_for actor event)
 all_own actor None = All-nil (λ (entry : Entry). entry.actor ≡ actor)
 all_own actor (Some event) = All-cons (λ (entry : Entry). entry.actor ≡ actor) (record { actor = actor; event = event }) [] refl (All-nil (λ (entry : Entry). entry.actor ≡ actor))
 

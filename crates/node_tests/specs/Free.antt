@@ -9,10 +9,6 @@ use Rattle.turn_lock.specs.declared.lock.TurnLock.{TurnLock}
 use Rattle.turn_lock.specs.declared.pass.Pass.{Pass}
 
 module _ {ghosts : Ghosts Core App Entry} where
-  -- a pass of this lock that has no turn
-  abbrev pub IsIdle : TurnLock Core App Entry → Pass Core App Entry ghosts → Type 0
-  IsIdle lock pass = IsPassOf lock pass × HoldsNoTurn pass
-
-  -- one that holds no job either
+  -- a pass of this lock that has no turn and holds no job
   abbrev pub IsFree : TurnLock Core App Entry → Pass Core App Entry ghosts → Type 0
   IsFree lock pass = IsPassOf lock pass × HoldsNoTurn pass × HasNone pass

@@ -1,8 +1,8 @@
 //! Threads that bring calls, each with a pass of its own.
 
 ghost use Rattle.std.specs.Prelude.{◌≡◌, All, length, vec_len};
-ghost use Rattle.node_tests.specs.Free.{IsFree, IsIdle};
-ghost use Rattle.turn_lock.specs.Passes.{HoldsNoTurn, IsPassOf, IsSamePass};
+ghost use Rattle.node_tests.specs.Free.{IsFree};
+ghost use Rattle.turn_lock.specs.Passes.{HoldsNoTurn, IsIdle, IsPassOf, IsSamePass};
 
 use node_shared::{NodePass, SharedNode};
 use proc_syntax::Tx;

@@ -2,8 +2,8 @@
 
 ghost use Rattle.std.specs.Prelude.{◌≡◌, ◌+◌, ◌<◌, ◌≤◌, All, IfOk, vec_len};
 ghost use Rattle.cluster_run.specs.Standing.{HasNone, SameBlocks};
-ghost use Rattle.node_tests.specs.Free.{IsFree, IsIdle};
-ghost use Rattle.turn_lock.specs.Passes.{HoldsNoTurn, IsPassOf, IsSameHolder, left, made, pass_number};
+ghost use Rattle.node_tests.specs.Free.{IsFree};
+ghost use Rattle.turn_lock.specs.Passes.{HoldsNoTurn, IsIdle, IsPassOf, IsSameHolder, left, made, pass_number};
 
 use cluster_run::forking::{split_off, take_back};
 use node_shared::{NodePass, SharedNode};

@@ -2,7 +2,7 @@
 
 ghost use Rattle.std.specs.Prelude.{◌≡◌, All, length, vec_len};
 ghost use Rattle.cluster_run.specs.Standing.{Has, HasNone, left_of};
-ghost use Rattle.node_tests.specs.Free.{IsFree, IsIdle};
+ghost use Rattle.node_tests.specs.Free.{IsFree};
 ghost use Rattle.turn_lock.specs.Passes.{HoldsNoTurn, IsPassOf, IsSamePass};
 
 use cluster_run::working::{give_up, step_work, take_work};

@@ -3,6 +3,7 @@ use Rattle.std.proofs.Common.{Bool, List, None, Some, [], ap, arith, length, ref
 use Rattle.std.specs.List.{list_any}
 use Rattle.std.specs.Prelude.{ℤ}
 use Rattle.std.specs.Str.{bytes_eq}
+use Rattle.std.specs.Option.{option_or}
 use Rattle.block_work.proofs.Causing.{join_abort}
 use Rattle.block_work.proofs.Places.{one_added, places_more}
 use Rattle.block_work.specs.Block.{IsConsistent, IsSameWork, work_of, work_with}
@@ -10,7 +11,7 @@ use Rattle.block_work.specs.Causes.{AreOwnEdges, IsCause, early_by}
 use Rattle.block_work.specs.Ids.{AddsAmong, AddsPlace, HasFirstPlaces}
 use Rattle.block_work.specs.declared.block.BlockInWork.{BlockInWork}
 use Rattle.block_work.specs.declared.ids.IdIndex.{IdIndex}
-use Rattle.node_model.specs.Decide.{by_run, or_committed, or_else, run_at, writes_since}
+use Rattle.node_model.specs.Decide.{by_run, or_committed, run_at, writes_since}
 use Rattle.node_model.specs.Fold.{Work, work_on}
 use Rattle.node_model.specs.History.{Sealed, history_of, ids_of, ids_told, time_at}
 use Rattle.node_model.specs.declared.outcome.Outcome.TheVariants as outcome
@@ -40,7 +41,7 @@ pub early_decides : (app : App) (sealed : List Sealed) (number : ℕ) (work : Wo
     → known ≡ list_any (bytes_eq tx.id) (ids_of sealed ++ ids_told work.outcomes) → work_with work tx.id no_run cause ≡ work_on app sealed number work tx
 early_decides app sealed number work tx known cause is aborts stands =
     same_abort work tx.id no_run (run_at app sealed tx) cause aborts
-    ∙ ap (λ found. work_with work tx.id (run_at app sealed tx) (or_committed (or_else found (by_run (tables_of app) (writes_since sealed number tx) work.committed (run_at app sealed tx)))))
+    ∙ ap (λ found. work_with work tx.id (run_at app sealed tx) (or_committed (option_or found (by_run (tables_of app) (writes_since sealed number tx) work.committed (run_at app sealed tx)))))
     (is ∙ ap (λ known. early_by known app number tx) stands)
 
 -- else its run does
@@ -48,7 +49,7 @@ pub run_decides : (app : App) (sealed : List Sealed) (number : ℕ) (work : Work
     → known ≡ list_any (bytes_eq tx.id) (ids_of sealed ++ ids_told work.outcomes)
     → work_with work tx.id (run_at app sealed tx) (or_committed (by_run (tables_of app) (writes_since sealed number tx) work.committed (run_at app sealed tx))) ≡ work_on app sealed number work tx
 run_decides app sealed number work tx known none stands =
-    ap (λ found. work_with work tx.id (run_at app sealed tx) (or_committed (or_else found (by_run (tables_of app) (writes_since sealed number tx) work.committed (run_at app sealed tx)))))
+    ap (λ found. work_with work tx.id (run_at app sealed tx) (or_committed (option_or found (by_run (tables_of app) (writes_since sealed number tx) work.committed (run_at app sealed tx)))))
     (none ∙ ap (λ known. early_by known app number tx) stands)
 
 -- what a verdict on a run comes to is what the definition decides

@@ -1,4 +1,3 @@
-pub mod Ascii
 pub mod Depth
 pub mod Halts
 pub mod Lists

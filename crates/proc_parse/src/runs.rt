@@ -30,7 +30,7 @@ fn word_in(words: &[Word], bytes: &[u8]) -> Option<Word>
 }
 
 /// The name of some bytes.
-#[tactic(auto, using(crate::proofs::Ascii::name_is_utf8))]
+#[tactic(auto, using(rel_base::proofs::Utf8::name_is_utf8))]
 fn name_of(alloc: Global, bytes: &[u8]) -> Result<Name, NameFault>
     ensures ok { IfOk result (λ made. made ≡ bytes.now) }
     ensures bad { IsErrOf result NameFault.Bad ↔ (has_name_form bytes.now ≡ false) }

@@ -1,5 +1,5 @@
 -- One more spot is one more frame.
-use Rattle.std.proofs.Common.{◌≡◌, ℕ, ◌+◌, ◌<◌, ◌≤◌, zero, suc, refl, sym, ap, ◌∙◌, List, [], ◌∷◌, ◌++◌, length, drop, add-one, true, false, Bool, cond, arith, Ok, Err, Option, Some, None}
+use Rattle.std.proofs.Common.{◌≡◌, ℕ, ◌+◌, ◌<◌, ◌≤◌, refl, sym, ap, ◌∙◌, List, [], ◌∷◌, ◌++◌, length, drop, add-one, true, false, Bool, cond, arith, Ok, Err, Option, Some, None}
 use Rattle.std.specs.Prelude.{slice_get}
 use Rattle.std.specs.List.{find}
 use Rattle.std.proofs.lemmas.Bool.{lt-ltb, le-ltb}
@@ -7,7 +7,7 @@ use Rattle.std.proofs.lemmas.List.{drop_all}
 use Rattle.rel_base.specs.declared.schema.TableDef.{TableDef}
 use Rattle.rel_base.specs.declared.value.Value.{Value}
 use Rattle.rel_base.specs.Tables.{Tables}
-use Rattle.rel_base.proofs.Lists.{item_of}
+use Rattle.rel_base.proofs.Lists.{drop_next, item_of}
 use Rattle.proc_syntax.specs.declared.fault.Fault.TheVariants as fault
 use Rattle.proc_syntax.specs.declared.run.Stop.{Stop}
 use Rattle.proc_syntax.specs.declared.run.Stop.TheVariants as stop
@@ -26,13 +26,8 @@ use Rattle.proc_run.proofs.Planning.{goes_at}
 
 -- ---- lists
 
-one_and_left : {X : Type 0} (xs : List X) (n : ℕ) (x : X) → slice_get xs n ≡ Some x → drop n xs ≡ x ∷ drop (suc n) xs
-one_and_left [] n x h = cc
-one_and_left (y ∷ ys) zero x h = let e : y ≡ x = cc in ap (λ y. y ∷ ys) e
-one_and_left (y ∷ ys) (suc n) x h = one_and_left ys n x h
-
 pub one_left : {X : Type 0} (xs : List X) (n : ℕ) (x : X) → slice_get xs n ≡ Some x → drop n xs ≡ x ∷ drop (n + 1) xs
-one_left xs n x h = one_and_left xs n x h ∙ ap (λ m. x ∷ drop m xs) (sym (add-one n))
+one_left xs n x h = drop_next xs n x h ∙ ap (λ m. x ∷ drop m xs) (sym (add-one n))
 
 -- ---- outcomes
 

@@ -1,9 +1,8 @@
 -- The answer to a query: the versions that it selects, or why there is none.
-use Rattle.node_model.specs.declared.outcome.Outcome.TheVariants as outcome
-use Rattle.node_model.specs.declared.outcome.Outcome.{Outcome}
 use Rattle.node_model.specs.declared.result.BlockResult.{BlockResult}
 use Rattle.node_model.specs.declared.result.Told.{Told}
 use Rattle.node_model.specs.declared.version.Version.{Version}
+use Rattle.node_model.specs.Decide.{is_committed}
 use Rattle.proc_syntax.specs.Values.{have_kinds}
 use Rattle.provenance.specs.Versions.{all_versions, of_key, of_table, told_at}
 use Rattle.provenance.specs.declared.query.Query.TheVariants.{Between, History, Written}
@@ -34,10 +33,6 @@ abbrev pub was_visible : ℕ → ℕ → Place → Option Place → Bool
 was_visible from to made ended = list_any (is_visible made ended) (range_with_len from (to + 1 - from))
 
 -- ---- what a version has to do with transactions
-
-abbrev pub is_committed : Outcome → Bool
-is_committed outcome.Committed = true
-is_committed _ = false
 
 -- a transaction committed under an id
 abbrev pub committed_as : List ℕ → Option Told → Bool

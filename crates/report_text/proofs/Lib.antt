@@ -1,2 +1,1 @@
-mod Pushed
 mod Utf8

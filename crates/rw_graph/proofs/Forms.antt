@@ -7,9 +7,9 @@ use Rattle.std.specs.Prelude.{AllPairs, find}
 use Rattle.std.proofs.lemmas.Bool.{cases_lt, le-leb, le-ltb, lt-ltb}
 use Rattle.std.proofs.lemmas.Bool.Decides.{leb_tells}
 use Rattle.node_model.specs.Danger.{first_pair, is_form_one, is_form_two, with_partner}
-use Rattle.rw_graph.proofs.Cases.{and_false}
 use Rattle.rw_graph.proofs.Found.{any_none, any_some, find_least, find_none}
 use Rattle.rw_graph.specs.Sets.{AreAmong, IsLeastFrom, is_among}
+use Rattle.rel_base.proofs.Bits.{and_false}
 
 module _ (list : List ℕ) (rising : AllPairs (λ p q. p < q) list) (has : ℕ → ℕ → Bool) (out into : ℕ → Bool) where
   abbrev one : ℕ → ℕ → Bool

@@ -8,8 +8,8 @@ use Rattle.std.proofs.lemmas.Bool.{eq-eqb}
 use Rattle.std.proofs.lemmas.Bool.Decides.{eqb_tells}
 use Rattle.std.proofs.lemmas.List.Elements.{recursion_from_All}
 use Rattle.node_model.specs.Danger.{with_partner}
-use Rattle.rw_graph.proofs.Cases.{or_true}
 use Rattle.rw_graph.specs.Sets.{is_among}
+use Rattle.rel_base.proofs.Bits.{or_true}
 
 head_among : (x : ℕ) (xs : List ℕ) → is_among (x ∷ xs) x ≡ true
 head_among x xs = ap (λ b. b || is_among xs x) (eq-eqb x x refl)

@@ -5,6 +5,7 @@ use Rattle.std.specs.List.{list_any}
 use Rattle.std.proofs.lemmas.Bool.{eq-eqb}
 use Rattle.std.proofs.lemmas.List.{at_drop_all}
 use Rattle.std.proofs.lemmas.Bool.Decides.{eqb_tells}
+use Rattle.rel_base.proofs.Bits.{or_false}
 
 turned_test : (a b : ℕ) → nat_eq a b ≡ nat_eq b a
 turned_test a b = ⊎_elim (λ same. same.0 ∙ sym (eq-eqb b a (sym same.1))) (λ apart. ⊎_elim (λ same. absurd (apart.1 (sym same.1))) (λ other. apart.0 ∙ sym other.0) (eqb_tells b a)) (eqb_tells a b)
@@ -29,10 +30,6 @@ note_next place test all left after done holds holds' is so_far noted pos =
     ap (λ b. b || list_any (λ x. nat_eq (place x) pos && test x) after) (noted pos ∙ ap (λ b. (test done && b) || holds pos) (turned_test pos (place done)))
     ∙ moved (test done) (nat_eq (place done) pos) (holds pos) (list_any (λ x. nat_eq (place x) pos && test x) after)
     ∙ ap (λ xs. holds pos || list_any (λ x. nat_eq (place x) pos && test x) xs) (sym is) ∙ so_far pos
-
-or_false : (b : Bool) → (b || false) ≡ b
-or_false true = refl
-or_false false = refl
 
 -- once nothing is left, what was noted is all
 pub noted_all : {X : Type 0} (place : X → ℕ) (test : X → Bool) (all : List X) (index : ℕ) (holds : ℕ → Bool)

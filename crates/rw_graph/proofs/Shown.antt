@@ -1,5 +1,5 @@
 -- Edges by position are the edges of the transactions at the positions.
-use Rattle.std.proofs.Common.{ap, arith, inl, inr, not, refl, subst, sym, Bool, List, true, false, cond, [], ◌++◌, ◌∷◌, ◌∙◌, ◌<◌, ◌≡◌, ◌&&◌, ◌||◌, ◌≢◌, ℕ, ⊎_elim}
+use Rattle.std.proofs.Common.{ap, arith, inl, inr, not, refl, subst, sym, Bool, List, false, cond, [], ◌++◌, ◌∷◌, ◌∙◌, ◌<◌, ◌≡◌, ◌&&◌, ◌||◌, ◌≢◌, ℕ, ⊎_elim}
 use Rattle.std.specs.Bool.{nat_eq}
 use Rattle.std.specs.List.{list_any}
 use Rattle.std.specs.Prelude.{All}
@@ -10,16 +10,12 @@ use Rattle.std.proofs.lemmas.List.Folds.{list_any-append}
 use Rattle.node_model.specs.Edges.{comes_from, edge, edge_at, leads_to, touches}
 use Rattle.node_model.specs.declared.result.Committed.{Committed}
 use Rattle.rel_base.specs.declared.schema.TableDef.{TableDef}
+use Rattle.rel_base.proofs.Bits.{and_false, or_false, or_true}
 use Rattle.rw_graph.proofs.Alike.{danger_alike}
-use Rattle.rw_graph.proofs.Cases.{and_false, or_true}
 use Rattle.rw_graph.proofs.Lists.{In, Pairs, each_at, pairs_from}
 use Rattle.rw_graph.specs.Graph.{with_position}
 use Rattle.rw_graph.specs.Laws.{DangerByPosition, EdgesAreAmong, EdgesGrow, places}
 use Rattle.rw_graph.specs.Sets.{AreAmong, is_among}
-
-or_false : (b : Bool) → (b || false) ≡ b
-or_false true = refl
-or_false false = refl
 
 differs : (a b : ℕ) → a ≢ b → nat_eq a b ≡ false
 differs a b apart = ⊎_elim (λ same. absurd (apart same.1)) (λ other. other.0) (eqb_tells a b)

@@ -1,21 +1,17 @@
 -- Laws of edges and dangers by position. Each is the contract of a function of the module `laws`.
 use Rattle.node_model.specs.Danger.{danger, danger_among}
-use Rattle.node_model.specs.Edges.{comes_from, edge_at, leads_to}
+use Rattle.node_model.specs.Edges.{StandByPosition, comes_from, edge_at, leads_to}
 use Rattle.node_model.specs.declared.result.Committed.{Committed}
 use Rattle.rel_base.specs.declared.access.Made.{Made}
 use Rattle.rel_base.specs.declared.access.Write.{Write}
 use Rattle.rel_base.specs.declared.schema.TableDef.{TableDef}
 use Rattle.rw_graph.specs.Graph.{with_position}
 use Rattle.rw_graph.specs.Sets.{AreAmong}
-use Rattle.std.specs.Prelude.{All, AllPairs, List, map, [], ◌++◌, ◌<◌, ◌≡◌, ◌∷◌, ℕ}
+use Rattle.std.specs.Prelude.{All, List, map, [], ◌++◌, ◌<◌, ◌≡◌, ◌∷◌, ℕ}
 
 -- the positions of committed transactions
 abbrev pub places : List Committed → List ℕ
 places committed = map (λ done. done.pos) committed
-
--- the positions rise
-abbrev pub AreRising : List Committed → Type 0
-AreRising committed = AllPairs (λ earlier later. earlier.pos < later.pos) committed
 
 -- the edges of a transaction, by position, are to and from positions of committed ones
 abbrev pub EdgesAreAmong : Type 0
@@ -24,7 +20,7 @@ EdgesAreAmong = (tables : List TableDef) (committed : List Committed) (reads : L
 
 -- the danger among the positions, with the edges by position, is the danger among the transactions
 abbrev pub DangerByPosition : Type 0
-DangerByPosition = (tables : List TableDef) (committed : List Committed) (reads : List Made) (writes : List Write) → AreRising committed
+DangerByPosition = (tables : List TableDef) (committed : List Committed) (reads : List Made) (writes : List Write) → StandByPosition committed
     → danger_among (λ pos. pos) (edge_at tables committed) (leads_to tables committed reads) (comes_from tables committed writes) (places committed)
     ≡ danger tables committed reads writes
 

@@ -26,7 +26,8 @@ use Rattle.schedule_laws.proofs.Lasting.{before_facts, others_leave}
 
 -- ---- what may be asked
 
-holds_any : (actor : ℕ) (jobs : List Job) → list_any (λ job. is_held_by actor job.status) jobs ≡ true → (number : ℕ) × (job : Job) × Holds jobs actor number job
+-- where any job is held by an actor, one of a number is
+pub holds_any : (actor : ℕ) (jobs : List Job) → list_any (λ job. is_held_by actor job.status) jobs ≡ true → (number : ℕ) × (job : Job) × Holds jobs actor number job
 holds_any actor [] e = absurd (false≢true e)
 holds_any actor (y ∷ ys) e =
     (elim (is_held_by actor y.status) as (λ b. is_held_by actor y.status ≡ b → (b || list_any (λ job. is_held_by actor job.status) ys) ≡ true → (number : ℕ) × (job : Job) × Holds (y ∷ ys) actor number job) [

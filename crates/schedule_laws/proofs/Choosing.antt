@@ -1,6 +1,6 @@
 -- What is claimed is a job that waits, with the tables of its height there.
 use Rattle.std.proofs.Common.{Bool, List, None, Option, Some, [], ap, arith, bytes_eq, cond, false, filter, length, map, refl, slice_get, subst, suc, sym, true, zero, ◌%◌, ◌+◌, ◌++◌, ◌<◌, ◌∙◌, ◌≡◌, ◌≤◌, ◌∷◌, ℕ}
-use Rattle.node_model.specs.Decide.{bad_call, early, or_else}
+use Rattle.node_model.specs.Decide.{bad_call, early}
 use Rattle.node_model.specs.History.{ids_of, ids_told}
 use Rattle.node_model.specs.Steps.{chosen, due_number, early_cause, waiting_number}
 use Rattle.node_model.specs.World.{BlockInWork, Job, World, due, eligible, is_eligible, is_for, is_waiting, job_at, job_of, number_of}
@@ -18,7 +18,7 @@ use Rattle.schedule_laws.specs.Allowed.{IsFree}
 use Rattle.std.proofs.lemmas.Bool.{and_parts, leb-false, leb-true}
 use Rattle.std.proofs.lemmas.Option.{none-some, same_Some}
 use Rattle.std.specs.List.{enumerate_from, list_any, position_from}
-use Rattle.std.specs.Option.{is_some, option_and_then}
+use Rattle.std.specs.Option.{is_some, option_and_then, option_or}
 use Rattle.std.specs.Prelude.{nat_le}
 
 -- ---- no early cause
@@ -32,7 +32,7 @@ pub record MayRun (app : App) (ids : List (List ℕ)) (number : ℕ) (tx : Tx) :
 pub early-none : (app : App) (ids : List (List ℕ)) (number : ℕ) (tx : Tx) → early app ids number tx ≡ None → MayRun app ids number tx
 early-none app ids number tx e = by (list_any (bytes_eq tx.id) ids) (nat_le number tx.height) (call_fault app tx) refl refl refl e where
   by : (a b : Bool) (fault : Option CallFault) → list_any (bytes_eq tx.id) ids ≡ a → nat_le number tx.height ≡ b → call_fault app tx ≡ fault
-      → or_else (cond a (Some outcome.DuplicateId) None) (or_else (cond b (Some outcome.FutureHeight) None) (bad_call fault)) ≡ None → MayRun app ids number tx
+      → option_or (cond a (Some outcome.DuplicateId) None) (option_or (cond b (Some outcome.FutureHeight) None) (bad_call fault)) ≡ None → MayRun app ids number tx
   by true b fault x y z h = absurd (none-some outcome.DuplicateId (sym h))
   by false true fault x y z h = absurd (none-some outcome.FutureHeight (sym h))
   by false false (Some UnknownProcedure) x y z h = absurd (none-some outcome.UnknownProcedure (sym h))

@@ -1,7 +1,7 @@
 -- What is decided by a record that was cut is what the whole run decides.
 use Rattle.std.proofs.Common.{Bool, IsSome, List, None, Option, Some, [], ap, arith, bytes_eq, cond, false, length, map, refl, subst, sym, true, ◌+◌, ◌++◌, ◌-◌, ◌∙◌, ◌≡◌, ◌∷◌, ℕ}
 use Rattle.node_model.specs.Danger.{danger}
-use Rattle.node_model.specs.Decide.{bad_call, clash, conflict_outcome, danger_outcome, early, fault_outcome, late_outcome, or_committed, or_else, run_at, writes_since}
+use Rattle.node_model.specs.Decide.{bad_call, clash, conflict_outcome, danger_outcome, early, fault_outcome, late_outcome, or_committed, run_at, writes_since}
 use Rattle.node_model.specs.Fold.{Work, join_committed, work_by, work_on}
 use Rattle.node_model.specs.History.{Sealed, history_of, ids_of, ids_told}
 use Rattle.node_model.specs.declared.outcome.Outcome.TheVariants as outcome
@@ -25,6 +25,7 @@ use Rattle.std.proofs.lemmas.List.{map-append}
 use Rattle.std.proofs.lemmas.Option.{none-some, same_Some}
 use Rattle.std.specs.List.{list_any}
 use Rattle.std.specs.Prelude.{nat_le}
+use Rattle.std.specs.Option.{option_or}
 
 -- ---- late reads
 
@@ -83,7 +84,7 @@ module _ (committed : List Committed) (pos : ℕ) (one two : Ran) where
 
   early_leaves : (app : App) (ids : List (List ℕ)) (number : ℕ) (tx : Tx) (o : Outcome) → early app ids number tx ≡ Some o → Leaves o
   early_leaves app ids number tx o is = by (list_any (bytes_eq tx.id) ids) (nat_le number tx.height) (call_fault app tx) is where
-    by : (a b : Bool) (fault : Option CallFault) → or_else (cond a (Some outcome.DuplicateId) None) (or_else (cond b (Some outcome.FutureHeight) None) (bad_call fault)) ≡ Some o → Leaves o
+    by : (a b : Bool) (fault : Option CallFault) → option_or (cond a (Some outcome.DuplicateId) None) (option_or (cond b (Some outcome.FutureHeight) None) (bad_call fault)) ≡ Some o → Leaves o
     by true b fault is = named_by outcome.DuplicateId o refl is
     by false true fault is = named_by outcome.FutureHeight o refl is
     by false false fault is = bad_leaves fault o is
@@ -91,8 +92,8 @@ module _ (committed : List Committed) (pos : ℕ) (one two : Ran) where
 -- what is decided of a transaction, by a cause that may be known without a run and one that the run shows
 abbrev done_by : ℕ → Work → Tx → Ran → Option Outcome → Option Outcome → Work
 done_by number work tx ran early shown = record {
-  outcomes = work.outcomes ++ record { id = tx.id; outcome = or_committed (or_else early shown) } ∷ [];
-  committed = join_committed work.committed (length work.outcomes + 1) ran (or_committed (or_else early shown));
+  outcomes = work.outcomes ++ record { id = tx.id; outcome = or_committed (option_or early shown) } ∷ [];
+  committed = join_committed work.committed (length work.outcomes + 1) ran (or_committed (option_or early shown));
 }
 
 module _ (number : ℕ) (work : Work) (tx : Tx) (one two : Ran) where
@@ -105,8 +106,8 @@ module _ (number : ℕ) (work : Work) (tx : Tx) (one two : Ran) where
   -- nor does a late read that both runs show
   by_late : (tables : List TableDef) (found : Option Outcome) (first second : Option Outcome) (late : Option LateRead) → IsSome late
       → ((o : Outcome) → found ≡ Some o → Leaves work.committed (length work.outcomes + 1) one two o)
-      → done_by number work tx one found (or_else (late_outcome tables late) first) ≡ done_by number work tx two found (or_else (late_outcome tables late) second)
-  by_late tables (Some o) first second late some leaves = by_early (Some o) (or_else (late_outcome tables late) first) (or_else (late_outcome tables late) second) refl leaves
+      → done_by number work tx one found (option_or (late_outcome tables late) first) ≡ done_by number work tx two found (option_or (late_outcome tables late) second)
+  by_late tables (Some o) first second late some leaves = by_early (Some o) (option_or (late_outcome tables late) first) (option_or (late_outcome tables late) second) refl leaves
   by_late tables None first second None some leaves = absurd (false≢true some)
   by_late tables None first second (Some found) some leaves = refl
 
@@ -128,7 +129,7 @@ records_decide app sealed work tx recorded tells = by recorded.cut refl where
       let since : List Stamped = writes_since sealed (length sealed + 1) tx in
       let ids : List (List ℕ) = ids_of sealed ++ ids_told work.outcomes in
       let shown : Option LateRead → Ran → Work = λ late ran. done_by (length sealed + 1) work tx ran (early app ids (length sealed + 1) tx)
-      (or_else (late_outcome (tables_of app) late) (or_else (fault_outcome ran.ending) (or_else (conflict_outcome ran.writes (clash work.committed ran.writes)) (danger_outcome (danger (tables_of app) work.committed ran.reads ran.writes))))) in
+      (option_or (late_outcome (tables_of app) late) (option_or (fault_outcome ran.ending) (option_or (conflict_outcome ran.writes (clash work.committed ran.writes)) (danger_outcome (danger (tables_of app) work.committed ran.reads ran.writes))))) in
       by_late (length sealed + 1) work tx recorded.ran (run_at app sealed tx) (tables_of app) (early app ids (length sealed + 1) tx) _ _ (late (tables_of app) (reads_of recorded.ran.reads) since) found.0
       (early_leaves work.committed (length work.outcomes + 1) recorded.ran (run_at app sealed tx) app ids (length sealed + 1) tx)
       ∙ ap (λ late. shown late (run_at app sealed tx)) (sym found.1)

@@ -90,6 +90,10 @@ pub record FollowsTheFold (app : App) (w : World) : Type 0 where
   pub numbered : AreNumbered 1 blocks
   pub so_far : (work : BlockInWork) → w.work ≡ Some work → work.done ≡ at_first app w.sealed work.block (decided work)
 
+pub delivered-append : (one two : List Entry) → delivered (one ++ two) ≡ delivered one ++ delivered two
+delivered-append [] two = refl
+delivered-append (entry ∷ one) two = ap (λ rest. delivery entry.event ++ rest) (delivered-append one two) ∙ sym (append_assoc (delivery entry.event) (delivered one) (delivered two))
+
 delivered-snoc : (xs : List Entry) (entry : Entry) → delivered (xs ++ entry ∷ []) ≡ delivered xs ++ delivery entry.event
 delivered-snoc [] entry = append-nil (delivery entry.event)
 delivered-snoc (x ∷ xs) entry = ap (λ blocks. delivery x.event ++ blocks) (delivered-snoc xs entry) ∙ sym (append_assoc (delivery x.event) (delivered xs) (delivery entry.event))

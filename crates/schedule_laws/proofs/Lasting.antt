@@ -4,7 +4,7 @@ use Rattle.node_model.specs.Decide.{run_at}
 use Rattle.node_model.specs.Events.{after, claimed, drop_over, dropped, ended, finished, happens, is_over, is_settled, next_read, read_on, record_read, released, with_sealed}
 use Rattle.node_model.specs.Fold.{sealed_as}
 use Rattle.node_model.specs.History.{Sealed, ids_of}
-use Rattle.node_model.specs.Journals.{IsLegal, IsLegalFrom, world, world_from}
+use Rattle.node_model.specs.Journals.{IsLegal, IsLegalFrom, IsStep, world, world_from}
 use Rattle.node_model.specs.World.{Done, Dropped, Held, Holds, Job, Status, Waiting, World, change_job, empty, holder_of, is_done, is_held, is_waiting, job_at, new_job}
 use Rattle.node_model.specs.declared.journal.Entry.{Entry}
 use Rattle.node_model.specs.declared.journal.Event.TheVariants.{Arrive, Claim, Commit, Deliver, Finish, Read, Release, Seal}
@@ -197,9 +197,18 @@ world-append : (app : App) (w : World) (xs ys : List Entry) → world_from app w
 world-append app w [] ys = refl
 world-append app w (x ∷ xs) ys = world-append app (after app w x) xs ys
 
+-- with one entry more
+pub world-more : (app : App) (w : World) (journal : List Entry) (entry : Entry) → world_from app w (journal ++ entry ∷ []) ≡ after app (world_from app w journal) entry
+world-more app w journal entry = world-append app w journal (entry ∷ [])
+
 legal-append : (app : App) (w : World) (xs ys : List Entry) → IsLegalFrom app w (xs ++ ys) → IsLegalFrom app w xs × IsLegalFrom app (world_from app w xs) ys
 legal-append app w [] ys legal = (tt, legal)
 legal-append app w (x ∷ xs) ys legal = let r = legal-append app (after app w x) xs ys legal.1 in ((legal.0, r.0), r.1)
+
+-- a step more
+pub legal_more : (app : App) (w : World) (journal : List Entry) (entry : Entry) → IsLegalFrom app w journal → IsStep app (world_from app w journal) entry → IsLegalFrom app w (journal ++ entry ∷ [])
+legal_more app w [] entry legal step = (step, tt)
+legal_more app w (first ∷ journal) entry legal step = (legal.0, legal_more app (after app w first) journal entry legal.1 step)
 
 module _ (app : App) (journal others : List Entry) (legal : IsLegal app (journal ++ others)) where
   pub before_facts : FactsHold app (world app journal)

@@ -3,8 +3,8 @@ use Rattle.std.proofs.Common.{Bool, List, None, Option, Some, [], ap, append-nil
 use Rattle.std.proofs.lemmas.List.{map-append}
 use Rattle.std.specs.Option.{is_some, option_map}
 use Rattle.node_core.specs.Core.{Core, Steps, entries_for, world_of}
-use Rattle.node_model.specs.Events.{after, happens, settled_in}
-use Rattle.node_model.specs.Journals.{delivered, delivery, world, world_from}
+use Rattle.node_model.specs.Events.{happens, settled_in}
+use Rattle.node_model.specs.Journals.{delivered, delivery, world}
 use Rattle.node_model.specs.Steps as steps
 use Rattle.node_model.specs.Steps.{Answer, Ask, Reply, Shared, ToArrive, ToClaim, ToCommit, ToDeliver, ToFinish, ToRead, ToRelease, ToSeal, chosen, claims, commits, commits_due, delivers, finishes, gone_or_kept, is_known, is_ready, noted, reads, reads_unless, reply, seals, seals_due, step}
 use Rattle.node_model.specs.World.{BlockInWork, Job, World, decided, due, empty, job_at}
@@ -16,6 +16,7 @@ use Rattle.proc_syntax.specs.declared.call.Tx.{Tx}
 use Rattle.proc_syntax.specs.declared.tree.App.{App}
 use Rattle.schedule_sim.specs.Bare.{Takes, bare_entry, bare_event, bare_journal, bare_world, state_of}
 use Rattle.schedule_sim.specs.Running.{after_ask, shared}
+use Rattle.schedule_laws.proofs.Lasting.{world-more}
 
 -- ---- what is asked and answered
 
@@ -98,10 +99,6 @@ noted_bared app w actor None = refl
 noted_bared app w actor (Some event) =
     ap (λ journal. record (happens app w actor event) { journal = journal }) (map-append bare_entry w.journal (record { actor = actor; event = event } ∷ []))
     ∙ sym (happens_bared app w actor event (bare_journal w.journal ++ record { actor = actor; event = bare_event event } ∷ []))
-
-pub world-more : (app : App) (w : World) (journal : List Entry) (entry : Entry) → world_from app w (journal ++ entry ∷ []) ≡ after app (world_from app w journal) entry
-world-more app w [] entry = refl
-world-more app w (first ∷ journal) entry = world-more app (after app w first) journal entry
 
 pub world_noted : (app : App) (journal : List Entry) (actor : ℕ) (o : Option Event) → world app (journal ++ entries_for actor o) ≡ noted app (world app journal) actor o
 world_noted app journal actor None = ap (world app) (append-nil journal)

@@ -3,8 +3,7 @@ use Rattle.std.proofs.Common.{Bool, List, None, Option, Some, [], ap, arith, con
 use Rattle.std.proofs.lemmas.Bool.{eq-eqb, eqb-true, false≢true}
 use Rattle.std.proofs.lemmas.Option.{none-some, same_Some}
 use Rattle.std.specs.List.{list_any, position_from}
-use Rattle.node_model.specs.World.{Done, Dropped, Held, Holds, Job, Status, Waiting, World, is_held_by, job_at}
-use Rattle.schedule_sim.specs.InHands.{HoldsNone}
+use Rattle.node_model.specs.World.{Done, Dropped, Held, Holds, HoldsNone, Job, Status, Waiting, World, is_held_by, job_at}
 use Rattle.schedule_sim.specs.Running.{held_by}
 
 is_holder : (actor : ℕ) (s : Status) → is_held_by actor s ≡ true → s ≡ Held actor

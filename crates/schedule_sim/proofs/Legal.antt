@@ -1,5 +1,5 @@
 -- The journal of a schedule is legal, and delivers the blocks in their order.
-use Rattle.std.proofs.Common.{Bool, IsSome, List, None, Option, Some, [], ap, append-nil, append_assoc, arith, cond, false, inl, inr, length, length-append, refl, slice_get, subst, sym, true, ◌+◌, ◌++◌, ◌==◌, ◌||◌, ◌∙◌, ◌≡◌, ◌≤◌, ◌⊎◌, ◌∷◌, ℕ}
+use Rattle.std.proofs.Common.{Bool, IsSome, List, None, Option, Some, [], ap, append-nil, arith, cond, false, inl, inr, length, length-append, refl, slice_get, subst, sym, true, ◌+◌, ◌++◌, ◌==◌, ◌||◌, ◌∙◌, ◌≡◌, ◌≤◌, ◌⊎◌, ◌∷◌, ℕ}
 use Rattle.std.proofs.lemmas.Bool.{false≢true, or_parts}
 use Rattle.std.proofs.lemmas.Option.{none-some, same_Some}
 use Rattle.std.specs.Option.{is_none, is_some, option_and_then, option_map}
@@ -19,10 +19,10 @@ use Rattle.proc_syntax.specs.declared.call.Tx.{Tx}
 use Rattle.proc_syntax.specs.declared.tree.App.{App}
 use Rattle.rel_base.specs.declared.access.Read as access
 use Rattle.rel_base.proofs.Bits.{either}
-use Rattle.schedule_laws.proofs.Folding.{FollowsTheFold, reached}
+use Rattle.schedule_laws.proofs.Folding.{FollowsTheFold, delivered-append, reached}
 use Rattle.schedule_laws.specs.Scheduled.{block_in}
+use Rattle.schedule_laws.proofs.Lasting.{world-more}
 use Rattle.serial_laws.specs.Chained.{AreNumbered}
-use Rattle.schedule_sim.proofs.Bared.{world-more}
 use Rattle.schedule_sim.proofs.Holders.{holds_found, none_holds}
 use Rattle.schedule_sim.proofs.Moves.{legal_noted}
 use Rattle.schedule_sim.specs.Laws.{SchedulesAreLegal, SchedulesDeliver, SchedulesSealTheFold}
@@ -161,10 +161,6 @@ module _ (app : App) (w : World) where
     by (Some work) is e = absurd (none-some event e)
 
 -- ---- the fronts of a list
-
-delivered-append : (one two : List Entry) → delivered (one ++ two) ≡ delivered one ++ delivered two
-delivered-append [] two = refl
-delivered-append (entry ∷ one) two = ap (λ rest. delivery entry.event ++ rest) (delivered-append one two) ∙ sym (append_assoc (delivery entry.event) (delivered one) (delivered two))
 
 next_front : (front rest : List Block) (block : Block) → slice_get (front ++ rest) (length front) ≡ Some block → IsPrefix (front ++ block ∷ []) (front ++ rest)
 next_front [] [] block here = absurd (none-some block here)

@@ -7,12 +7,12 @@ use Rattle.node_core.specs.Core.{Core, MayAsk, world_of}
 use Rattle.node_core.specs.InHand.{InHand, job_in}
 use Rattle.node_model.specs.Events.{next_read, settled_in}
 use Rattle.node_model.specs.Steps.{Ask, Reply, ToClaim, ToFinish, ToRead, ToRelease, noted, reads, reads_unless, reply}
-use Rattle.node_model.specs.World.{Holds, job_at}
+use Rattle.node_model.specs.World.{Holds, HoldsNone, job_at}
 use Rattle.node_model.specs.declared.journal.Pick.{Pick}
 use Rattle.rel_base.specs.declared.access.Read as access
 use Rattle.schedule_sim.proofs.Holders.{holder_is, idle_is, none_holds}
 use Rattle.schedule_sim.specs.Bare.{Takes, state_of}
-use Rattle.schedule_sim.specs.InHands.{HoldsNone, IsWorkOf, WasGone}
+use Rattle.schedule_sim.specs.InHands.{IsWorkOf, WasGone}
 use Rattle.schedule_sim.specs.Running.{after_ask, held_by, is_at_end, to_claim, to_finish, to_read, to_release}
 
 -- ---- an actor that holds no job

@@ -11,12 +11,12 @@ use Rattle.node_core.specs.InHand.{InHand, job_in}
 use Rattle.node_core.specs.declared.answers.Got.TheVariants as got
 use Rattle.node_core.specs.declared.answers.Got.{Got}
 use Rattle.node_model.specs.Decide.{run_at}
-use Rattle.node_model.specs.Events.{after, claimed, dropped, ended, finished, has_told, hit_since, is_settled, next_read, read_on, released, settled_in}
+use Rattle.node_model.specs.Events.{claimed, dropped, ended, finished, has_told, hit_since, is_settled, next_read, read_on, released, settled_in}
 use Rattle.node_model.specs.History.{Sealed}
-use Rattle.node_model.specs.Journals.{IsLegal, IsLegalFrom, IsStep, world, world_from}
+use Rattle.node_model.specs.Journals.{IsLegal, world}
 use Rattle.node_model.specs.Steps as steps
 use Rattle.node_model.specs.Steps.{Answer, Ask, May, Reply, ToClaim, ToFinish, ToRead, ToRelease, chosen, claims, doomed_or_rows, finishes, noted, reads, reads_unless, reply}
-use Rattle.node_model.specs.World.{Done, Held, Holds, Job, World, change_job, empty, is_held, job_at, new_job}
+use Rattle.node_model.specs.World.{Done, Held, Holds, HoldsNone, Job, World, change_job, empty, is_held, job_at, new_job}
 use Rattle.node_model.specs.declared.journal.Entry.{Entry}
 use Rattle.node_model.specs.declared.journal.Event.TheVariants as event
 use Rattle.node_model.specs.declared.journal.Event.{Event}
@@ -25,15 +25,11 @@ use Rattle.proc_syntax.specs.declared.tree.App.{App}
 use Rattle.rel_base.specs.Tables.{Stamped}
 use Rattle.schedule_laws.proofs.Asking.{may_stays}
 use Rattle.schedule_laws.proofs.Facts.{facts_always_hold}
-use Rattle.schedule_laws.proofs.Lasting.{others_leave}
+use Rattle.schedule_laws.proofs.Lasting.{legal_more, others_leave}
 use Rattle.schedule_laws.proofs.Lists.{job-change}
 use Rattle.schedule_laws.specs.Stable.{IsLater, entries_by}
 use Rattle.schedule_sim.proofs.Bared.{world_noted}
-use Rattle.schedule_sim.specs.InHands.{HoldsNone, IsHand, IsWorkOf, WasGone}
-
-legal_more : (app : App) (w : World) (journal : List Entry) (entry : Entry) → IsLegalFrom app w journal → IsStep app (world_from app w journal) entry → IsLegalFrom app w (journal ++ entry ∷ [])
-legal_more app w [] entry legal step = (step, tt)
-legal_more app w (first ∷ journal) entry legal step = (legal.0, legal_more app (after app w first) journal entry legal.1 step)
+use Rattle.schedule_sim.specs.InHands.{IsHand, IsWorkOf, WasGone}
 
 pub legal_noted : (app : App) (journal : List Entry) (actor : ℕ) (ask : Ask) (o : Option Event) → IsLegal app journal → May app (world app journal) actor ask → (reply app (world app journal) ask).1 ≡ o
     → IsLegal app (journal ++ entries_for actor o)

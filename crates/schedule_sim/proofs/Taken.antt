@@ -13,6 +13,7 @@ use Rattle.node_core.specs.declared.answers.Next.{Next}
 use Rattle.node_model.specs.Journals.{IsLegal}
 use Rattle.node_model.specs.Steps.{Answer, Ask, Claimed, NoJob, ToArrive, ToClaim, ToDeliver, ToFinish, ToRead, ToRelease}
 use Rattle.node_model.specs.declared.journal.Pick.{Pick}
+use Rattle.node_model.specs.World.{HoldsNone}
 use Rattle.proc_syntax.specs.declared.call.Block.{Block}
 use Rattle.proc_syntax.specs.declared.call.Tx.{Tx}
 use Rattle.schedule_sim.proofs.Bared.{stays, stepped}
@@ -20,7 +21,7 @@ use Rattle.schedule_sim.proofs.Keeping.{Keeps, but_idle, keeps_same, outside, ow
 use Rattle.schedule_sim.proofs.Lines.{claim_asks, claim_held, finish_asks, finish_goes, may_claim, may_release, read_asks, read_gone, read_over, release_asks, took}
 use Rattle.schedule_sim.proofs.Moves.{claims_none, claims_work, finishes_work, keeps, legal_new, reads_work, releases_work}
 use Rattle.schedule_sim.specs.Bare.{Takes, state_of}
-use Rattle.schedule_sim.specs.InHands.{AreInHands, AreInHandsBut, HoldsNone, IsHand, IsPut, IsWorkOf, hand_of}
+use Rattle.schedule_sim.specs.InHands.{AreInHands, AreInHandsBut, IsHand, IsPut, IsWorkOf, hand_of}
 use Rattle.schedule_sim.specs.Running.{arrival, shared, to_arrive, to_claim, to_deliver, to_finish, to_read, to_release}
 use Rattle.schedule_sim.specs.Steps.{IsActor}
 

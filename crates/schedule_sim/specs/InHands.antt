@@ -4,7 +4,7 @@ use Rattle.node_core.specs.InHand.{InHand}
 use Rattle.node_model.specs.Events.{is_settled}
 use Rattle.node_model.specs.Journals.{IsLegal}
 use Rattle.node_model.specs.Steps.{ToRead}
-use Rattle.node_model.specs.World.{Holds, Job, World}
+use Rattle.node_model.specs.World.{Holds, HoldsNone, Job}
 use Rattle.schedule_sim.specs.Steps.{IsActor}
 use Rattle.std.specs.Option.{option_and_then}
 use Rattle.std.specs.Prelude.{List, None, Option, Some, length, slice_get, true, ◌≡◌, ℕ}
@@ -12,9 +12,6 @@ use Rattle.std.specs.Prelude.{List, None, Option, Some, length, slice_get, true,
 -- the work in the hand of an actor, by its number
 abbrev pub hand_of : List (Option InHand) → ℕ → Option InHand
 hand_of hands actor = option_and_then (λ hand. hand) (slice_get hands actor)
-
-abbrev pub HoldsNone : World → ℕ → Type 0
-HoldsNone w actor = (number : ℕ) (job : Job) → Holds w.jobs actor number job → ⊥
 
 -- the last read of a work found its id settled: it wants that read still, and would be told so again
 pub record WasGone (node : Core) (work : InHand) : Type 0 where

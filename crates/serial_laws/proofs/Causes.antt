@@ -1,7 +1,7 @@
 -- What it says of a transaction that it committed: none of the causes applies.
 use Rattle.std.proofs.Common.{All, List, None, Option, Some, [], arith, cond, inl, inr, map, refl, subst, sym, false, true, ◌++◌, ◌≡◌, ◌∷◌, ℕ}
 use Rattle.node_model.specs.Danger.{danger}
-use Rattle.node_model.specs.Decide.{bad_call, by_run, clash, clash_at, conflict_outcome, danger_outcome, decide, duplicate, early, fault_outcome, first_shared, future, is_shared, late_outcome, or_committed, or_else, run_at, writes_since}
+use Rattle.node_model.specs.Decide.{bad_call, by_run, clash, clash_at, conflict_outcome, danger_outcome, decide, duplicate, early, fault_outcome, first_shared, future, is_shared, late_outcome, or_committed, run_at, writes_since}
 use Rattle.node_model.specs.History.{Sealed, ids_of, ids_told}
 use Rattle.node_model.specs.declared.danger.Danger.{Danger}
 use Rattle.node_model.specs.declared.outcome.Outcome.TheVariants as outcome
@@ -30,7 +30,7 @@ use Rattle.serial_order.proofs.Each.{all_at}
 use Rattle.serial_order.proofs.Searches.{any_false, map_none}
 use Rattle.serial_laws.proofs.Stories.{KeysApart, differs}
 use Rattle.std.specs.List.{list_any, position_from}
-use Rattle.std.specs.Option.{option_map}
+use Rattle.std.specs.Option.{option_map, option_or}
 use Rattle.std.specs.Ordering.{eq_by_cmp}
 use Rattle.std.specs.Prelude.{Bool, IsSomeAnd, MatchOption, nat_le, slice_get, ◌-◌, ◌≤◌}
 use Rattle.std.specs.Str.{bytes_eq}
@@ -42,7 +42,7 @@ abbrev IsAbort : Option Outcome → Type 0
 IsAbort None = Unit {0}
 IsAbort (Some found) = found ≡ outcome.Committed → ⊥
 
-both_none : (first second : Option Outcome) → IsAbort first → or_committed (or_else first second) ≡ outcome.Committed → (first ≡ None) × (or_committed second ≡ outcome.Committed)
+both_none : (first second : Option Outcome) → IsAbort first → or_committed (option_or first second) ≡ outcome.Committed → (first ≡ None) × (or_committed second ≡ outcome.Committed)
 both_none None second abort e = (refl, e)
 both_none (Some found) second abort e = absurd (abort e)
 
@@ -50,7 +50,7 @@ last_none : (found : Option Outcome) → IsAbort found → or_committed found �
 last_none None abort e = refl
 last_none (Some found) abort e = absurd (abort e)
 
-abort_or : (first second : Option Outcome) → IsAbort first → IsAbort second → IsAbort (or_else first second)
+abort_or : (first second : Option Outcome) → IsAbort first → IsAbort second → IsAbort (option_or first second)
 abort_or None second a b = b
 abort_or (Some found) second a b = a
 
@@ -65,7 +65,7 @@ abort_call (Some BadArguments) = λ e. cc
 
 abort_early : (app : App) (ids : List (List ℕ)) (number : ℕ) (tx : Tx) → IsAbort (early app ids number tx)
 abort_early app ids number tx =
-    abort_or (duplicate ids tx) (or_else (future number tx) (bad_call (call_fault app tx))) (abort_if (list_any (bytes_eq tx.id) ids) outcome.DuplicateId (λ e. cc))
+    abort_or (duplicate ids tx) (option_or (future number tx) (bad_call (call_fault app tx))) (abort_if (list_any (bytes_eq tx.id) ids) outcome.DuplicateId (λ e. cc))
     (abort_or (future number tx) (bad_call (call_fault app tx)) (abort_if (nat_le number tx.height) outcome.FutureHeight (λ e. cc)) (abort_call (call_fault app tx)))
 
 abort_late : (tables : List TableDef) (found : Option LateRead) → IsAbort (late_outcome tables found)
@@ -93,7 +93,7 @@ abort_danger (Some found) = λ e. cc
 can_begin : (app : App) (ids : List (List ℕ)) (number : ℕ) (tx : Tx) → early app ids number tx ≡ None → call_fault app tx ≡ None
 can_begin app ids number tx e = no_fault_of (call_fault app tx) (second_none (future number tx) _ (second_none (duplicate ids tx) _ e))
   where
-    second_none : (first second : Option Outcome) → or_else first second ≡ None → second ≡ None
+    second_none : (first second : Option Outcome) → option_or first second ≡ None → second ≡ None
     second_none None second e = e
     second_none (Some found) second e = cc
 

@@ -1,5 +1,5 @@
 -- The order of the positions of members is the positions of the order of the members.
-use Rattle.std.proofs.Common.{Bool, List, None, Option, Some, ap, arith, false, inl, inr, length, map, not, refl, subst, suc, true, zero, [], ⊎_elim, ◌&&◌, ◌<◌, ◌||◌, ◌∙◌, ◌≡◌, ◌∷◌, ℕ}
+use Rattle.std.proofs.Common.{Bool, List, None, Option, Some, ap, arith, false, inl, inr, length, map, not, refl, subst, suc, zero, [], ⊎_elim, ◌&&◌, ◌<◌, ◌||◌, ◌∙◌, ◌≡◌, ◌∷◌, ℕ}
 use Rattle.node_model.specs.Edges.{edge, edge_at}
 use Rattle.node_model.specs.Order.{is_free, order, order_from, place, take_first}
 use Rattle.rw_graph.proofs.Lists.{In, Pairs, each_at, pairs_from}
@@ -13,6 +13,7 @@ use Rattle.std.specs.Bool.{nat_eq}
 use Rattle.std.specs.List.{list_all, list_any}
 use Rattle.std.specs.Option.{option_map}
 use Rattle.std.specs.Prelude.{◌≢◌}
+use Rattle.rel_base.proofs.Bits.{or_false}
 
 module _ {M : Type 0} (pos : M → ℕ) where
   all_map : (p : M → Bool) (q : ℕ → Bool) (xs : List M) → ((x : M) → In x xs → q (pos x) ≡ p x) → list_all q (map pos xs) ≡ list_all p xs
@@ -44,10 +45,6 @@ module _ {M : Type 0} (pos : M → ℕ) where
   none_at place test (x ∷ xs) other =
       ap (λ b. (b && test x) || list_any (λ x. nat_eq (pos x) place && test x) xs) (⊎_elim (λ same. absurd (other x (inl refl) same.1)) (λ differ. differ.0) (eqb_tells (pos x) place))
       ∙ none_at place test xs (λ y h. other y (inr h))
-
-  or_false : (b : Bool) → (b || false) ≡ b
-  or_false true = refl
-  or_false false = refl
 
   -- a test of the member at a position is a test of that member
   at_place : (members : List M) → Pairs RisesBy members → (one : M) → In one members → (test : M → Bool) → list_any (λ x. nat_eq (pos x) (pos one) && test x) members ≡ test one

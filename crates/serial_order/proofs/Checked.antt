@@ -11,7 +11,7 @@ use Rattle.rw_graph.proofs.Cases.{not_true}
 use Rattle.rw_graph.proofs.Lists.{pairs_from, In, Pairs, pairs_both, pairs_weaker, in_from, contains_from, each_at, each_from, each_passes}
 use Rattle.serial_order.proofs.Taken.{picks_within, picks_permutation, all_pairs, apart_again}
 use Rattle.serial_order.specs.Checking.{may_follow, all_follow, is_serial}
-use Rattle.rel_base.proofs.Bits.{both_true, first_true, second_true}
+use Rattle.rel_base.proofs.Bits.{both_true, first_true, or_true, second_true}
 
 any_in : (u : ℕ) (xs : List ℕ) → list_any (nat_eq u) xs ≡ true → In u xs
 any_in u [] e = absurd (true≢false (sym e))
@@ -21,10 +21,6 @@ in_any : (u : ℕ) (xs : List ℕ) → In u xs → list_any (nat_eq u) xs ≡ tr
 in_any u [] h = absurd h
 in_any u (x ∷ xs) (inl e) = ap (λ b. b || list_any (nat_eq u) xs) (eq-eqb u x (sym e))
 in_any u (x ∷ xs) (inr h) = ap (λ b. nat_eq u x || b) (in_any u xs h) ∙ or_true (nat_eq u x)
-  where
-    or_true : (b : Bool) → (b || true) ≡ true
-    or_true true = refl
-    or_true false = refl
 
 pub all_pass : {M : Type 0} (p : M → Bool) (xs : List M) → ((x : M) → In x xs → p x ≡ true) → list_all p xs ≡ true
 all_pass p [] f = refl

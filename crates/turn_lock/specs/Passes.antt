@@ -39,6 +39,10 @@ module _ {Value Base Entry : Type 0} {ghosts : Ghosts Value Base Entry} where
   abbrev pub HoldsNoTurn : Pass Value Base Entry ghosts → Type 0
   HoldsNoTurn pass = pass.seat.me.0.stage ≡ Idle
 
+  -- a pass of this lock that has no turn
+  abbrev pub IsIdle : TurnLock Value Base Entry → Pass Value Base Entry ghosts → Type 0
+  IsIdle lock pass = IsPassOf lock pass × HoldsNoTurn pass
+
   -- of number 0: how many passes it has split off
   abbrev pub made : Pass Value Base Entry ghosts → ℕ
   made pass = pass.seat.me.0.made

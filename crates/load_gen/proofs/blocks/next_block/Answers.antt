@@ -1,8 +1,9 @@
 use Rattle.std.proofs.Common.{ap, arith, length, ◌∙◌}
-use Rattle.load_gen.proofs.Listing.{length_txs, same_block}
+use Rattle.load_gen.proofs.Listing.{length_txs}
 use Rattle.load_gen.specs.Blocks.{later_block, txs_from}
 use Rattle.load_gen.specs.Transactions.{load_tx}
 use Rattle.load_gen.proofs.blocks.next_block.Goals as goal
+use Rattle.proc_syntax.proofs.Blocks.{same_block}
 
 pub block_of-requires : goal.block_of-requires
 block_of-requires c = let long = ap length c.in_ok-txs.ensures.txs ∙ length_txs (load_tx c.args.drawn.now.load) c.args.drawn.now.next 50 in omega (arith, long)

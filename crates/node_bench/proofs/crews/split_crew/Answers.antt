@@ -1,8 +1,8 @@
 use Rattle.std.proofs.Common.{rules, subst, sym}
 use Rattle.std.proofs.lemmas.List.Elements.{All-push}
 use Rattle.std.specs.Prelude.{All, vec_items}
-use Rattle.node_bench.specs.Idle.{IsIdle}
 use Rattle.node_bench.proofs.crews.split_crew.Goals as goal
+use Rattle.turn_lock.specs.Passes.{IsIdle}
 
 pub loop-preserved : goal.loop-preserved
 loop-preserved g c = (

@@ -1,6 +1,5 @@
 use Rattle.std.specs.Prelude.{All, vec_capacity, vec_items, vec_len, ◌≡◌, ◌≤◌}
-use Rattle.turn_lock.specs.Passes.{made, pass_number}
-use Rattle.node_bench.specs.Idle.{IsIdle}
+use Rattle.turn_lock.specs.Passes.{IsIdle, made, pass_number}
 use Rattle.node_bench.proofs.crews.split_crew.Given as goal
 
 abbrev pub invariant-loop : goal.invariant-loop

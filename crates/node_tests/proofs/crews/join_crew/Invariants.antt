@@ -1,8 +1,7 @@
 use Rattle.std.specs.Prelude.{All, ◌≡◌}
 use Rattle.std.specs.Vec.Iter.{into_iter_items, into_iter_len}
 use Rattle.cluster_run.specs.Standing.{HasNone}
-use Rattle.node_tests.specs.Free.{IsIdle}
-use Rattle.turn_lock.specs.Passes.{HoldsNoTurn, IsSameHolder, left}
+use Rattle.turn_lock.specs.Passes.{HoldsNoTurn, IsIdle, IsSameHolder, left}
 use Rattle.node_tests.proofs.crews.join_crew.Given as goal
 
 abbrev pub invariant-loop-other : goal.invariant-loop-other

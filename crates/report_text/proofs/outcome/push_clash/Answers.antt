@@ -1,6 +1,6 @@
 use Rattle.std.proofs.Common.{codes}
-use Rattle.report_text.proofs.Pushed.{pushed_twice}
 use Rattle.report_text.proofs.outcome.push_clash.Goals as goal
+use Rattle.rel_base.proofs.Bytes.{pushed_twice}
 
 -- `search` gives up on so long a literal
 pub returns : goal.returns

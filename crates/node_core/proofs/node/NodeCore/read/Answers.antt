@@ -12,6 +12,7 @@ use Rattle.node_core.specs.Rows.{count_held}
 use Rattle.node_model.specs.Events.{settled_in}
 use Rattle.node_model.specs.Journals.{world}
 use Rattle.node_model.specs.Steps as steps
+use Rattle.rel_base.specs.Tables as stamps
 use Rattle.node_model.specs.declared.journal.Event.TheVariants as event
 use Rattle.proc_run.specs.Remains.{StandInOrder}
 use Rattle.proc_syntax.specs.Declaring.{tables_of}
@@ -51,7 +52,7 @@ invariant_of-self-in-Some-wanted g c =
     let at : c.height-height.result ≡ length s.chain.blocks = search rules in
     let found : up_to c.height-height.result (place_of s.ids c.args.work.now.told.tx.id) ≡ None = search rules in
     let live : settled_in c.args.work.now.told.tx.id (world s.chain.app.value.app s.journal.items).sealed ≡ None = sym (settled_is _ c.self.invariant.0 c.height-height.result c.args.work.now.told.tx.id at) ∙ found in
-    let hits : c.find_hit-hit.result ≡ option_map steps.place_of (least_hit (g.V.Versions.tables s.chain.versions) c.in-Some-wanted.read.now (writes_between c.args.work.now.told.tx.height c.height-height.result (g.V.Versions.history s.chain.versions))) = search rules in
+    let hits : c.find_hit-hit.result ≡ option_map stamps.place_of (least_hit (g.V.Versions.tables s.chain.versions) c.in-Some-wanted.read.now (writes_between c.args.work.now.told.tx.height c.height-height.result (g.V.Versions.history s.chain.versions))) = search rules in
     let noted : c.push_reserved.new.self.items ≡ s.journal.items ++ record { actor = c.args.work.now.actor; event = event.Read c.args.work.now.job } ∷ [] = search rules in
     let fits : vec_len c.push_reserved.new.self + count_held s.jobs ≤ vec_capacity c.push_reserved.new.self = search rules in
     (read_kept _ c.self.invariant.0 c.args.work.now held c.in-Some-wanted.read.now next whole live c.find_hit-hit.result c.height-height.result at hits c.push_reserved.new.self.items noted, fits)
@@ -66,7 +67,7 @@ returns-clause-step g c =
     let at : c.height-height.result ≡ length s.chain.blocks = search rules in
     let found : up_to c.height-height.result (place_of s.ids c.args.work.now.told.tx.id) ≡ None = search rules in
     let live : settled_in c.args.work.now.told.tx.id (world s.chain.app.value.app s.journal.items).sealed ≡ None = sym (settled_is _ c.self.invariant.0 c.height-height.result c.args.work.now.told.tx.id at) ∙ found in
-    let hits : c.find_hit-hit.result ≡ option_map steps.place_of (least_hit (g.V.Versions.tables s.chain.versions) c.in-Some-wanted.read.now (writes_between c.args.work.now.told.tx.height c.height-height.result (g.V.Versions.history s.chain.versions))) = search rules in
+    let hits : c.find_hit-hit.result ≡ option_map stamps.place_of (least_hit (g.V.Versions.tables s.chain.versions) c.in-Some-wanted.read.now (writes_between c.args.work.now.told.tx.height c.height-height.result (g.V.Versions.history s.chain.versions))) = search rules in
     let noted : c.push_reserved.new.self.items ≡ s.journal.items ++ record { actor = c.args.work.now.actor; event = event.Read c.args.work.now.job } ∷ [] = search rules in
     subst (λ a. Steps c.args.self.now c.args.work.now.actor (steps.ToRead c.args.work.now.job) (got_as a) (record { app = s.chain.app.value.app; journal = c.push_reserved.new.self.items })) (sym c.got_of.ensures)
     (subst (λ (core : Core). Steps core c.args.work.now.actor (steps.ToRead c.args.work.now.job) (got_as (got_of c.find_hit-hit.result)) (record { app = s.chain.app.value.app; journal = c.push_reserved.new.self.items })) c.self.view_is
@@ -82,7 +83,7 @@ returns-clause-held g c =
     let at : c.height-height.result ≡ length s.chain.blocks = search rules in
     let found : up_to c.height-height.result (place_of s.ids c.args.work.now.told.tx.id) ≡ None = search rules in
     let live : settled_in c.args.work.now.told.tx.id (world s.chain.app.value.app s.journal.items).sealed ≡ None = sym (settled_is _ c.self.invariant.0 c.height-height.result c.args.work.now.told.tx.id at) ∙ found in
-    let hits : c.find_hit-hit.result ≡ option_map steps.place_of (least_hit (g.V.Versions.tables s.chain.versions) c.in-Some-wanted.read.now (writes_between c.args.work.now.told.tx.height c.height-height.result (g.V.Versions.history s.chain.versions))) = search rules in
+    let hits : c.find_hit-hit.result ≡ option_map stamps.place_of (least_hit (g.V.Versions.tables s.chain.versions) c.in-Some-wanted.read.now (writes_between c.args.work.now.told.tx.height c.height-height.result (g.V.Versions.history s.chain.versions))) = search rules in
     let noted : c.push_reserved.new.self.items ≡ s.journal.items ++ record { actor = c.args.work.now.actor; event = event.Read c.args.work.now.job } ∷ [] = search rules in
     let rows : c.in_ok-rows-in-Some-wanted.rows ≡ rows_in (g.V.Versions.tables s.chain.versions) c.in-Some-wanted.read.now (tables_at c.args.work.now.told.tx.height (g.V.Versions.history s.chain.versions)) = search rules in
     let answered : c.answer.new.self ≡ with_read c.args.work.now c.in-Some-wanted.read.now c.in_ok-rows-in-Some-wanted.rows c.is_some.result =
