@@ -11,8 +11,8 @@ use Rattle.version_index.specs.Chains.{slot_of}
 use Rattle.version_index.specs.declared.chains.Chains.{Chains}
 use Rattle.version_index.proofs.Keys.{key_itself}
 
--- a key is wanted by one of the items
-abbrev pub ByOne : {E : Type 0} → List E → (E → List Value → Type 0) → List Value → Type 0
+-- a key, or a number, is wanted by one of the items
+abbrev pub ByOne : {E K : Type 0} → List E → (E → K → Type 0) → K → Type 0
 ByOne {E} es Wanted key = (e : E) × Contains es e × Wanted e key
 
 module _ (chains : Chains) where

@@ -25,6 +25,7 @@ pub mod Marked
 pub mod Distinct
 pub mod Story
 pub mod Wanted
+pub mod Lowering
 pub mod Watching
 pub mod Answered
 pub mod Sought

@@ -1,20 +1,27 @@
 -- The keys of marked slots.
-use Rattle.std.proofs.Common.{◌≡◌, ◌∙◌, ℕ, List, Bool, true, false, Option, Some, None, refl, ap}
+use Rattle.std.proofs.Common.{◌≡◌, ◌∙◌, ℕ, List, ◌∷◌, ◌++◌, Bool, true, false, Contains, Option, Some, None, refl, ap, arith, sym}
 use Rattle.std.specs.BTreeMap.{BTreeMap, is_at}
-use Rattle.std.specs.Map.{lookup}
+use Rattle.std.specs.List.Sorted.{IsStrictlySortedBy}
+use Rattle.std.specs.Map.{keys_of, lookup}
 use Rattle.std.specs.Ordering.{nat_cmp}
+use Rattle.std.specs.declared.alloc.Global.{Global}
+use Rattle.std.specs.declared.vec.Vec.{Vec}
 use Rattle.std.specs.BTreeMap.Range.{range_contains}
 use Rattle.std.specs.List.{filter}
 use Rattle.std.proofs.lemmas.Map.Lookups.{exact_unsigned}
 use Rattle.std.proofs.lemmas.Map.Views.{Contains-from_lookup}
-use Rattle.rel_base.specs.Value.{key_cmp, key_cmp-exact, value_cmp, value_cmp-exact}
+use Rattle.rel_base.specs.Tables.{Stamped}
+use Rattle.rel_base.specs.Value.{key_cmp, key_cmp-exact, value_cmp, value_cmp-exact, value_cmp-total}
 use Rattle.rel_base.specs.declared.value.Value.{Value}
 use Rattle.rel_base.proofs.Bits.{is_Equal}
-use Rattle.version_index.specs.Candidates.{HasSlot, IsMarked, IsMarkedBetween, LivesBetween, end_of, key_end_of}
-use Rattle.version_index.specs.Columns.{is_marked, mark_in}
+use Rattle.version_index.specs.Candidates.{HasSlot, IsBetween, IsMarked, IsMarkedBetween, LivesBetween, end_of, key_end_of}
+use Rattle.version_index.specs.Columns.{IsColumn, is_marked, items_in, mark_in, touched_at, touches_at}
+use Rattle.version_index.specs.Numbers.{ArePassing}
+use Rattle.version_index.specs.declared.chains.Chains.{Chains}
+use Rattle.version_index.specs.declared.column.Column.{Column}
 use Rattle.version_index.specs.declared.view.TableView.{TableView}
 use Rattle.version_index.proofs.Adding.{ByOne}
-use Rattle.version_index.proofs.Ranges.{in_key_range, in_range, passes_filter, some_there}
+use Rattle.version_index.proofs.Ranges.{found_next, in_key_range, in_range, passes_filter, some_there}
 
 -- a key has a slot that has a mark
 abbrev pub WantsMark : TableView → ℕ × Bool → List Value → Type 0
@@ -57,3 +64,26 @@ by_keys view low high key (value, own, between, lives) =
           (ap (range_contains key_cmp (key_end_of low) (key_end_of high)) own ∙ in_key_range low high value between),
       refl,
     )
+
+-- ---- the numbers at values
+
+-- a number at a value between two ends is among the entries between them
+pub by_numbers : (touched : List (Value × Vec ℕ Global)) (low high : Option Value) (value : Value) (number : ℕ) → IsBetween low high value → Contains (touched_at touched value) number
+    → ByOne (filter (λ e. range_contains value_cmp (end_of low) (end_of high) e.0) touched) (λ e n. Contains e.1.items n) number
+by_numbers touched low high value number between inside = go (lookup (is_at (value_cmp value)) touched) refl inside
+  where
+    go : (found : Option (Vec ℕ Global)) → lookup (is_at (value_cmp value)) touched ≡ found → Contains (items_in found) number
+        → ByOne (filter (λ e. range_contains value_cmp (end_of low) (end_of high) e.0) touched) (λ e n. Contains e.1.items n) number
+    go None there inside = let below = inside.1 in absurd (omega (arith, below))
+    go (Some numbers) there inside = (
+      (value, numbers),
+      passes_filter (λ e. range_contains value_cmp (end_of low) (end_of high) e.0) touched (value, numbers)
+          (Contains-from_lookup (λ x y tied. value_cmp-exact x y (is_Equal (value_cmp x y) tied)) value numbers touched there) (in_range low high value between),
+      inside,
+    )
+
+-- the numbers of an entry between two ends that stands behind others are those of the noted writes that touched its value
+pub numbers_pass : (table : ℕ) (history : List Stamped) (noted : ℕ) (chains : Chains) (column : Column) → IsColumn table history noted chains column → (p : Value × Vec ℕ Global → Bool) (done rest left all : List (Value × Vec ℕ Global)) (e : Value × Vec ℕ Global)
+    → IsStrictlySortedBy value_cmp (keys_of column.touched.entries) → done ++ left ≡ all → all ≡ filter p column.touched.entries → left ≡ e ∷ rest → ArePassing noted e.1.items
+numbers_pass table history noted chains column is p done rest left all e rise whole kept next =
+    (touches_at table column.column e.0 history, sym (ap items_in (found_next value_cmp value_cmp-total column.touched.entries p done rest left all e rise whole kept next)) ∙ is.touched e.0)

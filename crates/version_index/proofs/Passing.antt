@@ -1,7 +1,8 @@
 -- The numbers that pass a test, and the row that the last write on a key left.
-use Rattle.std.proofs.Common.{◌≡◌, ◌∙◌, ℕ, suc, zero, ◌<◌, ◌≤◌, List, [], ◌∷◌, ◌++◌, Bool, true, false, cond, Option, Some, None, refl, ap, sym, subst, arith, slice_get, take, drop, get_or, length, ◌⊎◌, inl, inr}
+use Rattle.std.proofs.Common.{◌≡◌, ◌∙◌, ℕ, suc, zero, ◌<◌, ◌≤◌, List, [], ◌∷◌, ◌++◌, Bool, true, false, cond, Contains, Option, Some, None, refl, ap, sym, subst, arith, slice_get, take, drop, get_or, length, ◌⊎◌, inl, inr}
 use Rattle.std.specs.Option.{option_and_then}
 use Rattle.std.proofs.lemmas.List.{append-nil}
+use Rattle.std.proofs.lemmas.List.Elements.{Contains-append_left, Contains-append_right, Contains-push_cases}
 use Rattle.rel_base.specs.declared.value.Value.{Value}
 use Rattle.rel_base.specs.Tables.{Stamped}
 use Rattle.row_sets.proofs.Histories.{unwrapped}
@@ -105,6 +106,32 @@ module _ (test : ℕ → Bool) where
           between : IsTop end last rest → (j : ℕ) → last < j → j < suc end → (j < end) ⊎ (end ≤ j) → test j ≡ false
           between top j up down (inl low) = top.none j up low
           between top j up down (inr high) = let same_number : j ≡ end = omega (arith, down, high) in ap test same_number ∙ fails
+
+  -- they are those that pass
+  pub passing_has : (end j : ℕ) → Contains (passing test end) j → (j < end) × (test j ≡ true)
+  passing_has zero j inside = let below = inside.1 in absurd (omega (arith, below))
+  passing_has (suc end) j inside = go (passing_has end j) (test end) refl inside
+    where
+      go : (Contains (passing test end) j → (j < end) × (test j ≡ true)) → (b : Bool) → test end ≡ b → Contains (passing test end ++ cond b (end ∷ []) []) j → (j < suc end) × (test j ≡ true)
+      go before true passes_it inside = either (Contains-push_cases (passing test end) end j inside)
+        where
+          either : Contains (passing test end) j ⊎ (end ≡ j) → (j < suc end) × (test j ≡ true)
+          either (inl within) = let low = (before within).0 in (omega (arith, low), (before within).1)
+          either (inr same) = (omega (arith, same), ap test (sym same) ∙ passes_it)
+      go before false fails inside =
+          let rest = before (subst (λ xs. Contains xs j) (append-nil (passing test end)) inside) in
+          let low = rest.0 in
+          (omega (arith, low), rest.1)
+
+  pub passing_all : (end j : ℕ) → j < end → test j ≡ true → Contains (passing test end) j
+  passing_all zero j below is = absurd (omega (arith, below))
+  passing_all (suc end) j below is = go (passing_all end j) (below_or j end)
+    where
+      go : (j < end → test j ≡ true → Contains (passing test end) j) → (j < end) ⊎ (end ≤ j) → Contains (passing test end ++ cond (test end) (end ∷ []) []) j
+      go before (inl low) = Contains-append_left (passing test end) (cond (test end) (end ∷ []) []) j (before low is)
+      go before (inr high) =
+          let same : end ≡ j = omega (arith, below, high) in
+          Contains-append_right (passing test end) (cond (test end) (end ∷ []) []) j (subst (λ b. Contains (cond b (end ∷ []) []) j) (sym (ap test same ∙ is)) (0, omega arith, same))
 
   -- where there is none, none passes
   pub none_of : (end : ℕ) → passing test end ≡ [] → (j : ℕ) → j < end → test j ≡ false

@@ -4,13 +4,13 @@ use Rattle.std.specs.BTreeMap.{is_at}
 use Rattle.std.specs.BTreeMap.Range.{range_contains}
 use Rattle.std.specs.List.{AllByRecursion, filter}
 use Rattle.std.specs.List.Sorted.{IsStrictlySortedBy}
-use Rattle.std.specs.Cmp.{tied_itself, upto}
+use Rattle.std.specs.Cmp.{IsTotalOrder, tied_itself, upto}
 use Rattle.std.specs.Map.{keys_of, lookup}
 use Rattle.std.specs.Ordering.{is_eq, is_le, is_lt, ordering_reverse, ordering_then}
 use Rattle.std.specs.declared.cmp.Ordering.{Ordering}
 use Rattle.std.specs.declared.cmp.Ordering.TheVariants.{Less, Equal, Greater}
 use Rattle.std.proofs.lemmas.List.Elements.{All-cons, All-contains, All-filter, All-nil, All-weaker, Contains-append_right}
-use Rattle.rel_base.specs.Value.{key_cmp, key_cmp-total, value_cmp, value_cmp-total}
+use Rattle.rel_base.specs.Value.{key_cmp, value_cmp, value_cmp-total}
 use Rattle.rel_base.specs.declared.value.Value.{Value}
 use Rattle.rel_base.proofs.Bits.{no_both, not_greater, not_greater_back}
 use Rattle.version_index.specs.Candidates.{IsBetween, end_of, is_forward, key_end_of}
@@ -75,27 +75,28 @@ none_between (Some low) (Some high) value backward between =
 
 -- ---- what a map in order holds
 
-less_all : {X : Type 0} (low : List Value) (es : List (List Value × X)) → AllByRecursion (λ key. key_cmp low key ≡ Less) (keys_of es) → All (λ e. key_cmp low e.0 ≡ Less) es
-less_all low [] less = All-nil (λ e. key_cmp low e.0 ≡ Less)
-less_all low (e ∷ es) less = All-cons (λ e. key_cmp low e.0 ≡ Less) e es less.0 (less_all low es less.1)
+module _ {K X : Type 0} (cmp : K → K → Ordering) (total : IsTotalOrder cmp) where
+  less_all : (low : K) (es : List (K × X)) → AllByRecursion (λ key. cmp low key ≡ Less) (keys_of es) → All (λ e. cmp low e.0 ≡ Less) es
+  less_all low [] less = All-nil (λ e. cmp low e.0 ≡ Less)
+  less_all low (e ∷ es) less = All-cons (λ e. cmp low e.0 ≡ Less) e es less.0 (less_all low es less.1)
 
--- an entry is found at its key
-found_at_own : {X : Type 0} (es : List (List Value × X)) → IsStrictlySortedBy key_cmp (keys_of es) → All (λ e. lookup (is_at (key_cmp e.0)) es ≡ Some e.1) es
-unfolding IsStrictlySortedBy
-found_at_own [] rise = All-nil (λ e. lookup (is_at (key_cmp e.0)) [] ≡ Some e.1)
-found_at_own {X} (e ∷ es) rise =
-    let Own : List Value × X → Type 0 = λ f. lookup (is_at (key_cmp f.0)) (e ∷ es) ≡ Some f.1 in
-    let less = less_all e.0 es rise.0 in
-    let rest = found_at_own es rise.1 in
-    let both : All (λ f. (key_cmp e.0 f.0 ≡ Less) × (lookup (is_at (key_cmp f.0)) es ≡ Some f.1)) es = λ k d below. (less k d below, rest k d below) in
-    All-cons Own e es (ap (λ o. cond (is_eq o) (Some e.1) (lookup (is_at (key_cmp e.0)) es)) (tied_itself key_cmp-total e.0))
-    (All-weaker (λ f. (key_cmp e.0 f.0 ≡ Less) × (lookup (is_at (key_cmp f.0)) es ≡ Some f.1)) Own
-    (λ f is. ap (λ o. cond (is_eq o) (Some e.1) (lookup (is_at (key_cmp f.0)) es)) (key_cmp-total.antisymm f.0 e.0 ∙ ap ordering_reverse is.0) ∙ is.1) es both)
+  -- an entry is found at its key
+  found_at_own : (es : List (K × X)) → IsStrictlySortedBy cmp (keys_of es) → All (λ e. lookup (is_at (cmp e.0)) es ≡ Some e.1) es
+  unfolding IsStrictlySortedBy
+  found_at_own [] rise = All-nil (λ e. lookup (is_at (cmp e.0)) [] ≡ Some e.1)
+  found_at_own (e ∷ es) rise =
+      let Own : K × X → Type 0 = λ f. lookup (is_at (cmp f.0)) (e ∷ es) ≡ Some f.1 in
+      let less = less_all e.0 es rise.0 in
+      let rest = found_at_own es rise.1 in
+      let both : All (λ f. (cmp e.0 f.0 ≡ Less) × (lookup (is_at (cmp f.0)) es ≡ Some f.1)) es = λ k d below. (less k d below, rest k d below) in
+      All-cons Own e es (ap (λ o. cond (is_eq o) (Some e.1) (lookup (is_at (cmp e.0)) es)) (tied_itself total e.0))
+      (All-weaker (λ f. (cmp e.0 f.0 ≡ Less) × (lookup (is_at (cmp f.0)) es ≡ Some f.1)) Own
+      (λ f is. ap (λ o. cond (is_eq o) (Some e.1) (lookup (is_at (cmp f.0)) es)) (total.antisymm f.0 e.0 ∙ ap ordering_reverse is.0) ∙ is.1) es both)
 
--- so is one of those between two ends that stands behind others
-pub found_next : {X : Type 0} (es : List (List Value × X)) (p : List Value × X → Bool) (done rest left all : List (List Value × X)) (e : List Value × X) → IsStrictlySortedBy key_cmp (keys_of es) → done ++ left ≡ all → all ≡ filter p es
-    → left ≡ e ∷ rest → lookup (is_at (key_cmp e.0)) es ≡ Some e.1
-found_next {X} es p done rest left all e rise whole kept is =
-    let Own : List Value × X → Type 0 = λ f. lookup (is_at (key_cmp f.0)) es ≡ Some f.1 in
-    let own = subst (All Own) (sym (whole ∙ kept)) (All-filter p Own es (found_at_own es rise)) in
-    All-contains Own (done ++ left) e own (Contains-append_right done left e (subst (λ xs. Contains xs e) (sym is) (0, omega arith, refl)))
+  -- so is one of those between two ends that stands behind others
+  pub found_next : (es : List (K × X)) (p : K × X → Bool) (done rest left all : List (K × X)) (e : K × X) → IsStrictlySortedBy cmp (keys_of es) → done ++ left ≡ all → all ≡ filter p es → left ≡ e ∷ rest
+      → lookup (is_at (cmp e.0)) es ≡ Some e.1
+  found_next es p done rest left all e rise whole kept is =
+      let Own : K × X → Type 0 = λ f. lookup (is_at (cmp f.0)) es ≡ Some f.1 in
+      let own = subst (All Own) (sym (whole ∙ kept)) (All-filter p Own es (found_at_own es rise)) in
+      All-contains Own (done ++ left) e own (Contains-append_right done left e (subst (λ xs. Contains xs e) (sym is) (0, omega arith, refl)))

@@ -26,7 +26,7 @@ pub le_not : (a b : ℕ) → nat_le a b ≡ false → b < a
 le_not a b fails = grind (arith, nat_tests)
 
 -- it is one of them
-lesser_is : (a b : ℕ) → ((lesser a b ≡ a) × (a ≤ b)) ⊎ ((lesser a b ≡ b) × (b < a))
+pub lesser_is : (a b : ℕ) → ((lesser a b ≡ a) × (a ≤ b)) ⊎ ((lesser a b ≡ b) × (b < a))
 lesser_is a b = elim (nat_le a b) as (λ t. nat_le a b ≡ t → ((cond t a b ≡ a) × (a ≤ b)) ⊎ ((cond t a b ≡ b) × (b < a))) [
   | true ↦ λ down. inl (refl, le_from a b down)
   | false ↦ λ up. inr (refl, le_not a b up)

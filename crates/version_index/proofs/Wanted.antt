@@ -36,7 +36,7 @@ use Rattle.version_index.proofs.Marks.{same_value}
 use Rattle.version_index.proofs.Story.{Story, TookBack, seen_story}
 
 -- a value is one with itself
-value_itself : (value : Value) → value_eq value value ≡ true
+pub value_itself : (value : Value) → value_eq value value ≡ true
 value_itself value = ap is_eq (tied_itself value_cmp-total value)
 
 -- ---- a span of one value

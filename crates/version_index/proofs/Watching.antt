@@ -5,7 +5,7 @@ use Rattle.std.proofs.lemmas.Bool.Decides.{Decides-eqb}
 use Rattle.std.proofs.lemmas.List.Elements.{All-contains, All-contains_itself, All-weaker}
 use Rattle.rel_base.specs.Access.{PartFits, ReadFits, WriteFits, covers_some, hits_write, read_table}
 use Rattle.rel_base.specs.Late.{where_declared}
-use Rattle.rel_base.specs.Row.{value_at}
+use Rattle.rel_base.specs.Row.{is_from, value_at}
 use Rattle.rel_base.specs.Schema.{span_columns}
 use Rattle.rel_base.specs.Tables.{HistoryFits, Stamped, write_ref}
 use Rattle.rel_base.specs.declared.access.Read.{Read}
@@ -18,19 +18,23 @@ use Rattle.row_sets.specs.Watched.{is_watched}
 use Rattle.row_sets.specs.Log.{FitsTable, history_of, stamped_of}
 use Rattle.row_sets.specs.declared.entry.Entry.{Entry}
 use Rattle.row_sets.specs.declared.hits.Watch.{Watch}
+use Rattle.version_index.specs.Candidates.{IsBetween, is_forward}
 use Rattle.version_index.specs.Chain.{IsFirst, is_late}
-use Rattle.version_index.specs.Columns.{cell, has, touches, touches_at}
-use Rattle.version_index.specs.Hits.{IsFirstFrom}
+use Rattle.version_index.specs.Columns.{IsColumn, cell, has, touched_at, touches, touches_at}
+use Rattle.version_index.specs.Hits.{Lowers}
 use Rattle.version_index.specs.Left.{left_at}
 use Rattle.version_index.specs.Log.{InOrder}
-use Rattle.version_index.specs.Numbers.{passes, passes_at, passing}
+use Rattle.version_index.specs.Numbers.{ArePassing, least_with, passes, passes_at, passing}
 use Rattle.version_index.specs.View.{IsAsked, history_in}
+use Rattle.version_index.specs.declared.column.Column.{Column}
 use Rattle.version_index.specs.declared.view.TableView.{TableView}
 use Rattle.version_index.proofs.LeastHits.{first_agrees, hits_point}
 use Rattle.version_index.proofs.Logged.{all_fail, blocks_rise, contains_got, get_history, le_false, lt_false}
-use Rattle.version_index.proofs.Passing.{IsTop, none_of, top_of}
-use Rattle.version_index.proofs.Points.{all_fails, at_some, below_or, first_of_from, take_fails}
-use Rattle.version_index.proofs.Wanted.{cell_in, pinned}
+use Rattle.version_index.proofs.Lowering.{lowers_none, lowers_one, lowers_then, lowers_weaker}
+use Rattle.version_index.proofs.Passing.{IsTop, none_of, passing_all, passing_has, top_of}
+use Rattle.version_index.proofs.Points.{all_fails, at_some, below_or, fails_all, take_fails}
+use Rattle.version_index.proofs.Ranges.{none_between as none_in}
+use Rattle.version_index.proofs.Wanted.{cell_in, value_itself}
 
 -- ---- histories that fit
 
@@ -48,35 +52,9 @@ module _ (def : TableDef) (read : Read) (view : TableView) (asked : IsAsked def 
   pub read_fits_table : FitsTable def (read_table read) (history_in view)
   read_fits_table = subst (λ table. FitsTable def table (history_in view)) asked.table asked_fits
 
--- a span reads by a column by which it may
-pub asked_span : (watch : Watch) (view : TableView) (column : ℕ) (value : Value) → IsAsked watch.def.now watch.read.now view → watch.read.now ≡ Span view.table column (Some value) (Some value) → Contains (span_columns watch.def.now) column
-asked_span watch view column value asked span = let fits = subst (ReadFits watch.def.now) span asked.fits in fits.0
-
--- ---- the first from a number on
+-- ---- the first
 
 module _ {X : Type 0} (test : X → Bool) (xs : List X) where
-  -- one more, which is the last that was looked at
-  pub from_back : (end last : ℕ) (first : Option ℕ) → last < end → ((j : ℕ) → last < j → j < end → passes_at test xs j ≡ false) → IsFirstFrom test end xs first
-      → IsFirstFrom test last xs (cond (passes_at test xs last) (Some last) first)
-  from_back end last first below none from = go (passes_at test xs last) refl
-    where
-      up_from : (j : ℕ) → passes_at test xs last ≡ false → last ≤ j → (last < j) ⊎ (j ≤ last) → (j < end) ⊎ (end ≤ j) → (end ≤ j → passes_at test xs j ≡ false) → passes_at test xs j ≡ false
-      up_from j fails low (inr down) w behind = let same : j ≡ last = omega (arith, low, down) in ap (passes_at test xs) same ∙ fails
-      up_from j fails low (inl up) (inl before) behind = none j up before
-      up_from j fails low (inl up) (inr past) behind = behind past
-
-      rest : (found : Option ℕ) → passes_at test xs last ≡ false → IsFirstFrom test end xs found → IsFirstFrom test last xs found
-      rest None fails from = λ j low. up_from j fails low (below_or last j) (below_or j end) (from j)
-      rest (Some number) fails from = (
-        (let up = from.0 in omega (arith, up, below)),
-        from.1,
-        λ j low before. up_from j fails low (below_or last j) (below_or j end) (λ past. from.2 j past before),
-      )
-
-      go : (b : Bool) → passes_at test xs last ≡ b → IsFirstFrom test last xs (cond b (Some last) first)
-      go true passes = (omega arith, passes, λ j low before. absurd (omega (arith, low, before)))
-      go false fails = rest first fails from
-
   -- the first is one alone
   pub first_alone : (one other : Option ℕ) → IsFirst test xs one → IsFirst test xs other → one ≡ other
   first_alone None None first second = refl
@@ -126,14 +104,15 @@ low_before watch entries number entry ordered there low j down = go (slice_get (
     go None absent = refl
     go (Some stamped) here = let rise = blocks_rise (history_of entries) j number stamped (stamped_of entry) ordered here (get_history entries number entry there) down in low_unwatched watch stamped (omega (arith, rise, low))
 
--- ---- a span of one value
+-- ---- a span of a column
 
--- a row that it covers has the value
-covers_has : (def : TableDef) (table column : ℕ) (value : Value) (key : List Value) (row : Option (List Value)) → Contains (span_columns def) column → PartFits def key row
-    → covers_some def (Span table column (Some value) (Some value)) row ≡ true → has value (cell column row) ≡ true
-covers_has def table column value key None may fits covers = cc
-covers_has def table column value key (Some row) may fits covers =
-    ap (has value) (cell_in row column (span_column_below def row column fits.0 may)) ∙ pinned value (value_at row column) (first_true _ _ covers) (second_true _ _ covers)
+-- a row that it covers has a value between its ends
+covers_between : (def : TableDef) (table column : ℕ) (low high : Option Value) (key : List Value) (row : Option (List Value)) → Contains (span_columns def) column → PartFits def key row
+    → covers_some def (Span table column low high) row ≡ true → (value : Value) × IsBetween low high value × (has value (cell column row) ≡ true)
+covers_between def table column low high key None may fits covers = cc
+covers_between def table column low high key (Some row) may fits covers =
+    let value = value_at row column in
+    (value, (first_true _ _ covers, second_true (is_from low value) _ covers), ap (has value) (cell_in row column (span_column_below def row column fits.0 may)) ∙ value_itself value)
 
 second_of : (a b c : Bool) → b ≡ true → (a || b || c) ≡ true
 second_of true b c is = refl
@@ -144,11 +123,11 @@ third_of true b c is = refl
 third_of false true c is = refl
 third_of false false c is = is
 
--- a write that it hits touches the value
-hit_touches : (def : TableDef) (table column : ℕ) (value : Value) (past : List Stamped) (stamped : Stamped) → Contains (span_columns def) column → (stamped.1.write.table ≡ table → WriteFits def stamped.1.write)
-    → hits_write def (Span table column (Some value) (Some value)) stamped.1.write ≡ true → touches table column value past (Some stamped) ≡ true
-hit_touches def table column value past stamped may fits hits =
-    both_true _ _ in_table (either (covers_some def (Span table column (Some value) (Some value)) stamped.1.write.before) refl (second_true (table == stamped.1.write.table) _ hits))
+-- a write that it hits touches a value between its ends
+hit_touches : (def : TableDef) (table column : ℕ) (low high : Option Value) (past : List Stamped) (stamped : Stamped) → Contains (span_columns def) column → (stamped.1.write.table ≡ table → WriteFits def stamped.1.write)
+    → hits_write def (Span table column low high) stamped.1.write ≡ true → (value : Value) × IsBetween low high value × (touches table column value past (Some stamped) ≡ true)
+hit_touches def table column low high past stamped may fits hits =
+    either (covers_some def (Span table column low high) stamped.1.write.before) refl (second_true (table == stamped.1.write.table) _ hits)
   where
     in_table : (table == stamped.1.write.table) ≡ true
     in_table = first_true (table == stamped.1.write.table) _ hits
@@ -156,70 +135,123 @@ hit_touches def table column value past stamped may fits hits =
     fit : WriteFits def stamped.1.write
     fit = fits (sym ((Decides-eqb table stamped.1.write.table).0 in_table))
 
-    part : (row : Option (List Value)) → PartFits def stamped.1.write.key row → covers_some def (Span table column (Some value) (Some value)) row ≡ true → has value (cell column row) ≡ true
-    part row fitting covers = covers_has def table column value stamped.1.write.key row may fitting covers
+    found : Value → Bool
+    found value = has value (cell column (left_at (write_ref stamped.1.write) past))
 
-    either : (b : Bool) → covers_some def (Span table column (Some value) (Some value)) stamped.1.write.before ≡ b → (b || covers_some def (Span table column (Some value) (Some value)) stamped.1.write.after) ≡ true
-        → (has value (cell column (left_at (write_ref stamped.1.write) past)) || has value (cell column stamped.1.write.before) || has value (cell column stamped.1.write.after)) ≡ true
-    either true covers w = second_of (has value (cell column (left_at (write_ref stamped.1.write) past))) _ _ (part stamped.1.write.before fit.before covers)
-    either false w covers = third_of (has value (cell column (left_at (write_ref stamped.1.write) past))) (has value (cell column stamped.1.write.before)) _ (part stamped.1.write.after fit.after covers)
+    part : (row : Option (List Value)) → PartFits def stamped.1.write.key row → covers_some def (Span table column low high) row ≡ true → (value : Value) × IsBetween low high value × (has value (cell column row) ≡ true)
+    part row fitting covers = covers_between def table column low high stamped.1.write.key row may fitting covers
 
--- the noted writes that touched the value below a number are left, and the first hit from that number on was found
-abbrev pub TouchWalk : Watch → List Entry → ℕ → ℕ → ℕ → Value → List ℕ → Option ℕ → Type 0
-TouchWalk watch entries noted table column value left first =
-    (end : ℕ) × (end ≤ noted) × (left ≡ passing (touches_at table column value (history_of entries)) end) × IsFirstFrom (is_watched watch) end (history_of entries) first
+    either : (b : Bool) → covers_some def (Span table column low high) stamped.1.write.before ≡ b → (b || covers_some def (Span table column low high) stamped.1.write.after) ≡ true
+        → (value : Value) × IsBetween low high value × (touches table column value past (Some stamped) ≡ true)
+    either true covers w =
+        let has_it = part stamped.1.write.before fit.before covers in
+        (has_it.0, has_it.1, both_true _ _ in_table (second_of (found has_it.0) _ _ has_it.2))
+    either false w covers =
+        let has_it = part stamped.1.write.after fit.after covers in
+        (has_it.0, has_it.1, both_true _ _ in_table (third_of (found has_it.0) (has has_it.0 (cell column stamped.1.write.before)) _ has_it.2))
 
-module _ (watch : Watch) (entries : List Entry) (noted table column : ℕ) (value : Value) (may : Contains (span_columns watch.def.now) column) (fits : FitsTable watch.def.now table (history_of entries))
-    (span : watch.read.now ≡ Span table column (Some value) (Some value)) where
-  abbrev history : List Stamped
-  history = history_of entries
+module _ (watch : Watch) (view : TableView) (column : ℕ) (low high : Option Value) (asked : IsAsked watch.def.now watch.read.now view) (span : watch.read.now ≡ Span view.table column low high) where
+  may : Contains (span_columns watch.def.now) column
+  may = let fits = subst (ReadFits watch.def.now) span asked.fits in fits.0
 
-  abbrev touching : ℕ → Bool
-  touching = touches_at table column value (history_of entries)
-
-  -- a write that is watched touches the value
-  watched_touches : (j : ℕ) → passes_at (is_watched watch) history j ≡ true → touching j ≡ true
-  watched_touches j passing_it = go (slice_get history j) refl passing_it
+  -- a write that is watched touches a value between the ends
+  pub watched_touches : (j : ℕ) → passes_at (is_watched watch) (history_in view) j ≡ true → (value : Value) × IsBetween low high value × (touches_at view.table column value (history_in view) j ≡ true)
+  watched_touches j passing_it = go (slice_get (history_in view) j) refl passing_it
     where
-      go : (found : Option Stamped) → slice_get history j ≡ found → passes (is_watched watch) found ≡ true → touches table column value (take j history) found ≡ true
+      go : (found : Option Stamped) → slice_get (history_in view) j ≡ found → passes (is_watched watch) found ≡ true
+          → (value : Value) × IsBetween low high value × (touches view.table column value (take j (history_in view)) found ≡ true)
       go None absent is = cc
       go (Some stamped) there is =
-          hit_touches watch.def.now table column value (take j history) stamped may
-          (All-contains (λ s. s.1.write.table ≡ table → WriteFits watch.def.now s.1.write) history stamped fits (contains_got history j stamped there))
+          hit_touches watch.def.now view.table column low high (take j (history_in view)) stamped may
+          (All-contains (λ s. s.1.write.table ≡ view.table → WriteFits watch.def.now s.1.write) (history_in view) stamped (asked_fits watch.def.now watch.read.now view asked) (contains_got (history_in view) j stamped there))
           (ap (λ read. hits_write watch.def.now read stamped.1.write) (sym span) ∙ first_true (hits_write watch.def.now watch.read.now stamped.1.write) _ is)
 
-  untouched : (j : ℕ) → touching j ≡ false → passes_at (is_watched watch) history j ≡ false
-  untouched j fails = not_true (passes_at (is_watched watch) history j) (λ passes_it. no_both (touching j) (watched_touches j passes_it) fails)
+  -- so nothing is watched where nothing lies between them
+  pub watched_backward : is_forward low high ≡ false → IsFirst (is_watched watch) (history_in view) None
+  watched_backward backward =
+      fails_all (is_watched watch) (history_in view)
+      (λ j. not_true (passes_at (is_watched watch) (history_in view) j) (λ is. let touched = watched_touches j is in none_in low high touched.0 backward touched.1))
 
-  module _ (left : List ℕ) (first : Option ℕ) (walk : TouchWalk watch entries noted table column value left first) where
-    module _ (last : ℕ) (rest : List ℕ) (parts : left ≡ rest ++ last ∷ []) where
-      top : IsTop touching walk.0 last rest
-      top = top_of touching walk.0 last rest (sym walk.2 ∙ parts)
+  module _ (own : Column) (is : IsColumn view.table (history_in view) view.noted view.index.now.chains own) (same : own.column ≡ column) where
+    -- a noted write that is watched is among those that touched a value between the ends
+    pub watched_noted : (j : ℕ) → passes_at (is_watched watch) (history_in view) j ≡ true → j < view.noted → (value : Value) × IsBetween low high value × Contains (touched_at own.touched.entries value) j
+    watched_noted j passing_it below =
+        let touched = watched_touches j passing_it in (
+          touched.0,
+          touched.1,
+          subst (λ numbers. Contains numbers j) (sym (is.touched touched.0))
+              (passing_all (touches_at view.table own.column touched.0 (history_in view)) view.noted j below (ap (λ c. touches_at view.table c touched.0 (history_in view) j) same ∙ touched.2)),
+        )
 
-      pub touch_below : last < noted
-      touch_below = let low = top.below in let within = walk.1 in omega (arith, low, within)
+-- ---- a walk back over numbers of noted writes
 
-      between : (j : ℕ) → last < j → j < walk.0 → passes_at (is_watched watch) history j ≡ false
-      between j up below = untouched j (top.none j up below)
+-- those below a number are left, and the first hit among those from there on was found
+pub record HitWalk (watch : Watch) (view : TableView) (numbers left : List ℕ) (found first : Option ℕ) : Type 0 where
+  pub test : ℕ → Bool
+  pub all : numbers ≡ passing test view.noted
+  pub end : ℕ
+  pub within : end ≤ view.noted
+  pub rest : left ≡ passing test end
+  pub lowers : Lowers (passes_at (is_watched watch) (history_in view)) found first (λ j. (test j ≡ true) × (end ≤ j) × (j < view.noted))
 
-      pub touch_back : (entry : Entry) → slice_get entries last ≡ Some entry → TouchWalk watch entries noted table column value rest (cond (is_watched watch (stamped_of entry)) (Some last) first)
-      touch_back entry there = (
-        last,
-        (let low = touch_below in omega (arith, low)),
-        top.rest_is,
-        subst (λ b. IsFirstFrom (is_watched watch) last history (cond b (Some last) first)) (ap (passes (is_watched watch)) (get_history entries last entry there))
-            (from_back (is_watched watch) history walk.0 last first top.below between walk.3),
-      )
+module _ (watch : Watch) (view : TableView) where
+  abbrev hit : ℕ → Bool
+  hit = passes_at (is_watched watch) (history_in view)
 
-      pub touch_stop : (entry : Entry) → InOrder history → slice_get entries last ≡ Some entry → entry.block ≤ watch.after → IsFirst (is_watched watch) history first
-      touch_stop entry ordered there low = first_of_from (is_watched watch) walk.0 history first (λ j below. go j below (below_or last j)) walk.3
+  pub hit_start : (numbers : List ℕ) (found : Option ℕ) → ArePassing view.noted numbers → HitWalk watch view numbers numbers found found
+  hit_start numbers found are = record {
+    test = are.0;
+    all = are.1;
+    end = view.noted;
+    within = omega arith;
+    rest = are.1;
+    lowers = lowers_none hit found (λ j. (are.0 j ≡ true) × (view.noted ≤ j) × (j < view.noted)) (λ j on is. absurd (omega (arith, on.1, on.2)));
+  }
+
+  module _ (numbers left : List ℕ) (found first : Option ℕ) (walk : HitWalk watch view numbers left found first) where
+    module _ (last : ℕ) (earlier : List ℕ) (parts : left ≡ earlier ++ last ∷ []) where
+      top : IsTop walk.test walk.end last earlier
+      top = top_of walk.test walk.end last earlier (sym walk.rest ∙ parts)
+
+      pub hit_below : last < view.noted
+      hit_below = let low = top.below in let within = walk.within in omega (arith, low, within)
+
+      pub hit_back : (entry : Entry) → slice_get view.entries.now last ≡ Some entry
+          → HitWalk watch view numbers earlier found (cond (is_watched watch (stamped_of entry)) (Some (least_with last first)) first)
+      hit_back entry there = record {
+        test = walk.test;
+        all = walk.all;
+        end = last;
+        within = let low = hit_below in omega (arith, low);
+        rest = top.rest_is;
+        lowers = subst (λ b. Lowers hit found (cond b (Some (least_with last first)) first) (λ j. (walk.test j ≡ true) × (last ≤ j) × (j < view.noted))) (ap (passes (is_watched watch)) (get_history view.entries.now last entry there))
+            (lowers_then hit found first (cond (hit last) (Some (least_with last first)) first) (λ j. (walk.test j ≡ true) × (walk.end ≤ j) × (j < view.noted)) (λ j. j ≡ last) (λ j. (walk.test j ≡ true) × (last ≤ j) × (j < view.noted))
+            (λ j on is. either j on (below_or last j) (below_or j walk.end)) walk.lowers (lowers_one hit last first));
+      }
         where
-          go : (j : ℕ) → j < walk.0 → (last < j) ⊎ (j ≤ last) → passes_at (is_watched watch) history j ≡ false
-          go j below (inl up) = between j up below
-          go j below (inr down) = low_before watch entries last entry ordered there low j down
+          either : (j : ℕ) → (walk.test j ≡ true) × (last ≤ j) × (j < view.noted) → (last < j) ⊎ (j ≤ last) → (j < walk.end) ⊎ (walk.end ≤ j) → ((walk.test j ≡ true) × (walk.end ≤ j) × (j < view.noted)) ⊎ (j ≡ last)
+          either j on (inr down) w = let up = on.1 in inr (omega (arith, up, down))
+          either j on (inl up) (inl below) = absurd (no_both (walk.test j) on.0 (top.none j up below))
+          either j on (inl up) (inr past) = inl (on.0, past, on.2)
 
-    pub touch_end : left ≡ [] → IsFirst (is_watched watch) history first
-    touch_end none = first_of_from (is_watched watch) walk.0 history first (λ j below. untouched j (none_of touching walk.0 (sym walk.2 ∙ none) j below)) walk.3
+      pub hit_stop : (entry : Entry) → InOrder (history_in view) → slice_get view.entries.now last ≡ Some entry → entry.block ≤ watch.after → Lowers hit found first (Contains numbers)
+      hit_stop entry ordered there low =
+          lowers_weaker hit found first (λ j. (walk.test j ≡ true) × (walk.end ≤ j) × (j < view.noted)) (Contains numbers)
+          (λ j inside is. let on = passing_has walk.test view.noted j (subst (λ ns. Contains ns j) walk.all inside) in either j on is (below_or last j) (below_or j walk.end)) walk.lowers
+        where
+          either : (j : ℕ) → (j < view.noted) × (walk.test j ≡ true) → hit j ≡ true → (last < j) ⊎ (j ≤ last) → (j < walk.end) ⊎ (walk.end ≤ j) → (walk.test j ≡ true) × (walk.end ≤ j) × (j < view.noted)
+          either j on is (inr down) w = absurd (no_both (hit j) is (low_before watch view.entries.now last entry ordered there low j down))
+          either j on is (inl up) (inl below) = absurd (no_both (walk.test j) on.1 (top.none j up below))
+          either j on is (inl up) (inr past) = (on.1, past, on.0)
+
+    pub hit_end : left ≡ [] → Lowers hit found first (Contains numbers)
+    hit_end none =
+        lowers_weaker hit found first (λ j. (walk.test j ≡ true) × (walk.end ≤ j) × (j < view.noted)) (Contains numbers)
+        (λ j inside is. let on = passing_has walk.test view.noted j (subst (λ ns. Contains ns j) walk.all inside) in either j on (below_or j walk.end)) walk.lowers
+      where
+        either : (j : ℕ) → (j < view.noted) × (walk.test j ≡ true) → (j < walk.end) ⊎ (walk.end ≤ j) → (walk.test j ≡ true) × (walk.end ≤ j) × (j < view.noted)
+        either j on (inl below) = absurd (no_both (walk.test j) on.1 (none_of walk.test walk.end (sym walk.rest ∙ none) j below))
+        either j on (inr past) = (on.1, past, on.0)
 
 -- ---- a point
 

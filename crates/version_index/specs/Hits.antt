@@ -1,6 +1,6 @@
 -- The first write that a read hits.
 use Rattle.std.specs.Prelude.{◌≡◌, ◌<◌, ◌≤◌, ℕ, List, Bool, false, true, Option, Some, None}
-use Rattle.std.specs.Option.{option_map}
+use Rattle.std.specs.Option.{IfSome, IsSomeAnd, option_map}
 use Rattle.rel_base.specs.Tables.{Stamped}
 use Rattle.row_sets.specs.Versions.{Hit}
 use Rattle.row_sets.specs.Watched.{is_watched}
@@ -14,6 +14,17 @@ use Rattle.version_index.specs.View.{told_of}
 abbrev pub IsFirstFrom : {X : Type 0} → (X → Bool) → ℕ → List X → Option ℕ → Type 0
 IsFirstFrom test start xs None = (number : ℕ) → start ≤ number → passes_at test xs number ≡ false
 IsFirstFrom test start xs (Some first) = (start ≤ first) × (passes_at test xs first ≡ true) × ((number : ℕ) → start ≤ number → number < first → passes_at test xs number ≡ false)
+
+-- a number that was found is not above another
+abbrev pub IsUpTo : Option ℕ → ℕ → Type 0
+IsUpTo found number = IsSomeAnd found (λ first. first ≤ number)
+
+-- a number that may have been found gave way to a lesser one or stayed: it is a hit, where it was one before, and no hit that is wanted is
+-- below it
+pub record Lowers (hit : ℕ → Bool) (old new : Option ℕ) (Wanted : ℕ → Type 0) : Type 0 where
+  pub right : IfSome old (λ number. hit number ≡ true) → IfSome new (λ number. hit number ≡ true)
+  pub kept : (number : ℕ) → IsUpTo old number → IsUpTo new number
+  pub reached : (number : ℕ) → Wanted number → hit number ≡ true → IsUpTo new number
 
 -- what is told of a hit is told of the first write that the read hits, where there is one
 abbrev pub TellsFirst : Watch → List Stamped → Option Hit → Type 0

@@ -95,7 +95,7 @@ fn add_all_marked<'a>(
 }
 
 /// The end of a span that may be there.
-fn end(value: &Option<Value>) -> Bound<&Value>
+pub fn end(value: &Option<Value>) -> Bound<&Value>
     ensures { bound_map (λ v. v.now) result ≡ end_of value.now }
 {
     match value {
@@ -105,7 +105,7 @@ fn end(value: &Option<Value>) -> Bound<&Value>
 }
 
 /// Whether no end of a span is above the other.
-fn is_in_order(low: &Option<Value>, high: &Option<Value>) -> bool
+pub fn is_in_order(low: &Option<Value>, high: &Option<Value>) -> bool
     ensures { result ≡ is_forward low.now high.now }
 {
     match (low, high) {

@@ -13,10 +13,10 @@ ghost use Rattle.version_index.specs.Hits.{TellsFirst};
 ghost use Rattle.version_index.specs.Rows.{rows_of_keys};
 ghost use Rattle.version_index.specs.View.{IsAsked, IsView, history_in, told_of};
 
-use crate::hits::{first_hit, first_touching};
+use crate::hits::{first_above_that_hits, first_by_column};
 use crate::keyed::first_late;
 use crate::rows::add_key;
-use crate::span::{column_of, first_above, one_value, rows_of_span};
+use crate::span::{column_of, rows_of_span};
 use crate::view::{Look, TableView};
 use rel_base::{Key, List, NoMemory, Read, Seen, TableDef, Value};
 use row_sets::HitRef;
@@ -71,21 +71,10 @@ fn first_of_span(
     requires span { watch.now.read.now ≡ read.Span view.now.table column low.now high.now }
     ensures { IsFirst (is_watched watch.now) (history_in view.now) result }
 {
-    let own = column_of(view.index.columns.as_slice(), column);
-    match (own, one_value(low, high)) {
-        (Some(own), Some(value)) => first_touching(view, watch, own, value),
-        _ => first_above_that_hits(view, watch),
+    match column_of(view.index.columns.as_slice(), column) {
+        None => first_above_that_hits(view, watch),
+        Some(own) => first_by_column(view, watch, own, low, high),
     }
-}
-
-/// The number of the first write that a read hits, among all writes above a height.
-fn first_above_that_hits(view: &TableView<'_>, watch: &Watch<'_>) -> Option<usize>
-    requires view { IsView view.now }
-    requires watch { IsAsked watch.now.def.now watch.now.read.now view.now }
-    ensures { IsFirst (is_watched watch.now) (history_in view.now) result }
-{
-    let start = first_above(view.entries, watch.after);
-    first_hit(view.entries, watch, start)
 }
 
 /// The number of the least write, by block, position and key, of the blocks above `after` and up to `upto` that a read hits.

@@ -54,18 +54,21 @@ pub fn one_value<'a>(low: &'a Option<Value>, high: &Option<Value>) -> Option<&'a
     }
 }
 
-/// The number of the writes at the start of the log that are in no block above a height. It goes back from the last write.
+/// The number of the writes at the start of the log that are in no block above a height. Each look halves what is left.
 pub fn first_above(entries: &[Entry], height: u64) -> usize
     requires in_order { InOrder (history_of entries.now) }
     ensures bound { result ≤ length entries.now }
     ensures low { All (λ stamped. stamped.0 ≤ height) (take result (history_of entries.now)) }
 {
-    let mut start = entries.len();
-    while start > 0 {
-        if entry_at(entries, start - 1).block <= height {
-            return start;
+    let mut start = 0;
+    let mut end = entries.len();
+    while start < end {
+        let middle = start + (end - start) / 2;
+        if entry_at(entries, middle).block <= height {
+            start = middle + 1;
+        } else {
+            end = middle;
         }
-        start -= 1;
     }
     start
 }

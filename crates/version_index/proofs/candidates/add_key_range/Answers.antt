@@ -1,7 +1,7 @@
 use Rattle.std.proofs.Common.{◌≡◌, ◌∙◌, ◌++◌, ◌∷◌, [], ℕ, List, ap, refl, subst, sym, Some}
 use Rattle.std.specs.BTreeMap.Range.{range_contains}
 use Rattle.std.specs.List.{filter}
-use Rattle.rel_base.specs.Value.{key_cmp}
+use Rattle.rel_base.specs.Value.{key_cmp, key_cmp-total}
 use Rattle.rel_base.specs.declared.value.Value.{Value}
 use Rattle.version_index.specs.Candidates.{LivesBetween, key_end_of}
 use Rattle.version_index.specs.Chains.{first_some, slot_in}
@@ -19,7 +19,7 @@ loop-key-preserved c =
     let done = c.loop-key.invariant in
     let chains = c.args.view.now.index.now.chains in
     let own : slot_in chains.living.entries c.in-Some.key.now ≡ Some c.in-Some.slot.now =
-    found_next chains.living.entries (λ f. range_contains key_cmp c.in_ok-key_end.field-0 c.in_ok-key_end-2.field-0 f.0) done.0 c.next.new.self c.loop-key.key-iterator c.into_iter-key-iterator.result e c.range-key-items.ensures.ordered done.1
+    found_next key_cmp key_cmp-total chains.living.entries (λ f. range_contains key_cmp c.in_ok-key_end.field-0 c.in_ok-key_end-2.field-0 f.0) done.0 c.next.new.self c.loop-key.key-iterator c.into_iter-key-iterator.result e c.range-key-items.ensures.ordered done.1
     (c.into_iter-key-iterator.ensures.into_iter_gives ∙ c.range-key-items.ensures.between tt) c.in-Some.ensures.steps in (
       done.0 ++ e ∷ [],
       one_over done.0 c.loop-key.key-iterator c.next.new.self c.into_iter-key-iterator.result e done.1 c.in-Some.ensures.steps,

@@ -1,10 +1,11 @@
-use Rattle.std.proofs.Common.{◌≤◌, length}
+use Rattle.std.proofs.Common.{◌≤◌, ◌-◌, All, length, take}
+use Rattle.row_sets.specs.Log.{history_of}
 use Rattle.version_index.proofs.span.first_above.Given as goal
 
--- the number is one of the log
+-- what is before the part that is left is low
 abbrev pub invariant-loop-start : goal.invariant-loop-start
-invariant-loop-start l = l.start ≤ length l.entries
+invariant-loop-start l = (l.start ≤ l.end) × (l.end ≤ length l.entries) × All (λ stamped. stamped.0 ≤ l.height) (take l.start (history_of l.entries))
 
--- it goes down
+-- it gets smaller
 abbrev pub decreases-loop-start : goal.decreases-loop-start
-decreases-loop-start l = l.start
+decreases-loop-start l = l.end - l.start

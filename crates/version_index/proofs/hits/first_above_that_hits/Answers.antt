@@ -2,7 +2,7 @@ use Rattle.row_sets.specs.Watched.{is_watched}
 use Rattle.version_index.specs.View.{history_in}
 use Rattle.version_index.proofs.Points.{first_of_from}
 use Rattle.version_index.proofs.Watching.{low_numbers}
-use Rattle.version_index.proofs.reading.first_above_that_hits.Goals as goal
+use Rattle.version_index.proofs.hits.first_above_that_hits.Goals as goal
 
 -- none before the first write above the height is hit
 pub returns : goal.returns
