@@ -1,5 +1,5 @@
 -- The keys of marked slots.
-use Rattle.std.proofs.Common.{◌≡◌, ◌∙◌, ℕ, List, ◌∷◌, ◌++◌, Bool, true, false, Contains, Option, Some, None, refl, ap, arith, sym}
+use Rattle.std.proofs.Common.{◌≡◌, ◌∙◌, ℕ, List, ◌∷◌, ◌++◌, Bool, true, false, Contains, Option, Some, None, refl, ap, arith, subst, sym}
 use Rattle.std.specs.BTreeMap.{BTreeMap, is_at}
 use Rattle.std.specs.List.Sorted.{IsStrictlySortedBy}
 use Rattle.std.specs.Map.{keys_of, lookup}
@@ -14,13 +14,15 @@ use Rattle.rel_base.specs.Tables.{Stamped}
 use Rattle.rel_base.specs.Value.{key_cmp, key_cmp-exact, value_cmp, value_cmp-exact, value_cmp-total}
 use Rattle.rel_base.specs.declared.value.Value.{Value}
 use Rattle.rel_base.proofs.Bits.{is_Equal}
-use Rattle.version_index.specs.Candidates.{HasSlot, IsBetween, IsMarked, IsMarkedBetween, LivesBetween, end_of, key_end_of}
+use Rattle.version_index.specs.Candidates.{HasSlot, IsBetween, IsListedAbove, IsMarked, IsMarkedBetween, IsTouchedAbove, LivesBetween, end_of, key_end_of}
 use Rattle.version_index.specs.Columns.{IsColumn, is_marked, items_in, mark_in, touched_at, touches_at}
 use Rattle.version_index.specs.Numbers.{ArePassing}
 use Rattle.version_index.specs.declared.chains.Chains.{Chains}
 use Rattle.version_index.specs.declared.column.Column.{Column}
+use Rattle.version_index.specs.View.{history_in}
 use Rattle.version_index.specs.declared.view.TableView.{TableView}
 use Rattle.version_index.proofs.Adding.{ByOne}
+use Rattle.version_index.proofs.Passing.{passing_all}
 use Rattle.version_index.proofs.Ranges.{found_next, in_key_range, in_range, passes_filter, some_there}
 
 -- a key has a slot that has a mark
@@ -87,3 +89,22 @@ pub numbers_pass : (table : ℕ) (history : List Stamped) (noted : ℕ) (chains 
     → IsStrictlySortedBy value_cmp (keys_of column.touched.entries) → done ++ left ≡ all → all ≡ filter p column.touched.entries → left ≡ e ∷ rest → ArePassing noted e.1.items
 numbers_pass table history noted chains column is p done rest left all e rise whole kept next =
     (touches_at table column.column e.0 history, sym (ap items_in (found_next value_cmp value_cmp-total column.touched.entries p done rest left all e rise whole kept next)) ∙ is.touched e.0)
+
+-- a key of a write that touched a value is one of the writes of the numbers at it
+pub listed_at : (view : TableView) (column : Column) (value : Value) (height : ℕ) (key : List Value) → IsColumn view.table (history_in view) view.noted view.index.now.chains column
+    → IsTouchedAbove view column.column value height key → IsListedAbove view (touched_at column.touched.entries value) height key
+listed_at view column value height key is above = (
+  above.0,
+  above.1,
+  subst (λ numbers. Contains numbers above.0) (sym (is.touched value)) (passing_all (touches_at view.table column.column value (history_in view)) view.noted above.0 above.2 above.5),
+  above.3,
+  above.4,
+  above.6,
+)
+
+-- and of one of the entries between two ends, where the value lies there
+pub by_listed : (view : TableView) (column : Column) (low high : Option Value) (value : Value) (height : ℕ) (key : List Value) → IsBetween low high value → IsListedAbove view (touched_at column.touched.entries value) height key
+    → ByOne (filter (λ e. range_contains value_cmp (end_of low) (end_of high) e.0) column.touched.entries) (λ e k. IsListedAbove view e.1.items height k) key
+by_listed view column low high value height key between above =
+    let found = by_numbers column.touched.entries low high value above.0 between above.2 in
+    (found.0, found.1, (above.0, above.1, found.2, above.3, above.4, above.5))

@@ -1,5 +1,5 @@
 -- The keys that are offered for a span: by slots, by the numbers of writes and by values.
-use Rattle.std.proofs.Common.{◌≡◌, ◌∙◌, ℕ, ◌+◌, ◌<◌, ◌≤◌, ◌⊎◌, inl, inr, List, [], ◌∷◌, ◌++◌, Bool, true, Option, Some, None, is_some, refl, ap, sym, subst, arith, length, slice_get, take}
+use Rattle.std.proofs.Common.{◌≡◌, ◌∙◌, ℕ, ◌+◌, ◌<◌, ◌≤◌, ◌⊎◌, inl, inr, List, [], ◌∷◌, ◌++◌, Bool, true, Contains, Option, Some, None, is_some, refl, ap, sym, subst, arith, length, slice_get, take}
 use Rattle.std.specs.Option.{IsSomeAnd}
 use Rattle.std.proofs.lemmas.List.{length-map}
 use Rattle.rel_base.specs.Tables.{Stamped}
@@ -7,10 +7,9 @@ use Rattle.rel_base.specs.declared.value.Value.{Value}
 use Rattle.rel_base.proofs.Bits.{no_both}
 use Rattle.row_sets.specs.Log.{stamped_of}
 use Rattle.row_sets.specs.declared.entry.Entry.{Entry}
-use Rattle.version_index.specs.Candidates.{HasSlot, HasSlotAt, IsKeyOf, IsOwnKeyOf, IsTouchedAbove, IsWrittenFrom}
+use Rattle.version_index.specs.Candidates.{HasSlot, HasSlotAt, IsKeyOf, IsListedAbove, IsOwnKeyOf, IsWrittenFrom}
 use Rattle.version_index.specs.Chain.{is_on}
 use Rattle.version_index.specs.Chains.{lists_of, list_or_none, numbers_at, slot_of}
-use Rattle.version_index.specs.Columns.{touches_at}
 use Rattle.version_index.specs.Index.{row_by}
 use Rattle.version_index.specs.Left.{left_at}
 use Rattle.version_index.specs.Log.{InOrder}
@@ -19,7 +18,7 @@ use Rattle.version_index.specs.View.{IsView, history_in}
 use Rattle.version_index.specs.declared.chains.Chains.{Chains}
 use Rattle.version_index.specs.declared.view.TableView.{TableView}
 use Rattle.version_index.proofs.Logged.{blocks_rise, get_history, same_ref}
-use Rattle.version_index.proofs.Passing.{IsTop, left_by_numbers, none_of, not_empty, top_of}
+use Rattle.version_index.proofs.Passing.{IsTop, left_by_numbers, none_of, not_empty, passing_has, top_of}
 use Rattle.version_index.proofs.Points.{below_or, some_at, some_weaker}
 use Rattle.version_index.proofs.Slots.{below_got}
 
@@ -78,37 +77,37 @@ module _ (view : TableView) (is : IsView view) where
       some_weaker (λ s. is_on (view.table, told.key) s ≡ true) (λ s. Some slot ≡ slot_of chains s.1.write.key) (slice_get history last)
       (λ s on. sym (ap (λ r. slot_of chains r.1) (same_ref (view.table, told.key) s on) ∙ told.own)) (some_at (is_on (view.table, told.key)) history last told.on)
 
--- ---- by a value
+-- ---- by numbers that pass a test
 
--- a noted write on the key from a number on touched a value
-abbrev pub TouchedFrom : TableView → ℕ → Value → ℕ → List Value → Type 0
-TouchedFrom view column value start key =
-    (number : ℕ) × (stamped : Stamped) × (start ≤ number) × (number < view.noted) × (slice_get (history_in view) number ≡ Some stamped)
-    × (touches_at view.table column value (history_in view) number ≡ true) × (stamped.1.write.key ≡ key)
+-- a noted write on the key from a number on passed a test
+abbrev pub PassedFrom : TableView → (ℕ → Bool) → ℕ → List Value → Type 0
+PassedFrom view test start key =
+    (number : ℕ) × (stamped : Stamped) × (start ≤ number) × (number < view.noted) × (slice_get (history_in view) number ≡ Some stamped) × (test number ≡ true) × (stamped.1.write.key ≡ key)
 
-module _ (view : TableView) (column : ℕ) (value : Value) where
-  abbrev test : ℕ → Bool
-  test = touches_at view.table column value (history_in view)
-
+module _ (view : TableView) (test : ℕ → Bool) where
   -- none is noted from there on
-  pub touched_end : (key : List Value) → TouchedFrom view column value view.noted key → ⊥
-  touched_end key from = absurd (omega (arith, from.2, from.3))
+  pub passed_end : (key : List Value) → PassedFrom view test view.noted key → ⊥
+  passed_end key from = absurd (omega (arith, from.2, from.3))
 
-  module _ (end last : ℕ) (rest : List ℕ) (left : rest ++ last ∷ [] ≡ passing (touches_at view.table column value (history_in view)) end) where
+  -- what is one of the numbers passed the test
+  listed : (numbers : List ℕ) → numbers ≡ passing test view.noted → (number : ℕ) → Contains numbers number → (number < view.noted) × (test number ≡ true)
+  listed numbers all number inside = passing_has test view.noted number (subst (λ ns. Contains ns number) all inside)
+
+  module _ (end last : ℕ) (rest : List ℕ) (left : rest ++ last ∷ [] ≡ passing test end) where
     top : IsTop test end last rest
     top = top_of test end last rest (sym left)
 
-    pub touched_below : last < end
-    touched_below = top.below
+    pub passed_below : last < end
+    passed_below = top.below
 
-    pub touched_rest : rest ≡ passing test last
-    touched_rest = top.rest_is
+    pub passed_rest : rest ≡ passing test last
+    passed_rest = top.rest_is
 
     -- one more write
-    pub touched_back : (key : List Value) → TouchedFrom view column value last key → TouchedFrom view column value end key ⊎ IsKeyOf view last key
-    touched_back key from = either (below_or last from.0) (below_or from.0 end)
+    pub passed_back : (key : List Value) → PassedFrom view test last key → PassedFrom view test end key ⊎ IsKeyOf view last key
+    passed_back key from = either (below_or last from.0) (below_or from.0 end)
       where
-        either : (last < from.0) ⊎ (from.0 ≤ last) → (from.0 < end) ⊎ (end ≤ from.0) → TouchedFrom view column value end key ⊎ IsKeyOf view last key
+        either : (last < from.0) ⊎ (from.0 ≤ last) → (from.0 < end) ⊎ (end ≤ from.0) → PassedFrom view test end key ⊎ IsKeyOf view last key
         either w (inr past) = inl (from.0, from.1, past, from.3, from.4, from.5, from.6)
         either (inl up) (inl below) = absurd (no_both (test from.0) from.5 (top.none from.0 up below))
         either (inr down) (inl below) =
@@ -117,25 +116,31 @@ module _ (view : TableView) (column : ℕ) (value : Value) where
             inr (subst (λ found. IsSomeAnd found (λ stamped. stamped.1.write.key ≡ key)) (sym (ap (slice_get (history_in view)) (sym same) ∙ from.4)) from.6)
 
     -- where it is in no block above a height, those above it were walked
-    pub touched_stop : (height : ℕ) (entry : Entry) → InOrder (history_in view) → slice_get view.entries.now last ≡ Some entry → entry.block ≤ height → (key : List Value) → IsTouchedAbove view column value height key
-        → TouchedFrom view column value end key
-    touched_stop height entry ordered there low key above = either (below_or last above.0) (below_or above.0 end)
+    pub passed_stop : (numbers : List ℕ) → numbers ≡ passing test view.noted → (height : ℕ) (entry : Entry) → InOrder (history_in view) → slice_get view.entries.now last ≡ Some entry → entry.block ≤ height → (key : List Value)
+        → IsListedAbove view numbers height key → PassedFrom view test end key
+    passed_stop numbers all height entry ordered there low key above = either (below_or last above.0) (below_or above.0 end)
       where
-        either : (last < above.0) ⊎ (above.0 ≤ last) → (above.0 < end) ⊎ (end ≤ above.0) → TouchedFrom view column value end key
-        either w (inr past) = (above.0, above.1, past, above.2, above.3, above.5, above.6)
-        either (inl up) (inl below) = absurd (no_both (test above.0) above.5 (top.none above.0 up below))
+        on : (above.0 < view.noted) × (test above.0 ≡ true)
+        on = listed numbers all above.0 above.2
+
+        either : (last < above.0) ⊎ (above.0 ≤ last) → (above.0 < end) ⊎ (end ≤ above.0) → PassedFrom view test end key
+        either w (inr past) = (above.0, above.1, past, on.0, above.3, on.1, above.5)
+        either (inl up) (inl below) = absurd (no_both (test above.0) on.1 (top.none above.0 up below))
         either (inr down) w =
             let rise = blocks_rise (history_in view) above.0 last above.1 (stamped_of entry) ordered above.3 (get_history view.entries.now last entry there) down in
             let high = above.4 in
             absurd (omega (arith, rise, high, low))
 
   -- where none is left, all were walked
-  pub touched_all : (end height : ℕ) → passing test end ≡ [] → (key : List Value) → IsTouchedAbove view column value height key → TouchedFrom view column value end key
-  touched_all end height none key above = either (below_or above.0 end)
+  pub passed_all : (numbers : List ℕ) → numbers ≡ passing test view.noted → (end height : ℕ) → passing test end ≡ [] → (key : List Value) → IsListedAbove view numbers height key → PassedFrom view test end key
+  passed_all numbers all end height none key above = either (below_or above.0 end)
     where
-      either : (above.0 < end) ⊎ (end ≤ above.0) → TouchedFrom view column value end key
-      either (inl below) = absurd (no_both (test above.0) above.5 (none_of test end none above.0 below))
-      either (inr past) = (above.0, above.1, past, above.2, above.3, above.5, above.6)
+      on : (above.0 < view.noted) × (test above.0 ≡ true)
+      on = listed numbers all above.0 above.2
+
+      either : (above.0 < end) ⊎ (end ≤ above.0) → PassedFrom view test end key
+      either (inl below) = absurd (no_both (test above.0) on.1 (none_of test end none above.0 below))
+      either (inr past) = (above.0, above.1, past, on.0, above.3, on.1, above.5)
 
 -- ---- by the numbers of writes
 

@@ -25,7 +25,7 @@ use Rattle.version_index.specs.Chains.{first_some, lives_in, slot_in, slot_of}
 use Rattle.version_index.specs.Columns.{IsColumn, cell, has, touches, touches_at}
 use Rattle.version_index.specs.Index.{HasColumns, index_columns}
 use Rattle.version_index.specs.Left.{left_at}
-use Rattle.version_index.specs.Span.{HasCellAt, HasKeyAt, IsChangedAbove, IsChangedBetween, IsChangedBy, IsWantedBy}
+use Rattle.version_index.specs.Span.{HasCellAt, HasKeyAt, IsChangedAbove, IsChangedBetween, IsWantedBy}
 use Rattle.version_index.specs.View.{IsAsked, IsView, history_in}
 use Rattle.version_index.specs.declared.chains.Chains.{Chains}
 use Rattle.version_index.specs.declared.column.Column.{Column}
@@ -51,7 +51,7 @@ pinned a b one other = go (value_cmp a b) refl one
     go Greater is down = cc
 
 -- what lies between ends of one value is that value
-between_one : (low high : Option Value) (one value : Value) → only_value low high ≡ Some one → IsBetween low high value → value_eq one value ≡ true
+pub between_one : (low high : Option Value) (one value : Value) → only_value low high ≡ Some one → IsBetween low high value → value_eq one value ≡ true
 between_one None high one value is between = cc
 between_one (Some low) None one value is between = cc
 between_one (Some low) (Some high) one value is between = go (value_eq low high) refl is
@@ -104,9 +104,8 @@ module _ (view : TableView) (is : IsView view) (height : ℕ) where
           own.living key slot.0 value slot.1 ∙ ap (λ r. has value (cell column.column r)) left ∙ ap (has value) here ∙ value_itself value,
         )
 
-    touched_back : (row : List Value) (value one : Value) → cell column.column (Some row) ≡ Some value → value_eq one value ≡ true → TookBack (view.table, key) height history row view.noted
-        → IsTouchedAbove view column.column one height key
-    touched_back row value one here same took = (
+    touched_back : (row : List Value) (value : Value) → cell column.column (Some row) ≡ Some value → TookBack (view.table, key) height history row view.noted → IsTouchedAbove view column.column value height key
+    touched_back row value here took = (
       took.at,
       took.stamped,
       took.before,
@@ -119,27 +118,12 @@ module _ (view : TableView) (is : IsView view) (height : ℕ) where
         ref_is : write_ref took.stamped.1.write ≡ (view.table, key)
         ref_is = same_ref (view.table, key) took.stamped took.on
 
-        hits : touches_at view.table column.column one history took.at ≡ true
+        hits : touches_at view.table column.column value history took.at ≡ true
         hits =
-            ap (touches view.table column.column one (take took.at history)) took.there
+            ap (touches view.table column.column value (take took.at history)) took.there
             ∙ both_true (view.table == took.stamped.1.write.table) _ ((Decides-eqb view.table took.stamped.1.write.table).1 (sym (ap (λ r. r.0) ref_is)))
-            (ap (λ b. b || has one (cell column.column took.stamped.1.write.before) || has one (cell column.column took.stamped.1.write.after))
-            (ap (λ r. has one (cell column.column (left_at r (take took.at history)))) ref_is ∙ ap (λ r. has one (cell column.column r)) took.found ∙ ap (has one) here ∙ same))
-
-    changed : (row : List Value) (value : Value) → cell column.column (Some row) ≡ Some value → IsBetween low high value → TookBack (view.table, key) height history row view.noted
-        → IsChangedBetween view column.column low high height key
-    changed row value here between took = go (only_value low high) refl
-      where
-        go : (one : Option Value) → only_value low high ≡ one → IsChangedBy one view column.column height key
-        go None none = let own_ref = same_ref (view.table, key) took.stamped took.on in (took.at, took.stamped, took.there, ap (λ r. r.0) own_ref, ap (λ r. r.1) own_ref, inl took.above)
-        go (Some one) some = inl (touched_back row value one here (between_one low high one value some between) took)
-
-    tail_changed : IsWrittenFrom view view.noted key → IsChangedBetween view column.column low high height key
-    tail_changed written = go (only_value low high)
-      where
-        go : (one : Option Value) → IsChangedBy one view column.column height key
-        go None = (written.0, written.1, written.3, written.4, written.5, inr written.2)
-        go (Some one) = inr written
+            (ap (λ b. b || has value (cell column.column took.stamped.1.write.before) || has value (cell column.column took.stamped.1.write.after))
+            (ap (λ r. has value (cell column.column (left_at r (take took.at history)))) ref_is ∙ ap (λ r. has value (cell column.column r)) took.found ∙ ap (has value) here ∙ value_itself value))
 
     pub cell_found : HasCellAt view column.column low high height key → IsMarkedBetween view column.living.entries low high key ⊎ IsChangedBetween view column.column low high height key
     cell_found wanted = go (seen_story view is height key wanted.seen wanted.is)
@@ -147,8 +131,15 @@ module _ (view : TableView) (is : IsView view) (height : ℕ) where
         go : Story (view.table, key) height history wanted.seen.row view.noted ⊎ IsWrittenFrom view view.noted key
             → IsMarkedBetween view column.living.entries low high key ⊎ IsChangedBetween view column.column low high height key
         go (inl (inl left)) = inl (marked_still wanted.seen.row wanted.value wanted.has wanted.between left)
-        go (inl (inr took)) = inr (changed wanted.seen.row wanted.value wanted.has wanted.between took)
-        go (inr written) = inr (tail_changed written)
+        go (inl (inr took)) = inr (wanted.value, wanted.between, inl (touched_back wanted.seen.row wanted.value wanted.has took))
+        go (inr written) = inr (wanted.value, wanted.between, inr written)
+
+  -- a key that changed so was written above the height or in the tail
+  pub changed_above : (column : ℕ) (low high : Option Value) (key : List Value) → IsChangedBetween view column low high height key → IsChangedAbove view height key
+  changed_above column low high key (value, between, inl above) =
+      let touches_it = sym (ap (touches view.table column value (take above.0 history)) above.3) ∙ above.5 in
+      (above.0, above.1, above.3, sym ((Decides-eqb view.table above.1.1.write.table).0 (first_true (view.table == above.1.1.write.table) _ touches_it)), above.6, inl above.4)
+  changed_above column low high key (value, between, inr written) = (written.0, written.1, written.3, written.4, written.5, inr written.2)
 
   -- ---- by the keys
 

@@ -1,5 +1,5 @@
 -- Keys that may have a row that a span covers.
-use Rattle.std.specs.Prelude.{◌≡◌, ◌<◌, ◌≤◌, ℕ, All, Bool, List, [], ◌∷◌, Option, Some, None, cond, is_some, slice_get, take, true}
+use Rattle.std.specs.Prelude.{◌≡◌, ◌<◌, ◌≤◌, ℕ, All, Bool, List, [], ◌∷◌, Contains, Option, Some, None, cond, is_some, slice_get, take, true}
 use Rattle.std.specs.Borrow.{Bor}
 use Rattle.std.specs.List.{list_any}
 use Rattle.std.specs.declared.ops.Bound.{Bound}
@@ -78,6 +78,11 @@ abbrev pub IsTouchedAbove : TableView → ℕ → Value → ℕ → List Value �
 IsTouchedAbove view column value height key =
     (number : ℕ) × (stamped : Stamped) × (number < view.noted) × (slice_get (history_in view) number ≡ Some stamped) × (height < stamped.0)
     × (touches_at view.table column value (history_in view) number ≡ true) × (stamped.1.write.key ≡ key)
+
+-- a write on the key in a block above a height is one of some numbers
+abbrev pub IsListedAbove : TableView → List ℕ → ℕ → List Value → Type 0
+IsListedAbove view numbers height key =
+    (number : ℕ) × (stamped : Stamped) × Contains numbers number × (slice_get (history_in view) number ≡ Some stamped) × (height < stamped.0) × (stamped.1.write.key ≡ key)
 
 -- an end of a span
 abbrev pub end_of : Option Value → Bound Value

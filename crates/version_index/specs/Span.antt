@@ -6,7 +6,7 @@ use Rattle.rel_base.specs.Tables.{Stamped, tables_at}
 use Rattle.rel_base.specs.Value.{key_eq}
 use Rattle.rel_base.specs.declared.access.Seen.{Seen}
 use Rattle.rel_base.specs.declared.value.Value.{Value}
-use Rattle.version_index.specs.Candidates.{IsBetween, IsTouchedAbove, IsWrittenFrom, only_value}
+use Rattle.version_index.specs.Candidates.{IsBetween, IsTouchedAbove, IsWrittenFrom}
 use Rattle.version_index.specs.Columns.{cell}
 use Rattle.version_index.specs.View.{history_in}
 use Rattle.version_index.specs.declared.view.TableView.{TableView}
@@ -21,13 +21,9 @@ IsChangedAbove view height key =
 abbrev pub IsTouchedSince : TableView → ℕ → Value → ℕ → List Value → Type 0
 IsTouchedSince view column value height key = IsTouchedAbove view column value height key ⊎ IsWrittenFrom view view.noted key
 
--- the same, where the value may be none, and then any write above the height counts
-abbrev pub IsChangedBy : Option Value → TableView → ℕ → ℕ → List Value → Type 0
-IsChangedBy None view column height key = IsChangedAbove view height key
-IsChangedBy (Some value) view column height key = IsTouchedSince view column value height key
-
+-- the same of a value between two ends
 abbrev pub IsChangedBetween : TableView → ℕ → Option Value → Option Value → ℕ → List Value → Type 0
-IsChangedBetween view column low high height key = IsChangedBy (only_value low high) view column height key
+IsChangedBetween view column low high height key = (value : Value) × IsBetween low high value × IsTouchedSince view column value height key
 
 -- the row of a key after the block of a height has a value of a column between two ends
 pub record HasCellAt (view : TableView) (column : ℕ) (low high : Option Value) (height : ℕ) (key : List Value) : Type 0 where

@@ -2,11 +2,10 @@
 
 ghost use Rattle.std.specs.Prelude.{◌≡◌, ◌<◌, ◌∷◌, [], IfOk, OnOk, length, true};
 ghost use Rattle.std.specs.Range.Bound.{bound_map};
-ghost use Rattle.version_index.specs.Candidates.{Adds, HasSlot, HasSlotAt, IsKeyOf, IsMarked, IsMarkedBetween, IsOwnKeyOf, IsTouchedAbove, IsWrittenFrom, LivesBetween, end_of, is_forward, key_end_of};
-ghost use Rattle.version_index.specs.Columns.{IsColumn};
-ghost use Rattle.version_index.specs.View.{IsView, history_in};
+ghost use Rattle.version_index.specs.Candidates.{Adds, HasSlot, HasSlotAt, IsKeyOf, IsListedAbove, IsMarked, IsMarkedBetween, IsOwnKeyOf, IsWrittenFrom, LivesBetween, end_of, is_forward, key_end_of};
+ghost use Rattle.version_index.specs.Numbers.{ArePassing};
+ghost use Rattle.version_index.specs.View.{IsView};
 
-use crate::column::Column;
 use crate::living::{Living, Marks};
 use crate::view::TableView;
 use rel_base::{Key, NoMemory, Twin, Value};
@@ -115,7 +114,7 @@ pub fn is_in_order(low: &Option<Value>, high: &Option<Value>) -> bool
 }
 
 /// Adds the keys of the slots that are marked at a value between the ends of a span, which is in order.
-fn add_range<'a>(
+pub fn add_living<'a>(
     view: &TableView<'a>,
     found: &mut Vec<Candidate<'a>>,
     living: &Living,
@@ -130,24 +129,6 @@ fn add_range<'a>(
         add_all_marked(view, found, marks)?;
     }
     Ok(())
-}
-
-/// Adds the keys of the slots that are marked at a value between the ends of a span.
-pub fn add_living<'a>(
-    view: &TableView<'a>,
-    found: &mut Vec<Candidate<'a>>,
-    living: &Living,
-    low: &Option<Value>,
-    high: &Option<Value>,
-) -> Result<(), NoMemory>
-    requires { IsView view.now }
-    ensures { OnOk result (Adds view.now.index.now.chains found.old.items found.new.items (IsMarkedBetween view.now living.now.entries low.now high.now)) }
-{
-    if is_in_order(low, high) {
-        add_range(view, found, living, low, high)
-    } else {
-        Ok(())
-    }
 }
 
 /// The key of one value.
@@ -169,7 +150,7 @@ fn key_end(alloc: Global, value: &Option<Value>) -> Result<Bound<Key>, NoMemory>
 }
 
 /// Adds the keys of one value with a row that lie between the ends of a span, which is in order.
-fn add_key_range<'a>(
+pub fn add_keys<'a>(
     alloc: Global,
     view: &TableView<'a>,
     found: &mut Vec<Candidate<'a>>,
@@ -185,24 +166,6 @@ fn add_key_range<'a>(
         found.push((key, Some(*slot)))?;
     }
     Ok(())
-}
-
-/// Adds the keys of one value with a row that lie between the ends of a span.
-pub fn add_keys<'a>(
-    alloc: Global,
-    view: &TableView<'a>,
-    found: &mut Vec<Candidate<'a>>,
-    low: &Option<Value>,
-    high: &Option<Value>,
-) -> Result<(), NoMemory>
-    requires { IsView view.now }
-    ensures { OnOk result (Adds view.now.index.now.chains found.old.items found.new.items (LivesBetween view.now low.now high.now)) }
-{
-    if is_in_order(low, high) {
-        add_key_range(alloc, view, found, low, high)
-    } else {
-        Ok(())
-    }
 }
 
 /// Adds the key of the write of a number, where it is on the table.
@@ -235,19 +198,18 @@ pub fn add_from<'a>(
     Ok(())
 }
 
-/// Adds the keys of the noted writes that touched a value of a column, in blocks above a height.
-pub fn add_touched<'a>(
+/// Adds the keys of noted writes in blocks above a height, by the rising numbers of the writes.
+pub fn add_listed<'a>(
     view: &TableView<'a>,
     found: &mut Vec<Candidate<'a>>,
-    column: &Column,
-    value: &Value,
+    numbers: &[usize],
     height: u64,
 ) -> Result<(), NoMemory>
     requires view { IsView view.now }
-    requires column { IsColumn view.now.table (history_in view.now) view.now.noted view.now.index.now.chains column.now }
-    ensures { OnOk result (Adds view.now.index.now.chains found.old.items found.new.items (IsTouchedAbove view.now column.now.column value.now height)) }
+    requires numbers { ArePassing view.now.noted numbers.now }
+    ensures { OnOk result (Adds view.now.index.now.chains found.old.items found.new.items (IsListedAbove view.now numbers.now height)) }
 {
-    let mut left = column.numbers(value);
+    let mut left = numbers;
     while let Some((number, earlier)) = left.split_last() {
         if entry_at(view.entries, *number).block <= height {
             return Ok(());

@@ -8,14 +8,14 @@ ghost use Rattle.rel_base.specs.Value.{key_cmp};
 ghost use Rattle.rel_base.specs.declared.access.Read.TheVariants as read;
 ghost use Rattle.rel_base.specs.declared.value.Value.{Value as Cell};
 ghost use Rattle.row_sets.specs.Log.{history_of};
-ghost use Rattle.version_index.specs.Candidates.{Adds, IsCandidate, has_key, only_value};
+ghost use Rattle.version_index.specs.Candidates.{Adds, IsCandidate, has_key, is_forward, only_value};
 ghost use Rattle.version_index.specs.Columns.{IsColumn};
 ghost use Rattle.version_index.specs.Log.{InOrder};
 ghost use Rattle.version_index.specs.Rows.{IsValueOf, rows_of_keys};
 ghost use Rattle.version_index.specs.Span.{HasCellAt, HasKeyAt, IsChangedAbove, IsChangedBetween, IsTouchedSince, IsWantedBy, distinct, is_again, keys_in};
 ghost use Rattle.version_index.specs.View.{IsAsked, IsView, history_in};
 
-use crate::candidates::{Candidate, add_from, add_keys, add_living, add_touched};
+use crate::candidates::{Candidate, add_from, add_keys, add_listed, add_living, end, is_in_order};
 use crate::column::Column;
 use crate::index::TableIndex;
 use crate::rows::add_key_with;
@@ -98,12 +98,38 @@ fn add_touching<'a>(
     requires column { IsColumn view.now.table (history_in view.now) view.now.noted view.now.index.now.chains column.now }
     ensures { OnOk result (Adds view.now.index.now.chains found.old.items found.new.items (IsTouchedSince view.now column.now.column value.now height)) }
 {
-    add_touched(view, found, column, value, height)?;
+    add_listed(view, found, column.numbers(value), height)?;
     add_from(view, found, view.noted)
 }
 
-/// Adds the keys that may have lost a row between the ends of a span since the block of a height: those that were written since,
-/// where the span has one value, by a write that touched it.
+/// Adds the keys of the noted writes in blocks above a height that touched a value between the ends of a span, which are in order, and of
+/// those of the tail. Where there are more such values than writes above the height, it adds the keys of all these writes.
+fn add_between<'a>(
+    view: &TableView<'a>,
+    found: &mut Vec<Candidate<'a>>,
+    column: &Column,
+    ends: Ends<'_>,
+    height: u64,
+) -> Result<(), NoMemory>
+    requires view { IsView view.now }
+    requires column { IsColumn view.now.table (history_in view.now) view.now.noted view.now.index.now.chains column.now }
+    requires forward { is_forward ends.low.now ends.high.now ≡ true }
+    ensures { OnOk result (Adds view.now.index.now.chains found.old.items found.new.items (IsChangedBetween view.now column.now.column ends.entry.low.now ends.entry.high.now height)) }
+{
+    let start = first_above(view.entries, height);
+    let mut spare = view.entries.len() - start;
+    for (_, numbers) in column.touched.range((end(ends.low), end(ends.high))) {
+        if spare == 0 {
+            return add_above(view, found, height);
+        }
+        spare -= 1;
+        add_listed(view, found, numbers.as_slice(), height)?;
+    }
+    add_from(view, found, view.noted)
+}
+
+/// Adds the keys that may have lost a row between the ends of a span, which are in order, since the block of a height: those that were
+/// written since by a write that touched a value between the ends.
 fn add_since<'a>(
     view: &TableView<'a>,
     found: &mut Vec<Candidate<'a>>,
@@ -113,16 +139,17 @@ fn add_since<'a>(
 ) -> Result<(), NoMemory>
     requires view { IsView view.now }
     requires column { IsColumn view.now.table (history_in view.now) view.now.noted view.now.index.now.chains column.now }
+    requires forward { is_forward ends.low.now ends.high.now ≡ true }
     ensures { OnOk result (Adds view.now.index.now.chains found.old.items found.new.items (IsChangedBetween view.now column.now.column ends.entry.low.now ends.entry.high.now height)) }
 {
     match one_value(ends.low, ends.high) {
-        None => add_above(view, found, height),
+        None => add_between(view, found, column, ends, height),
         Some(value) => add_touching(view, found, column, value, height),
     }
 }
 
-/// Adds the keys whose row after the block of a height may have a value of a column between the ends of a span, by the index of the
-/// column.
+/// Adds the keys whose row after the block of a height may have a value of a column between the ends of a span, which are in order, by the
+/// index of the column.
 fn add_by_column<'a>(
     view: &TableView<'a>,
     found: &mut Vec<Candidate<'a>>,
@@ -132,13 +159,14 @@ fn add_by_column<'a>(
 ) -> Result<(), NoMemory>
     requires view { IsView view.now }
     requires column { IsColumn view.now.table (history_in view.now) view.now.noted view.now.index.now.chains column.now }
+    requires forward { is_forward ends.low.now ends.high.now ≡ true }
     ensures { OnOk result (Adds view.now.index.now.chains found.old.items found.new.items (HasCellAt view.now column.now.column ends.entry.low.now ends.entry.high.now height)) }
 {
     add_living(view, found, &column.living, ends.low, ends.high)?;
     add_since(view, found, column, ends, height)
 }
 
-/// Adds the keys of one value between the ends of a span that may have a row after the block of a height.
+/// Adds the keys of one value between the ends of a span, which are in order, that may have a row after the block of a height.
 fn add_by_key<'a>(
     alloc: Global,
     view: &TableView<'a>,
@@ -146,7 +174,8 @@ fn add_by_key<'a>(
     ends: Ends<'_>,
     height: u64,
 ) -> Result<(), NoMemory>
-    requires { IsView view.now }
+    requires view { IsView view.now }
+    requires forward { is_forward ends.low.now ends.high.now ≡ true }
     ensures { OnOk result (Adds view.now.index.now.chains found.old.items found.new.items (HasKeyAt view.now ends.entry.low.now ends.entry.high.now height)) }
 {
     add_keys(alloc, view, found, ends.low, ends.high)?;
@@ -189,6 +218,30 @@ fn rows_of_found(
     Ok(rows)
 }
 
+/// The keys whose row after the block of a height may have a value of a column between the ends of a span, which are in order; the keys
+/// are in order too.
+fn keys_between<'a>(
+    alloc: Global,
+    view: &TableView<'a>,
+    column: u32,
+    ends: Ends<'_>,
+    height: u64,
+) -> Result<Vec<Candidate<'a>>, NoMemory>
+    requires view { IsView view.now }
+    requires forward { is_forward ends.low.now ends.high.now ≡ true }
+    ensures found { IfOk result (λ found. All (IsCandidate view.now.index.now.chains) found.items) }
+    ensures rise { IfOk result (λ found. IsStrictlySortedBy key_cmp (distinct None (keys_in found.items))) }
+    ensures all { IfOk result (λ found. (key : List Cell) → IsWantedBy view.now column ends.entry.low.now ends.entry.high.now height key → has_key found.items key ≡ true) }
+{
+    let mut found = Vec::new(alloc);
+    match column_of(view.index.columns.as_slice(), column) {
+        None => add_by_key(alloc, view, &mut found, ends, height)?,
+        Some(own) => add_by_column(view, &mut found, own, ends, height)?,
+    }
+    found.sort()?;
+    Ok(found)
+}
+
 /// The keys whose row after the block of a height may have a value of a column between the ends of a span, in order.
 fn keys_of_span<'a>(
     alloc: Global,
@@ -202,13 +255,11 @@ fn keys_of_span<'a>(
     ensures rise { IfOk result (λ found. IsStrictlySortedBy key_cmp (distinct None (keys_in found.items))) }
     ensures all { IfOk result (λ found. (key : List Cell) → IsWantedBy view.now column ends.entry.low.now ends.entry.high.now height key → has_key found.items key ≡ true) }
 {
-    let mut found = Vec::new(alloc);
-    match column_of(view.index.columns.as_slice(), column) {
-        None => add_by_key(alloc, view, &mut found, ends, height)?,
-        Some(own) => add_by_column(view, &mut found, own, ends, height)?,
+    if is_in_order(ends.low, ends.high) {
+        keys_between(alloc, view, column, ends, height)
+    } else {
+        Ok(Vec::new(alloc))
     }
-    found.sort()?;
-    Ok(found)
 }
 
 /// The rows after the block of a height whose value in a column lies between the ends of a span, in the order of their keys.

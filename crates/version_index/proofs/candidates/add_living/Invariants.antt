@@ -3,7 +3,7 @@ use Rattle.std.specs.BTreeMap.{BTreeMap}
 use Rattle.rel_base.specs.declared.value.Value.{Value}
 use Rattle.version_index.specs.Candidates.{Adds, IsMarked}
 use Rattle.version_index.proofs.Adding.{ByOne}
-use Rattle.version_index.proofs.candidates.add_range.Given as goal
+use Rattle.version_index.proofs.candidates.add_living.Given as goal
 
 -- the keys of the slots that are marked at the values before those that are left were added
 abbrev pub invariant-loop-marks : goal.invariant-loop-marks
