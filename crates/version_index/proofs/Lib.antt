@@ -27,6 +27,7 @@ pub mod Story
 pub mod Wanted
 pub mod Lowering
 pub mod Watching
+pub mod OnKeys
 pub mod Answered
 pub mod Sought
 pub mod Ordered

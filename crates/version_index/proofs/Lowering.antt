@@ -6,7 +6,7 @@ use Rattle.version_index.specs.Chain.{IsFirst}
 use Rattle.version_index.specs.Hits.{IsFirstFrom, IsUpTo, Lowers}
 use Rattle.version_index.specs.Numbers.{least_with, lesser, passes_at}
 use Rattle.version_index.proofs.Adding.{ByOne}
-use Rattle.version_index.proofs.Points.{below_or, fails_all, first_points}
+use Rattle.version_index.proofs.Points.{all_fails, at_some, below_or, fails_all, first_points, take_fails}
 use Rattle.version_index.proofs.Walked.{lesser_is}
 
 module _ (hit : ℕ → Bool) where
@@ -65,18 +65,16 @@ module _ (hit : ℕ → Bool) where
 
   -- ---- those of some items, one by one
 
-  pub lowers_next : {E : Type 0} (Base : ℕ → Type 0) (Wanted : E → ℕ → Type 0) (es : List E) (e : E) (old mid new : Option ℕ) → Lowers hit old mid (λ j. Base j ⊎ ByOne es Wanted j) → Lowers hit mid new (Wanted e)
-      → Lowers hit old new (λ j. Base j ⊎ ByOne (es ++ e ∷ []) Wanted j)
-  lowers_next Base Wanted es e old mid new before here =
-      lowers_then old mid new (λ j. Base j ⊎ ByOne es Wanted j) (Wanted e) (λ j. Base j ⊎ ByOne (es ++ e ∷ []) Wanted j) (λ j some is. either j some) before here
-    where
-      last : (j : ℕ) → (some : ByOne (es ++ e ∷ []) Wanted j) → Contains es some.0 ⊎ (e ≡ some.0) → (Base j ⊎ ByOne es Wanted j) ⊎ Wanted e j
-      last j some (inl before) = inl (inr (some.0, before, some.2))
-      last j some (inr same) = inr (subst (λ x. Wanted x j) (sym same) some.2)
+  pub lowers_start : {E : Type 0} (Wanted : E → ℕ → Type 0) (found : Option ℕ) → Lowers hit found found (ByOne [] Wanted)
+  lowers_start Wanted found = lowers_none found (ByOne [] Wanted) (λ j some is. let below = some.1.1 in absurd (omega (arith, below)))
 
-      either : (j : ℕ) → Base j ⊎ ByOne (es ++ e ∷ []) Wanted j → (Base j ⊎ ByOne es Wanted j) ⊎ Wanted e j
-      either j (inl base) = inl (inl base)
-      either j (inr some) = last j some (Contains-push_cases es e some.0 some.1)
+  pub lowers_next : {E : Type 0} (Wanted : E → ℕ → Type 0) (es : List E) (e : E) (old mid new : Option ℕ) → Lowers hit old mid (ByOne es Wanted) → Lowers hit mid new (Wanted e) → Lowers hit old new (ByOne (es ++ e ∷ []) Wanted)
+  lowers_next Wanted es e old mid new before here =
+      lowers_then old mid new (ByOne es Wanted) (Wanted e) (ByOne (es ++ e ∷ []) Wanted) (λ j some is. either j some (Contains-push_cases es e some.0 some.1)) before here
+    where
+      either : (j : ℕ) → (some : ByOne (es ++ e ∷ []) Wanted j) → Contains es some.0 ⊎ (e ≡ some.0) → ByOne es Wanted j ⊎ Wanted e j
+      either j some (inl before) = inl (some.0, before, some.2)
+      either j some (inr same) = inr (subst (λ x. Wanted x j) (sym same) some.2)
 
 module _ {X : Type 0} (test : X → Bool) (xs : List X) where
   -- the first from a number on is no later than any from there on
@@ -93,3 +91,12 @@ module _ {X : Type 0} (test : X → Bool) (xs : List X) where
   first_of_lowers None Wanted all lowers = fails_all test xs (λ j. not_true (passes_at test xs j) (λ is. lowers.reached j (all j is) is))
   first_of_lowers (Some first) Wanted all lowers =
       first_points test xs first (lowers.right tt) (λ j before. not_true (passes_at test xs j) (λ is. let up = lowers.reached j (all j is) is in absurd (omega (arith, up, before))))
+
+  -- the first of all is no later than any
+  pub lowers_first : (found : Option ℕ) (Wanted : ℕ → Type 0) → IsFirst test xs found → Lowers (passes_at test xs) None found Wanted
+  lowers_first None Wanted first = record { right = λ is. tt; kept = λ j up. absurd up; reached = λ j wanted is. absurd (no_both (passes_at test xs j) is (all_fails test xs first j)) }
+  lowers_first (Some number) Wanted first = record { right = λ is. at_some test xs number first.0; kept = λ j up. absurd up; reached = λ j wanted is. go j is (below_or j number) }
+    where
+      go : (j : ℕ) → passes_at test xs j ≡ true → (j < number) ⊎ (number ≤ j) → number ≤ j
+      go j is (inl before) = absurd (no_both (passes_at test xs j) is (take_fails test number xs first.1 j before))
+      go j is (inr up) = up

@@ -6,6 +6,7 @@ use Rattle.std.specs.Map.{keys_of, lookup}
 use Rattle.std.specs.Ordering.{nat_cmp}
 use Rattle.std.specs.declared.alloc.Global.{Global}
 use Rattle.std.specs.declared.vec.Vec.{Vec}
+use Rattle.std.specs.declared.ops.Bound.{Bound}
 use Rattle.std.specs.BTreeMap.Range.{range_contains}
 use Rattle.std.specs.List.{filter}
 use Rattle.std.proofs.lemmas.Map.Lookups.{exact_unsigned}
@@ -14,7 +15,9 @@ use Rattle.rel_base.specs.Tables.{Stamped}
 use Rattle.rel_base.specs.Value.{key_cmp, key_cmp-exact, value_cmp, value_cmp-exact, value_cmp-total}
 use Rattle.rel_base.specs.declared.value.Value.{Value}
 use Rattle.rel_base.proofs.Bits.{is_Equal}
-use Rattle.version_index.specs.Candidates.{HasSlot, IsBetween, IsListedAbove, IsMarked, IsMarkedBetween, IsTouchedAbove, LivesBetween, end_of, key_end_of}
+use Rattle.version_index.specs.Candidates.{HasSlot, IsBetween, IsListedAbove, IsMarked, IsMarkedBetween, IsTouchedAbove, StandsBetween, end_of}
+use Rattle.version_index.specs.Chains.{lists_of, numbers_at}
+use Rattle.version_index.specs.Hits.{IsNumberBetween}
 use Rattle.version_index.specs.Columns.{IsColumn, is_marked, items_in, mark_in, touched_at, touches_at}
 use Rattle.version_index.specs.Numbers.{ArePassing}
 use Rattle.version_index.specs.declared.chains.Chains.{Chains}
@@ -23,7 +26,7 @@ use Rattle.version_index.specs.View.{history_in}
 use Rattle.version_index.specs.declared.view.TableView.{TableView}
 use Rattle.version_index.proofs.Adding.{ByOne}
 use Rattle.version_index.proofs.Passing.{passing_all}
-use Rattle.version_index.proofs.Ranges.{found_next, in_key_range, in_range, passes_filter, some_there}
+use Rattle.version_index.proofs.Ranges.{found_next, in_range, passes_filter, some_there}
 
 -- a key has a slot that has a mark
 abbrev pub WantsMark : TableView → ℕ × Bool → List Value → Type 0
@@ -55,17 +58,23 @@ by_values view living low high key (slot, value, has, between, is) = go (lookup 
       (slot, has, is),
     )
 
--- a key of one value with a row is among the entries between two ends
-pub by_keys : (view : TableView) (low high : Option Value) (key : List Value) → LivesBetween view low high key
-    → ByOne (filter (λ e. range_contains key_cmp (key_end_of low) (key_end_of high) e.0) view.index.now.chains.living.entries) (λ e k. k ≡ e.0) key
-by_keys view low high key (value, own, between, lives) =
-    let found = some_there (lookup (is_at (key_cmp key)) view.index.now.chains.living.entries) lives in (
+-- a key that stands in a map is among the entries between two ends
+pub by_keys : (slots : List (List Value × ℕ)) (low high : Bound (List Value)) (key : List Value) → StandsBetween slots low high key → ByOne (filter (λ e. range_contains key_cmp low high e.0) slots) (λ e k. k ≡ e.0) key
+by_keys slots low high key stands =
+    let found = some_there (lookup (is_at (key_cmp key)) slots) stands.1 in (
       (key, found.0),
-      passes_filter (λ e. range_contains key_cmp (key_end_of low) (key_end_of high) e.0) view.index.now.chains.living.entries (key, found.0)
-          (Contains-from_lookup (λ x y tied. key_cmp-exact x y (is_Equal (key_cmp x y) tied)) key found.0 view.index.now.chains.living.entries found.1)
-          (ap (range_contains key_cmp (key_end_of low) (key_end_of high)) own ∙ in_key_range low high value between),
+      passes_filter (λ e. range_contains key_cmp low high e.0) slots (key, found.0) (Contains-from_lookup (λ x y tied. key_cmp-exact x y (is_Equal (key_cmp x y) tied)) key found.0 slots found.1) stands.0,
       refl,
     )
+
+-- and so is a number of one
+pub by_slots : (chains : Chains) (slots : List (List Value × ℕ)) (low high : Bound (List Value)) (number : ℕ) → IsNumberBetween chains slots low high number
+    → ByOne (filter (λ e. range_contains key_cmp low high e.0) slots) (λ e n. Contains (numbers_at (lists_of chains) (Some e.1)) n) number
+by_slots chains slots low high number (key, slot, there, between, inside) = (
+  (key, slot),
+  passes_filter (λ e. range_contains key_cmp low high e.0) slots (key, slot) (Contains-from_lookup (λ x y tied. key_cmp-exact x y (is_Equal (key_cmp x y) tied)) key slot slots there) between,
+  inside,
+)
 
 -- ---- the numbers at values
 

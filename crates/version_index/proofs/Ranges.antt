@@ -1,12 +1,13 @@
 -- The entries of an ordered map between two ends.
 use Rattle.std.proofs.Common.{◌≡◌, ◌∙◌, suc, zero, List, [], ◌∷◌, ◌++◌, Bool, true, false, ◌&&◌, not, cond, All, Contains, Option, Some, None, is_some, refl, ap, sym, subst, arith}
 use Rattle.std.specs.BTreeMap.{is_at}
-use Rattle.std.specs.BTreeMap.Range.{range_contains}
+use Rattle.std.specs.BTreeMap.Range.{IsLeBy, IsLtBy, range_contains}
+use Rattle.std.specs.Range.Bound.{IsForward}
 use Rattle.std.specs.List.{AllByRecursion, filter}
 use Rattle.std.specs.List.Sorted.{IsStrictlySortedBy}
 use Rattle.std.specs.Cmp.{IsTotalOrder, tied_itself, upto}
 use Rattle.std.specs.Map.{keys_of, lookup}
-use Rattle.std.specs.Ordering.{is_eq, is_le, is_lt, ordering_reverse, ordering_then}
+use Rattle.std.specs.Ordering.{is_eq, is_gt, is_le, is_lt, ordering_reverse, ordering_then}
 use Rattle.std.specs.declared.cmp.Ordering.{Ordering}
 use Rattle.std.specs.declared.cmp.Ordering.TheVariants.{Less, Equal, Greater}
 use Rattle.std.proofs.lemmas.List.Elements.{All-cons, All-contains, All-filter, All-nil, All-weaker, Contains-append_right}
@@ -65,6 +66,12 @@ in_key_range None (Some high) value between = ap (λ o. not (is_lt o)) (one_cmp 
 in_key_range (Some low) None value between = ap (λ o. is_le o && true) (one_cmp low value) ∙ ap (λ b. b && true) between.0
 in_key_range (Some low) (Some high) value between =
     (λ i. is_le (one_cmp low value i) && not (is_lt (one_cmp high value i))) ∙ (λ i. between.0 i && up_to_end value high between.1 i)
+
+-- ends of keys are in order where those of values are
+pub forward_keys : (low high : Option Value) → is_forward low high ≡ true → IsForward (IsLeBy key_cmp) (IsLtBy key_cmp) (key_end_of low) (key_end_of high)
+forward_keys None high is = tt
+forward_keys (Some low) None is = tt
+forward_keys (Some low) (Some high) is = ap is_gt (one_cmp low high) ∙ not_greater_back (value_cmp low high) is
 
 -- nothing lies between ends of which one is above the other
 pub none_between : (low high : Option Value) (value : Value) → is_forward low high ≡ false → IsBetween low high value → ⊥

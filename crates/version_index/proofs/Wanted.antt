@@ -20,12 +20,12 @@ use Rattle.rel_base.proofs.Bits.{both_true, first_true, no_both, second_true}
 use Rattle.rel_base.proofs.Columns.{span_column_below}
 use Rattle.rel_base.proofs.KeyOrder.{Stands, all_stand}
 use Rattle.row_sets.proofs.Histories.{unwrapped}
-use Rattle.version_index.specs.Candidates.{IsBetween, IsMarkedBetween, IsTouchedAbove, IsWrittenFrom, LivesBetween, only_value}
+use Rattle.version_index.specs.Candidates.{IsBetween, IsMarkedBetween, IsTouchedAbove, IsWrittenFrom, only_value}
 use Rattle.version_index.specs.Chains.{first_some, lives_in, slot_in, slot_of}
 use Rattle.version_index.specs.Columns.{IsColumn, cell, has, touches, touches_at}
 use Rattle.version_index.specs.Index.{HasColumns, index_columns}
 use Rattle.version_index.specs.Left.{left_at}
-use Rattle.version_index.specs.Span.{HasCellAt, HasKeyAt, IsChangedAbove, IsChangedBetween, IsWantedBy}
+use Rattle.version_index.specs.Span.{HasCellAt, IsChangedAbove, IsChangedBetween, IsWantedBy}
 use Rattle.version_index.specs.View.{IsAsked, IsView, history_in}
 use Rattle.version_index.specs.declared.chains.Chains.{Chains}
 use Rattle.version_index.specs.declared.column.Column.{Column}
@@ -86,7 +86,7 @@ module _ (view : TableView) (is : IsView view) (height : ℕ) where
       go (Some slot) some = (slot, refl)
 
   -- a key whose row is there still lives
-  lives_still : (key row : List Value) → left_at (view.table, key) (take view.noted history) ≡ Some row → lives_in chains key ≡ true
+  pub lives_still : (key row : List Value) → left_at (view.table, key) (take view.noted history) ≡ Some row → lives_in chains key ≡ true
   lives_still key row left = is.index.chains.lives key ∙ ap is_some left
 
   -- ---- by the index of a column
@@ -141,17 +141,6 @@ module _ (view : TableView) (is : IsView view) (height : ℕ) where
       (above.0, above.1, above.3, sym ((Decides-eqb view.table above.1.1.write.table).0 (first_true (view.table == above.1.1.write.table) _ touches_it)), above.6, inl above.4)
   changed_above column low high key (value, between, inr written) = (written.0, written.1, written.3, written.4, written.5, inr written.2)
 
-  -- ---- by the keys
-
-  module _ (low high : Option Value) (key : List Value) where
-    pub key_found : HasKeyAt view low high height key → LivesBetween view low high key ⊎ IsChangedAbove view height key
-    key_found wanted = go (seen_story view is height key wanted.seen wanted.is)
-      where
-        go : Story (view.table, key) height history wanted.seen.row view.noted ⊎ IsWrittenFrom view view.noted key → LivesBetween view low high key ⊎ IsChangedAbove view height key
-        go (inl (inl left)) = inl (wanted.value, wanted.own, wanted.between, lives_still key wanted.seen.row left)
-        go (inl (inr took)) = let own_ref = same_ref (view.table, key) took.stamped took.on in inr (took.at, took.stamped, took.there, ap (λ r. r.0) own_ref, ap (λ r. r.1) own_ref, inl took.above)
-        go (inr written) = inr (written.0, written.1, written.3, written.4, written.5, inr written.2)
-
 -- ---- what a span wants
 
 -- a column that is in range is in a row that fits
@@ -179,7 +168,7 @@ module _ (def : TableDef) (view : TableView) (column : ℕ) (low high : Option V
   span = Span view.table column low high
 
   -- a column by which a span may read, and for which there is no index, is the whole key
-  sole_key : Contains (span_columns def) column → HasColumns def view.index.now → All (λ own. own.column ≡ column → ⊥) view.index.now.columns.items → def.key ≡ column ∷ []
+  pub sole_key : Contains (span_columns def) column → HasColumns def view.index.now → All (λ own. own.column ≡ column → ⊥) view.index.now.columns.items → def.key ≡ column ∷ []
   sole_key may columns none = go (length def.key == 1) refl (Contains-append_cases (take 1 def.key) def.index column may)
     where
       kept : Contains (index_columns def) column → ⊥

@@ -5,13 +5,14 @@ use Rattle.std.specs.List.{list_any}
 use Rattle.std.specs.declared.ops.Bound.{Bound}
 use Rattle.std.specs.declared.ops.Bound.TheVariants.{Included, Unbounded}
 use Rattle.std.specs.BTreeMap.{BTreeMap}
+use Rattle.std.specs.BTreeMap.Range.{range_contains}
 use Rattle.std.specs.Option.{IsSomeAnd}
 use Rattle.std.specs.Ordering.{is_le}
 use Rattle.rel_base.specs.Row.{is_from, is_up_to}
 use Rattle.rel_base.specs.Tables.{Stamped}
-use Rattle.rel_base.specs.Value.{key_eq, value_cmp, value_eq}
+use Rattle.rel_base.specs.Value.{key_cmp, key_eq, value_cmp, value_eq}
 use Rattle.rel_base.specs.declared.value.Value.{Value}
-use Rattle.version_index.specs.Chains.{lives_in, slot_of}
+use Rattle.version_index.specs.Chains.{slot_in, slot_of}
 use Rattle.version_index.specs.Columns.{has_slot, is_marked, mark_in, touches_at}
 use Rattle.version_index.specs.Left.{left_at}
 use Rattle.version_index.specs.View.{history_in}
@@ -64,9 +65,9 @@ IsBetween low high value = (is_from low value ≡ true) × (is_up_to high value 
 abbrev pub IsMarkedBetween : TableView → List (Value × BTreeMap ℕ Bool) → Option Value → Option Value → List Value → Type 0
 IsMarkedBetween view living low high key = (slot : ℕ) × (value : Value) × HasSlot view slot key × IsBetween low high value × (has_slot living value slot ≡ true)
 
--- a key of one value, which lies between the ends that are given, has a row
-abbrev pub LivesBetween : TableView → Option Value → Option Value → List Value → Type 0
-LivesBetween view low high key = (value : Value) × (key ≡ value ∷ []) × IsBetween low high value × (lives_in view.index.now.chains key ≡ true)
+-- a key stands in a map between two ends
+abbrev pub StandsBetween : List (List Value × ℕ) → Bound (List Value) → Bound (List Value) → List Value → Type 0
+StandsBetween slots low high key = (range_contains key_cmp low high key ≡ true) × (is_some (slot_in slots key) ≡ true)
 
 -- a write from a number on is on the table and key
 abbrev pub IsWrittenFrom : TableView → ℕ → List Value → Type 0

@@ -1,12 +1,13 @@
 -- Which keys a span wants after the block of a height, and which of them changed since.
 use Rattle.std.specs.Prelude.{◌≡◌, ◌<◌, ◌≤◌, ◌⊎◌, ◌∷◌, ℕ, All, Bool, List, [], Option, Some, None, cond, false, map, slice_get}
 use Rattle.std.specs.Borrow.{Bor}
+use Rattle.std.specs.declared.ops.Bound.{Bound}
 use Rattle.std.specs.FinMap.{get}
 use Rattle.rel_base.specs.Tables.{Stamped, tables_at}
 use Rattle.rel_base.specs.Value.{key_eq}
 use Rattle.rel_base.specs.declared.access.Seen.{Seen}
 use Rattle.rel_base.specs.declared.value.Value.{Value}
-use Rattle.version_index.specs.Candidates.{IsBetween, IsTouchedAbove, IsWrittenFrom}
+use Rattle.version_index.specs.Candidates.{IsBetween, IsTouchedAbove, IsWrittenFrom, StandsBetween}
 use Rattle.version_index.specs.Columns.{cell}
 use Rattle.version_index.specs.View.{history_in}
 use Rattle.version_index.specs.declared.view.TableView.{TableView}
@@ -24,6 +25,11 @@ IsTouchedSince view column value height key = IsTouchedAbove view column value h
 -- the same of a value between two ends
 abbrev pub IsChangedBetween : TableView → ℕ → Option Value → Option Value → ℕ → List Value → Type 0
 IsChangedBetween view column low high height key = (value : Value) × IsBetween low high value × IsTouchedSince view column value height key
+
+-- a write on the key stands in a block above a height or in the tail, and the key is in the tail or stands among those whose row was deleted, between two ends
+abbrev pub IsLostBetween : TableView → Bound (List Value) → Bound (List Value) → ℕ → List Value → Type 0
+IsLostBetween view low high height key =
+    IsChangedAbove view height key × (StandsBetween view.index.now.chains.ended.entries low high key ⊎ IsWrittenFrom view view.noted key)
 
 -- the row of a key after the block of a height has a value of a column between two ends
 pub record HasCellAt (view : TableView) (column : ℕ) (low high : Option Value) (height : ℕ) (key : List Value) : Type 0 where

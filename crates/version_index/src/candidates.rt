@@ -1,16 +1,15 @@
 //! Keys that may have a row that a span covers, each with its slot.
 
-ghost use Rattle.std.specs.Prelude.{◌≡◌, ◌<◌, ◌∷◌, [], IfOk, OnOk, length, true};
+ghost use Rattle.std.specs.Prelude.{◌≡◌, ◌<◌, OnOk, length, true};
 ghost use Rattle.std.specs.Range.Bound.{bound_map};
-ghost use Rattle.version_index.specs.Candidates.{Adds, HasSlot, HasSlotAt, IsKeyOf, IsListedAbove, IsMarked, IsMarkedBetween, IsOwnKeyOf, IsWrittenFrom, LivesBetween, end_of, is_forward, key_end_of};
+ghost use Rattle.version_index.specs.Candidates.{Adds, HasSlot, HasSlotAt, IsKeyOf, IsListedAbove, IsMarked, IsMarkedBetween, IsOwnKeyOf, IsWrittenFrom, end_of, is_forward};
 ghost use Rattle.version_index.specs.Numbers.{ArePassing};
 ghost use Rattle.version_index.specs.View.{IsView};
 
 use crate::living::{Living, Marks};
 use crate::view::TableView;
-use rel_base::{Key, NoMemory, Twin, Value};
+use rel_base::{Key, NoMemory, Value};
 use row_sets::entry::entry_at;
-use std::alloc::Global;
 use std::ops::Bound;
 
 /// A key that may have a row, with its slot, where it has one.
@@ -127,43 +126,6 @@ pub fn add_living<'a>(
 {
     for (_, marks) in living.range((end(low), end(high))) {
         add_all_marked(view, found, marks)?;
-    }
-    Ok(())
-}
-
-/// The key of one value.
-fn key_of_value(alloc: Global, value: &Value) -> Result<Key, NoMemory>
-    ensures { IfOk result (λ key. key ≡ value.now ∷ []) }
-{
-    let value = value.copy(alloc)?;
-    Ok(Key::of(value))
-}
-
-/// The end of a span that may be there, as one of keys of one value.
-fn key_end(alloc: Global, value: &Option<Value>) -> Result<Bound<Key>, NoMemory>
-    ensures { IfOk result (λ end. end ≡ key_end_of value.now) }
-{
-    match value {
-        None => Ok(Bound::Unbounded),
-        Some(value) => Ok(Bound::Included(key_of_value(alloc, value)?)),
-    }
-}
-
-/// Adds the keys of one value with a row that lie between the ends of a span, which is in order.
-pub fn add_keys<'a>(
-    alloc: Global,
-    view: &TableView<'a>,
-    found: &mut Vec<Candidate<'a>>,
-    low: &Option<Value>,
-    high: &Option<Value>,
-) -> Result<(), NoMemory>
-    requires view { IsView view.now }
-    requires forward { is_forward low.now high.now ≡ true }
-    ensures { OnOk result (Adds view.now.index.now.chains found.old.items found.new.items (LivesBetween view.now low.now high.now)) }
-{
-    let ends = (key_end(alloc, low)?, key_end(alloc, high)?);
-    for (key, slot) in view.index.chains.living.range(ends) {
-        found.push((key, Some(*slot)))?;
     }
     Ok(())
 }

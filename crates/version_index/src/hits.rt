@@ -47,7 +47,7 @@ fn least_with(number: usize, other: Option<usize>) -> usize
 
 /// The first of noted writes that a read hits, by their rising numbers, or a number that was found, where it is less. It goes back no
 /// further than the height.
-fn first_among(
+pub fn first_among(
     view: &TableView<'_>,
     watch: &Watch<'_>,
     numbers: &[usize],

@@ -10,6 +10,7 @@ pub mod growth;
 pub mod heads;
 pub mod hits;
 pub mod index;
+pub mod key_spans;
 pub mod keyed;
 pub mod lists;
 pub mod living;

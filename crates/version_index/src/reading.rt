@@ -13,7 +13,8 @@ ghost use Rattle.version_index.specs.Hits.{TellsFirst};
 ghost use Rattle.version_index.specs.Rows.{rows_of_keys};
 ghost use Rattle.version_index.specs.View.{IsAsked, IsView, history_in, told_of};
 
-use crate::hits::{first_above_that_hits, first_by_column};
+use crate::hits::first_by_column;
+use crate::key_spans::first_by_key;
 use crate::keyed::first_late;
 use crate::rows::add_key;
 use crate::span::{column_of, rows_of_span};
@@ -72,7 +73,7 @@ fn first_of_span(
     ensures { IsFirst (is_watched watch.now) (history_in view.now) result }
 {
     match column_of(view.index.columns.as_slice(), column) {
-        None => first_above_that_hits(view, watch),
+        None => first_by_key(view, watch, column, low, high),
         Some(own) => first_by_column(view, watch, own, low, high),
     }
 }

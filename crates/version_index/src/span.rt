@@ -12,12 +12,13 @@ ghost use Rattle.version_index.specs.Candidates.{Adds, IsCandidate, has_key, is_
 ghost use Rattle.version_index.specs.Columns.{IsColumn};
 ghost use Rattle.version_index.specs.Log.{InOrder};
 ghost use Rattle.version_index.specs.Rows.{IsValueOf, rows_of_keys};
-ghost use Rattle.version_index.specs.Span.{HasCellAt, HasKeyAt, IsChangedAbove, IsChangedBetween, IsTouchedSince, IsWantedBy, distinct, is_again, keys_in};
+ghost use Rattle.version_index.specs.Span.{HasCellAt, IsChangedAbove, IsChangedBetween, IsTouchedSince, IsWantedBy, distinct, is_again, keys_in};
 ghost use Rattle.version_index.specs.View.{IsAsked, IsView, history_in};
 
-use crate::candidates::{Candidate, add_from, add_keys, add_listed, add_living, end, is_in_order};
+use crate::candidates::{Candidate, add_from, add_listed, add_living, end, is_in_order};
 use crate::column::Column;
 use crate::index::TableIndex;
+use crate::key_spans::add_by_key;
 use crate::rows::add_key_with;
 use crate::view::{Look, TableView};
 use rel_base::{Key, List, NoMemory, Seen, Value};
@@ -26,9 +27,9 @@ use std::alloc::Global;
 
 /// The ends of a span, each of which may be absent.
 #[derive(Clone, Copy)]
-struct Ends<'a> {
-    low: &'a Option<Value>,
-    high: &'a Option<Value>,
+pub struct Ends<'a> {
+    pub low: &'a Option<Value>,
+    pub high: &'a Option<Value>,
 }
 
 /// The index by the values of a column of a table, where there is one.
@@ -74,7 +75,7 @@ pub fn first_above(entries: &[Entry], height: u64) -> usize
 }
 
 /// Adds the keys of the writes on the table in blocks above a height, and of those of the tail.
-fn add_above<'a>(
+pub fn add_above<'a>(
     view: &TableView<'a>,
     found: &mut Vec<Candidate<'a>>,
     height: u64,
@@ -164,22 +165,6 @@ fn add_by_column<'a>(
 {
     add_living(view, found, &column.living, ends.low, ends.high)?;
     add_since(view, found, column, ends, height)
-}
-
-/// Adds the keys of one value between the ends of a span, which are in order, that may have a row after the block of a height.
-fn add_by_key<'a>(
-    alloc: Global,
-    view: &TableView<'a>,
-    found: &mut Vec<Candidate<'a>>,
-    ends: Ends<'_>,
-    height: u64,
-) -> Result<(), NoMemory>
-    requires view { IsView view.now }
-    requires forward { is_forward ends.low.now ends.high.now ≡ true }
-    ensures { OnOk result (Adds view.now.index.now.chains found.old.items found.new.items (HasKeyAt view.now ends.entry.low.now ends.entry.high.now height)) }
-{
-    add_keys(alloc, view, found, ends.low, ends.high)?;
-    add_above(view, found, height)
 }
 
 /// Whether a key is the last one.

@@ -1,4 +1,4 @@
-use Rattle.std.proofs.Common.{◌≡◌, ◌∙◌, ◌≤◌, ◌<◌, ◌⊎◌, inl, inr, ◌++◌, ◌∷◌, [], Contains, None, ℕ, arith, refl, subst, sym, true}
+use Rattle.std.proofs.Common.{◌≡◌, ◌∙◌, ◌≤◌, ◌<◌, ◌⊎◌, inl, inr, ◌++◌, ◌∷◌, [], Contains, None, ℕ, refl, subst, sym, true}
 use Rattle.std.specs.BTreeMap.Range.{range_contains}
 use Rattle.std.specs.List.{filter}
 use Rattle.std.specs.declared.alloc.Global.{Global}
@@ -10,7 +10,7 @@ use Rattle.version_index.specs.Candidates.{end_of}
 use Rattle.version_index.specs.Numbers.{ArePassing, passes_at}
 use Rattle.version_index.specs.View.{history_in}
 use Rattle.version_index.proofs.Adding.{ByOne, all_done, one_over}
-use Rattle.version_index.proofs.Lowering.{first_of_lowers, lowers_from, lowers_next, lowers_weaker}
+use Rattle.version_index.proofs.Lowering.{first_of_lowers, lowers_from, lowers_next, lowers_start, lowers_then, lowers_weaker}
 use Rattle.version_index.proofs.Marked.{by_numbers, numbers_pass}
 use Rattle.version_index.proofs.Points.{below_or}
 use Rattle.version_index.proofs.Watching.{read_fits_table, watched_noted}
@@ -20,18 +20,11 @@ pub first_hit-first-requires-clause-fits : goal.first_hit-first-requires-clause-
 first_hit-first-requires-clause-fits c = read_fits_table c.args.watch.now.def.now c.args.watch.now.read.now c.args.view.now c.requires.watch
 
 pub loop-numbers-init : goal.loop-numbers-init
-loop-numbers-init c =
-    let view = c.args.view.now in
-    let test = is_watched c.args.watch.now in (
-      [],
-      refl,
-      lowers_weaker (passes_at test (history_in view)) None c.first_hit-first.result (λ j. view.noted ≤ j) (λ j. (view.noted ≤ j) ⊎ ByOne {E = Value × Vec ℕ Global} [] (λ e n. Contains e.1.items n) j) (λ j wanted is. either j wanted)
-          (lowers_from test (history_in view) view.noted c.first_hit-first.result c.first_hit-first.ensures),
-    )
-  where
-    either : (j : ℕ) → (c.args.view.now.noted ≤ j) ⊎ ByOne {E = Value × Vec ℕ Global} [] (λ e n. Contains e.1.items n) j → c.args.view.now.noted ≤ j
-    either j (inl past) = past
-    either j (inr some) = let below = some.1.1 in absurd (omega (arith, below))
+loop-numbers-init c = (
+  [],
+  refl,
+  lowers_start (passes_at (is_watched c.args.watch.now) (history_in c.args.view.now)) {E = Value × Vec ℕ Global} (λ e n. Contains e.1.items n) c.first_hit-first.result,
+)
 
 pub first_among-first-requires-clause-numbers : goal.first_among-first-requires-clause-numbers
 first_among-first-requires-clause-numbers c =
@@ -51,7 +44,7 @@ loop-numbers-preserved c =
     let done = c.loop-numbers.invariant in (
       done.0 ++ e ∷ [],
       one_over done.0 c.loop-numbers.numbers-iterator c.next.new.self c.into_iter-numbers-iterator.result e done.1 c.in-Some.ensures.steps,
-      lowers_next (passes_at (is_watched c.args.watch.now) (history_in view)) (λ j. view.noted ≤ j) (λ e n. Contains e.1.items n) done.0 e None c.loop-numbers.first c.first_among-first.result done.2
+      lowers_next (passes_at (is_watched c.args.watch.now) (history_in view)) (λ e n. Contains e.1.items n) done.0 e c.first_hit-first.result c.loop-numbers.first c.first_among-first.result done.2
           (lowers_weaker (passes_at (is_watched c.args.watch.now) (history_in view)) c.loop-numbers.first c.first_among-first.result (Contains c.as_slice.result.now) (Contains c.in-Some.numbers.now.items)
           (λ j inside is. subst (λ ns. Contains ns j) (sym c.as_slice.ensures.value) inside) c.first_among-first.ensures),
     )
@@ -60,8 +53,11 @@ loop-numbers-preserved c =
 pub returns : goal.returns
 returns c =
     let view = c.args.view.now in
+    let test = is_watched c.args.watch.now in
     let done = c.loop-numbers.invariant in
-    first_of_lowers (is_watched c.args.watch.now) (history_in view) c.loop-numbers.first (λ j. (view.noted ≤ j) ⊎ ByOne done.0 (λ e n. Contains e.1.items n) j) (λ j is. either j is (below_or j view.noted)) done.2
+    first_of_lowers test (history_in view) c.loop-numbers.first (λ j. (view.noted ≤ j) ⊎ ByOne done.0 (λ e n. Contains e.1.items n) j) (λ j is. either j is (below_or j view.noted))
+    (lowers_then (passes_at test (history_in view)) None c.first_hit-first.result c.loop-numbers.first (λ j. view.noted ≤ j) (ByOne done.0 (λ e n. Contains e.1.items n))
+    (λ j. (view.noted ≤ j) ⊎ ByOne done.0 (λ e n. Contains e.1.items n) j) (λ j wanted is. wanted) (lowers_from test (history_in view) view.noted c.first_hit-first.result c.first_hit-first.ensures) done.2)
   where
     all : c.loop-numbers.invariant.0 ≡ filter (λ e. range_contains value_cmp (end_of c.args.low.now) (end_of c.args.high.now) e.0) c.args.column.now.touched.entries
     all =

@@ -2,7 +2,7 @@ use Rattle.std.proofs.Common.{◌≡◌, ◌++◌, List, ℕ}
 use Rattle.rel_base.specs.declared.value.Value.{Value}
 use Rattle.version_index.specs.Candidates.{Adds}
 use Rattle.version_index.proofs.Adding.{ByOne}
-use Rattle.version_index.proofs.candidates.add_keys.Given as goal
+use Rattle.version_index.proofs.key_spans.add_keys.Given as goal
 
 -- the keys before those that are left were added
 abbrev pub invariant-loop-key : goal.invariant-loop-key
