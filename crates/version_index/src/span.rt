@@ -56,7 +56,7 @@ pub fn one_value<'a>(low: &'a Option<Value>, high: &Option<Value>) -> Option<&'a
 }
 
 /// The number of the writes at the start of the log that are in no block above a height. Each look halves what is left.
-pub fn first_above(entries: &[Entry], height: u64) -> usize
+fn search_above(entries: &[Entry], height: u64) -> usize
     requires in_order { InOrder (history_of entries.now) }
     ensures bound { result ≤ length entries.now }
     ensures low { All (λ stamped. stamped.0 ≤ height) (take result (history_of entries.now)) }
@@ -72,6 +72,20 @@ pub fn first_above(entries: &[Entry], height: u64) -> usize
         }
     }
     start
+}
+
+/// The number of the writes at the start of the log that are in no block above a height. Most reads name the last height, and then one
+/// look tells it.
+pub fn first_above(entries: &[Entry], height: u64) -> usize
+    requires in_order { InOrder (history_of entries.now) }
+    ensures bound { result ≤ length entries.now }
+    ensures low { All (λ stamped. stamped.0 ≤ height) (take result (history_of entries.now)) }
+{
+    let end = entries.len();
+    if end > 0 && entry_at(entries, end - 1).block <= height {
+        return end;
+    }
+    search_above(entries, height)
 }
 
 /// Adds the keys of the writes on the table in blocks above a height, and of those of the tail.

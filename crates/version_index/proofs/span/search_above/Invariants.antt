@@ -1,6 +1,6 @@
 use Rattle.std.proofs.Common.{◌≤◌, ◌-◌, All, length, take}
 use Rattle.row_sets.specs.Log.{history_of}
-use Rattle.version_index.proofs.span.first_above.Given as goal
+use Rattle.version_index.proofs.span.search_above.Given as goal
 
 -- what is before the part that is left is low
 abbrev pub invariant-loop-start : goal.invariant-loop-start
