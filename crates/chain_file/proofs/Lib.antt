@@ -6,6 +6,7 @@ pub mod Again
 pub mod Bounded
 pub mod Near
 pub mod Pieces
+pub mod Follow
 pub mod Walking
 pub mod Resumed
 pub mod Back

@@ -15,7 +15,8 @@ use Rattle.chain_file.specs.declared.section.Section.{Section}
 use Rattle.chain_file.specs.declared.section.Section.TheVariants as place
 use Rattle.chain_file.specs.declared.section.Taken.{Taken}
 use Rattle.chain_file.specs.declared.going.Going.{Going}
-use Rattle.chain_file.specs.declared.standing.Standing.{Standing}
+use Rattle.chain_file.specs.declared.hash.Hashes.{Hashes}
+use Rattle.chain_file.specs.declared.standing.Spot.{Spot}
 use Rattle.chain_file.specs.declared.reader.Read.{Read}
 use Rattle.chain_file.specs.declared.resume.More.TheVariants as more
 use Rattle.chain_file.specs.Draft.{block_of}
@@ -23,7 +24,7 @@ use Rattle.chain_file.specs.Near.{is_near}
 use Rattle.chain_file.specs.Onward.{next_tx, told_within}
 use Rattle.chain_file.specs.Steps.{goes_on, add_tx, end_block, ends, step, within}
 use Rattle.chain_file.specs.Chain.{Position, told, take_line, ended_blocks, with_blocks, walk}
-use Rattle.chain_file.specs.Following.{Reads}
+use Rattle.chain_file.specs.Following.{Knows, Reads, form_of}
 use Rattle.chain_file.specs.Resumed.{Resumes, behind_end, going_at, txs_in}
 use Rattle.chain_file.proofs.Blocks.{some_block}
 use Rattle.chain_file.proofs.Near.{going_few}
@@ -58,12 +59,12 @@ said_line f count txs line false = said_inside f count txs line (bytes_eq line (
 step_said : (f : FileForm) (count : ℕ) (txs : List Tx) (digits line : List ℕ) → step (place.Within f count txs) digits line ≡ said f count txs (told_within (length txs) line)
 step_said f count txs digits line = said_line f count txs line (is_long line)
 
-told_going : (kept : List Tx) (g : Going) (bytes line : List ℕ) (saying : Result (Option Tx) ChainKind) → g.before ≡ length kept → told_within (g.before + length g.txs) line ≡ saying
-    → take_line (going_at kept g bytes) line ≡ told (going_at kept g bytes) line (said g.form g.count (kept ++ g.txs) saying)
-told_going kept g bytes line saying before e =
+told_going : (kept : List Tx) (g : Going) (digits bytes line : List ℕ) (saying : Result (Option Tx) ChainKind) → g.before ≡ length kept → told_within (g.before + length g.txs) line ≡ saying
+    → take_line (going_at kept g digits bytes) line ≡ told (going_at kept g digits bytes) line (said g.form g.count (kept ++ g.txs) saying)
+told_going kept g digits bytes line saying before e =
     let many : length (kept ++ g.txs) ≡ g.before + length g.txs = length-append kept g.txs ∙ ap (λ n. n + length g.txs) (sym before) in
-    ap (told (going_at kept g bytes) line)
-    (step_said g.form g.count (kept ++ g.txs) g.digits line ∙ ap (λ n. said g.form g.count (kept ++ g.txs) (told_within n line)) many ∙ ap (said g.form g.count (kept ++ g.txs)) e)
+    ap (told (going_at kept g digits bytes) line)
+    (step_said g.form g.count (kept ++ g.txs) digits line ∙ ap (λ n. said g.form g.count (kept ++ g.txs) (told_within n line)) many ∙ ap (said g.form g.count (kept ++ g.txs)) e)
 
 -- ---- the three kinds of lines
 
@@ -79,7 +80,6 @@ pub record GoesOn (g next : Going) (tx : Tx) : Type 0 where
   pub form : next.form ≡ g.form
   pub count : next.count ≡ g.count
   pub line : next.line ≡ g.line + 1
-  pub digits : next.digits ≡ g.digits
   pub txs : next.txs ≡ g.txs ++ (tx ∷ [])
 
 within_on : (kept : List Tx) (g next : Going) (tx : Tx) → GoesOn g next tx → place.Within g.form g.count ((kept ++ g.txs) ++ (tx ∷ [])) ≡ place.Within next.form next.count (kept ++ next.txs)
@@ -87,53 +87,58 @@ within_on kept g next tx on =
     ap (λ all. place.Within g.form g.count all) (append_assoc kept g.txs (tx ∷ []) ∙ ap (λ some. kept ++ some) (sym on.txs))
     ∙ ap (λ f. place.Within f g.count (kept ++ next.txs)) (sym on.form) ∙ ap (λ n. place.Within next.form n (kept ++ next.txs)) (sym on.count)
 
-going_on : (kept : List Tx) (g next : Going) (tx : Tx) (bytes line : List ℕ) → g.before ≡ length kept → told_within (g.before + length g.txs) line ≡ Ok (Some tx) → GoesOn g next tx
-    → take_line (going_at kept g bytes) line ≡ Ok (going_at kept next (bytes ++ line_text line), None)
-going_on kept g next tx bytes line before e on =
-    told_going kept g bytes line (Ok (Some tx)) before e
+going_on : (kept : List Tx) (g next : Going) (tx : Tx) (digits bytes line : List ℕ) → g.before ≡ length kept → told_within (g.before + length g.txs) line ≡ Ok (Some tx) → GoesOn g next tx
+    → take_line (going_at kept g digits bytes) line ≡ Ok (going_at kept next digits (bytes ++ line_text line), None)
+going_on kept g next tx digits bytes line before e on =
+    told_going kept g digits bytes line (Ok (Some tx)) before e
     ∙ ap (λ (at : Position). Ok (at, None))
-    (same_at (g.line + 1) next.line (place.Within g.form g.count ((kept ++ g.txs) ++ (tx ∷ []))) (place.Within next.form next.count (kept ++ next.txs)) g.digits next.digits (bytes ++ line_text line)
-    (sym on.line) (within_on kept g next tx on) (sym on.digits))
+    (same_at (g.line + 1) next.line (place.Within g.form g.count ((kept ++ g.txs) ++ (tx ∷ []))) (place.Within next.form next.count (kept ++ next.txs)) digits digits (bytes ++ line_text line)
+    (sym on.line) (within_on kept g next tx on) refl)
 
-going_ends : (kept : List Tx) (g : Going) (block : Block) (bytes line : List ℕ) → g.before ≡ length kept → told_within (g.before + length g.txs) line ≡ Ok None
-    → block_of (g.count + 1) (kept ++ g.txs) ≡ Some block → take_line (going_at kept g bytes) line ≡ Ok (behind_end g (bytes ++ line_text line), Some block)
-going_ends kept g block bytes line before e is =
-    told_going kept g bytes line (Ok None) before e ∙ ap (λ made. told (going_at kept g bytes) line (ends g.form (g.count + 1) made)) is
+going_ends : (kept : List Tx) (g : Going) (block : Block) (digits bytes line : List ℕ) → g.before ≡ length kept → told_within (g.before + length g.txs) line ≡ Ok None
+    → block_of (g.count + 1) (kept ++ g.txs) ≡ Some block → take_line (going_at kept g digits bytes) line ≡ Ok (behind_end g (bytes ++ line_text line), Some block)
+going_ends kept g block digits bytes line before e is =
+    told_going kept g digits bytes line (Ok None) before e ∙ ap (λ made. told (going_at kept g digits bytes) line (ends g.form (g.count + 1) made)) is
 
 -- ---- the walk over them
 
-pub walk_tx : (at : Position) (kept : List Tx) (g next : Going) (tx : Tx) (bytes rest line after known : List ℕ) → g.before ≡ length kept
-    → walk at (parts_of bytes) ≡ with_blocks [] (walk (going_at kept g known) (parts_of rest)) → parts_of rest ≡ line ∷ parts_of after
+pub walk_tx : (at : Position) (kept : List Tx) (g next : Going) (tx : Tx) (bytes rest line after digits known : List ℕ) → g.before ≡ length kept
+    → walk at (parts_of bytes) ≡ with_blocks [] (walk (going_at kept g digits known) (parts_of rest)) → parts_of rest ≡ line ∷ parts_of after
     → told_within (g.before + length g.txs) line ≡ Ok (Some tx) → GoesOn g next tx
-    → walk at (parts_of bytes) ≡ with_blocks [] (walk (going_at kept next (known ++ line_text line)) (parts_of after))
-walk_tx at kept g next tx bytes rest line after known before so_far split e on =
-    walk_on at (going_at kept g known) (going_at kept next (known ++ line_text line)) bytes rest line after [] [] None so_far split (going_on kept g next tx known line before e on) refl
+    → walk at (parts_of bytes) ≡ with_blocks [] (walk (going_at kept next digits (known ++ line_text line)) (parts_of after))
+walk_tx at kept g next tx bytes rest line after digits known before so_far split e on =
+    walk_on at (going_at kept g digits known) (going_at kept next digits (known ++ line_text line)) bytes rest line after [] [] None so_far split (going_on kept g next tx digits known line before e on) refl
 
-pub walk_ends : (at : Position) (kept : List Tx) (g : Going) (bytes rest line after known : List ℕ) → g.before ≡ length kept
-    → walk at (parts_of bytes) ≡ with_blocks [] (walk (going_at kept g known) (parts_of rest)) → parts_of rest ≡ line ∷ parts_of after
+pub walk_ends : (at : Position) (kept : List Tx) (g : Going) (bytes rest line after digits known : List ℕ) → g.before ≡ length kept
+    → walk at (parts_of bytes) ≡ with_blocks [] (walk (going_at kept g digits known) (parts_of rest)) → parts_of rest ≡ line ∷ parts_of after
     → told_within (g.before + length g.txs) line ≡ Ok None
     → walk at (parts_of bytes) ≡ with_blocks (ended_blocks (block_of (g.count + 1) (kept ++ g.txs))) (walk (behind_end g (known ++ line_text line)) (parts_of after))
-walk_ends at kept g bytes rest line after known before so_far split e =
+walk_ends at kept g bytes rest line after digits known before so_far split e =
     let made = some_block (g.count + 1) (kept ++ g.txs) (going_few g.line g.count g.before kept g.txs g.near before) in
-    walk_on at (going_at kept g known) (behind_end g (known ++ line_text line)) bytes rest line after [] (ended_blocks (Some made.0)) (Some made.0) so_far split
-    (going_ends kept g made.0 known line before e made.1) refl
+    walk_on at (going_at kept g digits known) (behind_end g (known ++ line_text line)) bytes rest line after [] (ended_blocks (Some made.0)) (Some made.0) so_far split
+    (going_ends kept g made.0 digits known line before e made.1) refl
     ∙ ap (λ block. with_blocks (ended_blocks block) (walk (behind_end g (known ++ line_text line)) (parts_of after))) (sym made.1)
 
-pub walk_stops : (at : Position) (kept : List Tx) (g : Going) (k : ChainKind) (bytes rest line after known : List ℕ) → g.before ≡ length kept
-    → walk at (parts_of bytes) ≡ with_blocks [] (walk (going_at kept g known) (parts_of rest)) → parts_of rest ≡ line ∷ parts_of after
+pub walk_stops : (at : Position) (kept : List Tx) (g : Going) (k : ChainKind) (bytes rest line after digits known : List ℕ) → g.before ≡ length kept
+    → walk at (parts_of bytes) ≡ with_blocks [] (walk (going_at kept g digits known) (parts_of rest)) → parts_of rest ≡ line ∷ parts_of after
     → told_within (g.before + length g.txs) line ≡ Err k
     → walk at (parts_of bytes) ≡ ([], Err (record { line = g.line; kind = k }))
-walk_stops at kept g k bytes rest line after known before so_far split e =
-    walk_fault at (going_at kept g known) bytes rest line after [] (record { line = g.line; kind = k }) so_far split (told_going kept g known line (Err k) before e)
+walk_stops at kept g k bytes rest line after digits known before so_far split e =
+    walk_fault at (going_at kept g digits known) bytes rest line after [] (record { line = g.line; kind = k }) so_far split (told_going kept g digits known line (Err k) before e)
 
 -- ---- where a piece begins within a block
 
 -- the block without its transactions, at the place where the code stands
-pub at_begun : (at : Position) (l : ℕ) (p : Section) (d : List ℕ) (f : FileForm) (count : ℕ) (txs rest : List Tx) → l ≡ at.line → p ≡ at.place → d ≡ at.digits
-    → p ≡ place.Within f count txs → rest ≡ [] → at ≡ at_line l (place.Within f count (txs_in p ++ rest)) d at.bytes
-at_begun at l p d f count txs rest line where_at digits is none =
+pub at_begun : (at : Position) (l : ℕ) (p : Section) (f : FileForm) (count : ℕ) (txs rest : List Tx) → l ≡ at.line → p ≡ at.place
+    → p ≡ place.Within f count txs → rest ≡ [] → at ≡ at_line l (place.Within f count (txs_in p ++ rest)) at.digits at.bytes
+at_begun at l p f count txs rest line where_at is none =
     let all : txs ≡ txs_in p ++ rest = sym (ap (λ some. txs_in p ++ some) none ∙ append-nil (txs_in p) ∙ ap txs_in is) in
-    same_at at.line l at.place (place.Within f count (txs_in p ++ rest)) at.digits d at.bytes (sym line) (sym where_at ∙ is ∙ ap (λ some. place.Within f count some) all) (sym digits)
+    same_at at.line l at.place (place.Within f count (txs_in p ++ rest)) at.digits at.digits at.bytes (sym line) (sym where_at ∙ is ∙ ap (λ some. place.Within f count some) all) refl
+
+-- and what the code knows of its hashes
+pub known_begun : (at : Position) (p : Section) (f : FileForm) (count : ℕ) (txs : List Tx) (h : Hashes) → p ≡ at.place → p ≡ place.Within f count txs → Knows (form_of at.place) h at.digits at.bytes
+    → Knows f h at.digits at.bytes
+known_begun at p f count txs h where_at is knows = subst (λ (q : Section). Knows (form_of q) h at.digits at.bytes) (sym where_at ∙ is) knows
 
 pub count_begun : (p : Section) (f : FileForm) (count : ℕ) (txs : List Tx) → p ≡ place.Within f count txs → length txs ≡ length (txs_in p)
 count_begun p f count txs is = sym (ap (λ (q : Section). length (txs_in q)) is)
@@ -144,15 +149,15 @@ pub ends_resume : (kept : List Tx) (g : Going) (bytes after : List ℕ) (read : 
 ends_resume kept g bytes after read blank blocks reads is =
     (blank, walk (behind_end g bytes) (parts_of after), is ∙ ap (λ following. blank ∷ following) reads.0, reads.1, refl)
 
--- ---- the standing is as before
+-- ---- the spot is as before
 
-abbrev again : (s : Standing) (p : Section) → is_near s.line p ≡ true → Standing
-again s p near = record { line = s.line; place = p; digits = s.digits; hash = s.hash; near = near }
+abbrev again : (s : Spot) (p : Section) → is_near s.line p ≡ true → Spot
+again s p near = record { line = s.line; place = p; near = near }
 
-same_near : (s : Standing) (near : is_near s.line s.place ≡ true) → again s s.place near ≡ s
+same_near : (s : Spot) (near : is_near s.line s.place ≡ true) → again s s.place near ≡ s
 same_near s near =
     let one : IsProp (is_near s.line s.place ≡ true) = hlevel (Bool-set) in
     ap (again s s.place) (one near s.near)
 
-pub same_standing : (s : Standing) (p : Section) (near : is_near s.line p ≡ true) → p ≡ s.place → record { line = s.line; place = p; digits = s.digits; hash = s.hash; near = near } ≡ s
-same_standing s p near is = subst (λ (q : Section). (n : is_near s.line q ≡ true) → again s q n ≡ s) (sym is) (same_near s) near
+pub same_spot : (s : Spot) (p : Section) (near : is_near s.line p ≡ true) → p ≡ s.place → record { line = s.line; place = p; near = near } ≡ s
+same_spot s p near is = subst (λ (q : Section). (n : is_near s.line q ≡ true) → again s q n ≡ s) (sym is) (same_near s) near

@@ -3,6 +3,12 @@ use Rattle.std.specs.Prelude.{◌≡◌, ℕ, List, ◌∷◌, [], ◌++◌, Opt
 use Rattle.sha2.specs.Hashers.{Holds256}
 use Rattle.proc_syntax.specs.declared.call.Block.{Block}
 use Rattle.proc_syntax.specs.declared.chain_fault.ChainFault.{ChainFault}
+use Rattle.chain_file.specs.declared.section.FileForm.{FileForm}
+use Rattle.chain_file.specs.declared.section.FileForm.TheVariants as form
+use Rattle.chain_file.specs.declared.section.Section.{Section}
+use Rattle.chain_file.specs.declared.section.Section.TheVariants as place
+use Rattle.chain_file.specs.declared.hash.Hashes.{Hashes}
+use Rattle.chain_file.specs.declared.standing.Spot.{Spot}
 use Rattle.chain_file.specs.declared.standing.Standing.{Standing}
 use Rattle.chain_file.specs.declared.advance.LineStop.{LineStop}
 use Rattle.chain_file.specs.declared.advance.LineStop.TheVariants as stop
@@ -11,18 +17,50 @@ use Rattle.chain_file.specs.declared.reader.State.TheVariants as state
 use Rattle.chain_file.specs.declared.reader.Read.{Read}
 use Rattle.chain_file.specs.declared.reader.Fed.{Fed}
 use Rattle.chain_file.specs.declared.reader.Reader.{Reader}
-use Rattle.tx_text.specs.Parts.{parts_of}
-use Rattle.chain_file.specs.Chain.{Position, Walked, chain, lasting, walked}
+use Rattle.tx_text.specs.Parts.{line_text, parts_of}
+use Rattle.chain_file.specs.Chain.{Position, Walked, bytes_in, chain, hash_digits, lasting, walked}
 
--- the code knows this before a line; of the bytes of the block that has begun it keeps the hash
+-- the form of the file; before the header a chain, which it may become
+abbrev pub form_of : Section → FileForm
+form_of place.Start = form.Chain
+form_of (place.Between f count) = f
+form_of (place.Within f count txs) = f
+
+-- of a chain the code knows the digits of the hash of the block before, and keeps the hash of the bytes of the block that has
+-- begun; of a draft it knows nothing
+abbrev pub Knows : FileForm → Hashes → List ℕ → List ℕ → Type 0
+Knows form.Draft h digits bytes = Unit {0}
+Knows form.Chain h digits bytes = (h.digits ≡ digits) × Holds256 h.block bytes
+
+-- the code knows this before a line
+abbrev pub Stands : Spot → Hashes → Position → Type 0
+Stands s h at = (s.line ≡ at.line) × (s.place ≡ at.place) × (bytes_in at.place at.bytes ≡ at.bytes) × Knows (form_of at.place) h at.digits at.bytes
+
 abbrev pub StandsAt : Standing → Position → Type 0
-StandsAt s at = (s.line ≡ at.line) × (s.place ≡ at.place) × (s.digits ≡ at.digits) × Holds256 s.hash at.bytes
+StandsAt s at = Stands s.spot s.hashes at
+
+-- the bytes that the hash holds behind a line that leaves this, by whether it ended a block
+abbrev pub hashed : Section → Option Block → List ℕ → List ℕ → List ℕ
+hashed next (Some block) bytes line = []
+hashed place.Start None bytes line = bytes
+hashed (place.Between f count) None bytes line = bytes
+hashed (place.Within f count txs) None bytes line = bytes ++ line_text line
+
+-- and the digits of the hash of the block before
+abbrev pub digits_behind : Option Block → List ℕ → List ℕ → List ℕ
+digits_behind None digits bytes = digits
+digits_behind (Some block) digits bytes = hash_digits bytes
+
+-- so the hashes change with the line
+abbrev pub IsHashed : Hashes → Hashes → Section → Option Block → List ℕ → Type 0
+IsHashed old new next ended line =
+    (digits bytes : List ℕ) → Knows (form_of next) old digits bytes → Knows (form_of next) new (digits_behind ended digits (bytes ++ line_text line)) (hashed next ended bytes line)
 
 -- what the code says behind a line, unless memory ran out
-abbrev pub TakesLine : Result (Standing × Option Block) LineStop → Result (Position × Option Block) ChainFault → Type 0
-TakesLine (Ok next) meant = (at : Position) × StandsAt next.0 at × (meant ≡ Ok (at, next.1))
-TakesLine (Err stop.NoMemory) meant = Unit {0}
-TakesLine (Err (stop.Fault found)) meant = meant ≡ Err found
+abbrev pub TakesLine : Result (Spot × Option Block) LineStop → Hashes → Result (Position × Option Block) ChainFault → Type 0
+TakesLine (Ok next) h meant = (at : Position) × Stands next.0 h at × (meant ≡ Ok (at, next.1))
+TakesLine (Err stop.NoMemory) h meant = Unit {0}
+TakesLine (Err (stop.Fault found)) h meant = meant ≡ Err found
 
 -- what the code keeps behind bytes
 abbrev pub Keeps : State → Result (Position × List ℕ) ChainFault → Type 0

@@ -1,6 +1,5 @@
 -- A piece that goes on with a block that began before it.
 use Rattle.std.specs.Prelude.{◌≡◌, ◌≤◌, ◌<◌, ◌+◌, ℕ, List, [], ◌∷◌, ◌++◌, length, Ok, Err}
-use Rattle.sha2.specs.Hashers.{Holds256}
 use Rattle.proc_syntax.specs.declared.call.Tx.{Tx}
 use Rattle.proc_syntax.specs.declared.call.Block.{Block}
 use Rattle.tx_text.specs.Parts.{parts_of}
@@ -13,7 +12,7 @@ use Rattle.chain_file.specs.declared.resume.More.{More}
 use Rattle.chain_file.specs.declared.resume.More.TheVariants as more
 use Rattle.chain_file.specs.Draft.{block_of}
 use Rattle.chain_file.specs.Chain.{Position, Walked, ended_blocks, hash_digits, with_blocks}
-use Rattle.chain_file.specs.Following.{Keeps, StandsAt}
+use Rattle.chain_file.specs.Following.{Keeps, Knows, StandsAt}
 
 -- the transactions of the block that has begun
 abbrev pub txs_in : Section → List Tx
@@ -21,9 +20,10 @@ txs_in place.Start = []
 txs_in (place.Between f count) = []
 txs_in (place.Within f count txs) = txs
 
--- before a line of a block that had these transactions before the piece, and these bytes so far
-abbrev pub going_at : List Tx → Going → List ℕ → Position
-going_at kept g bytes = record { line = g.line; place = place.Within g.form g.count (kept ++ g.txs); digits = g.digits; bytes = bytes }
+-- before a line of a block that had these transactions before the piece, and these bytes so far, behind a block whose hash has
+-- these digits
+abbrev pub going_at : List Tx → Going → List ℕ → List ℕ → Position
+going_at kept g digits bytes = record { line = g.line; place = place.Within g.form g.count (kept ++ g.txs); digits = digits; bytes = bytes }
 
 -- behind the line that ends it, which is the last of these bytes
 abbrev pub behind_end : Going → List ℕ → Position
@@ -32,7 +32,7 @@ behind_end g bytes = record { line = g.line + 1; place = place.Between g.form (g
 -- what the lines of a piece go on with, where the block that has begun has these transactions
 abbrev pub Begins : List Tx → Before → Position → Type 0
 Begins kept (before.Between s) at = StandsAt s at
-Begins kept (before.Within g) at = (at ≡ going_at kept g at.bytes) × Holds256 g.hash at.bytes
+Begins kept (before.Within g) at = (at ≡ going_at kept g at.digits at.bytes) × Knows g.form g.hashes at.digits at.bytes
 
 -- as many transactions stand before as these
 abbrev pub Counts : List Tx → Before → Type 0
@@ -41,7 +41,8 @@ Counts kept (before.Within g) = g.before ≡ length kept
 
 -- what the lines of the piece give, where the block that has begun had these transactions before it
 abbrev pub Resumes : List Tx → More → Walked → Type 0
-Resumes kept (more.Goes g held) meant = (bytes : List ℕ) × Holds256 g.hash bytes × (parts_of held ≡ held ∷ []) × (meant ≡ ([], Ok (going_at kept g bytes, held)))
+Resumes kept (more.Goes g held) meant =
+    (digits : List ℕ) × (bytes : List ℕ) × Knows g.form g.hashes digits bytes × (parts_of held ≡ held ∷ []) × (meant ≡ ([], Ok (going_at kept g digits bytes, held)))
 Resumes kept (more.Ends number txs blocks s) meant =
     (blank : Block) × (rest : Walked) × (blocks ≡ blank ∷ rest.0) × Keeps s rest.1 × (meant ≡ with_blocks (ended_blocks (block_of number (kept ++ txs))) rest)
 Resumes kept (more.Stopped found) meant = meant ≡ ([], Err found)

@@ -3,33 +3,27 @@
 //! Only here do the transactions that a block had before the piece move from where they are kept.
 
 ghost use Rattle.std.specs.Prelude.{◌≡◌, ◌≤◌, ◌<◌, ◌∷◌, ◌++◌, ℕ, List, [], length, Ok, IfOk, OnErr};
-ghost use Rattle.sha2.specs.Hashers.{Holds256};
 ghost use Rattle.tx_text.specs.Parts.{parts_of};
 ghost use Rattle.chain_file.specs.Draft.{block_of};
 ghost use Rattle.chain_file.specs.Chain.{Walked, ended_blocks};
-ghost use Rattle.chain_file.specs.Following.{Reads};
+ghost use Rattle.chain_file.specs.Following.{Knows, Reads};
 ghost use Rattle.chain_file.specs.Resumed.{Fits, Resumes, going_at, txs_in};
 
 use crate::going::Going;
 use crate::reader::{Read, State};
 use crate::resume::More;
 use crate::section::Section;
-use crate::standing::Standing;
+use crate::standing::{Spot, Standing};
 use proc_syntax::{Block, Tx};
 use rel_base::{List, NoMemory};
 use std::alloc::Global;
 
 /// Takes out the transactions of the block that has begun, with more behind them. Where memory is wanting, all is as before.
-fn take_txs(standing: &mut Standing, more: List<Tx>) -> Result<List<Tx>, NoMemory>
-    ensures all { IfOk result (λ all. all ≡ txs_in standing.old.place ++ more) }
-    ensures err { OnErr result (standing.new ≡ standing.old) }
+fn take_txs(spot: &mut Spot, more: List<Tx>) -> Result<List<Tx>, NoMemory>
+    ensures all { IfOk result (λ all. all ≡ txs_in spot.old.place ++ more) }
+    ensures err { OnErr result (spot.new ≡ spot.old) }
 {
-    let Standing {
-        line,
-        place,
-        digits,
-        hash,
-    } = std::mem::replace(standing, Standing::front());
+    let Spot { line, place } = std::mem::replace(spot, Spot::front());
     match place {
         Section::Start | Section::Between { .. } => Ok(more),
         Section::Within {
@@ -41,12 +35,8 @@ fn take_txs(standing: &mut Standing, more: List<Tx>) -> Result<List<Tx>, NoMemor
             if appended.is_ok() {
                 return Ok(txs);
             }
-            *standing = Standing {
-                line,
-                place: Section::Within { form, count, txs },
-                digits,
-                hash,
-            };
+            let place = Section::Within { form, count, txs };
+            *spot = Spot { line, place };
             Err(NoMemory)
         }
     }
@@ -56,30 +46,26 @@ fn take_txs(standing: &mut Standing, more: List<Tx>) -> Result<List<Tx>, NoMemor
 #[tactic(auto, using(crate::proofs::Near::going_near))]
 fn keep_going(
     alloc: Global,
-    standing: &mut Standing,
+    spot: &mut Spot,
     going: Going,
     held: List<u8>,
 ) -> Result<Read, NoMemory>
-    requires { going.before ≡ length (txs_in standing.old.place) }
-    ensures reads { (bytes : List ℕ) → Holds256 going.hash bytes → parts_of held ≡ held ∷ [] → IfOk result (λ read. Reads read ([], Ok (going_at (txs_in standing.old.place) going bytes, held))) }
-    ensures err { OnErr result (standing.new ≡ standing.old) }
+    requires { going.before ≡ length (txs_in spot.old.place) }
+    ensures reads { (digits bytes : List ℕ) → Knows going.form going.hashes digits bytes → parts_of held ≡ held ∷ [] → IfOk result (λ read. Reads read ([], Ok (going_at (txs_in spot.old.place) going digits bytes, held))) }
+    ensures err { OnErr result (spot.new ≡ spot.old) }
 {
     let Going {
         form,
         count,
         line,
-        digits,
-        hash,
+        hashes,
         txs,
         ..
     } = going;
-    let txs = take_txs(standing, txs)?;
-    let standing = Standing {
-        line,
-        place: Section::Within { form, count, txs },
-        digits,
-        hash,
-    };
+    let txs = take_txs(spot, txs)?;
+    let place = Section::Within { form, count, txs };
+    let spot = Spot { line, place };
+    let standing = Standing { spot, hashes };
     Ok(Read {
         blocks: List::new(alloc),
         state: State::Open { standing, held },
@@ -102,24 +88,24 @@ fn put_block(blocks: &mut List<Block>, number: u64, txs: List<Tx>)
 
 /// Moves the transactions that the block had before, where it goes on, or to those of the piece, where it ended. Where memory is
 /// wanting, all is as before.
-pub fn finish(alloc: Global, standing: &mut Standing, more: More) -> Result<Read, NoMemory>
-    requires { Fits (txs_in standing.old.place) more }
-    ensures reads { (meant : Walked) → Resumes (txs_in standing.old.place) more meant → IfOk result (λ read. Reads read meant) }
-    ensures err { OnErr result (standing.new ≡ standing.old) }
+pub fn finish(alloc: Global, spot: &mut Spot, more: More) -> Result<Read, NoMemory>
+    requires { Fits (txs_in spot.old.place) more }
+    ensures reads { (meant : Walked) → Resumes (txs_in spot.old.place) more meant → IfOk result (λ read. Reads read meant) }
+    ensures err { OnErr result (spot.new ≡ spot.old) }
 {
     match more {
         More::Stopped(fault) => Ok(Read {
             blocks: List::new(alloc),
             state: State::Stopped(fault),
         }),
-        More::Goes { going, held } => keep_going(alloc, standing, going, held),
+        More::Goes { going, held } => keep_going(alloc, spot, going, held),
         More::Ends {
             number,
             txs,
             mut blocks,
             state,
         } => {
-            let all = take_txs(standing, txs)?;
+            let all = take_txs(spot, txs)?;
             put_block(&mut blocks, number, all);
             Ok(Read { blocks, state })
         }

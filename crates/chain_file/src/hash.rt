@@ -1,23 +1,80 @@
-//! The hash of a block.
+//! The hashes of blocks.
 
-ghost use Rattle.std.specs.Prelude.{◌≡◌, ◌++◌, ℕ, List, length};
+ghost use Rattle.std.specs.Prelude.{◌≡◌, ◌++◌, ℕ, List, [], length, IfOk};
 ghost use Rattle.sha2.specs.Hashers.{Holds256};
 ghost use Rattle.hex.specs.Hex.{encode_lower};
-ghost use Rattle.chain_file.specs.Chain.{hash_digits};
 ghost use Rattle.tx_text.specs.Parts.{line_text};
+ghost use Rattle.chain_file.specs.Chain.{hash_digits, no_digits};
+ghost use Rattle.chain_file.specs.Following.{Knows};
 
+use crate::section::FileForm;
+use rel_base::NoMemory;
 use sha2::{Digest, Sha256};
 
 /// The hash that the first block of a chain names.
 pub const NO_DIGITS: [u8; 64] = [b'0'; 64];
 
-/// The hash with a line and its newline behind what it holds.
-pub fn with_line(mut hash: Sha256, line: &[u8]) -> Sha256
-    ensures { (bytes : List ℕ) → Holds256 hash bytes → Holds256 result (bytes ++ line_text line.now) }
+/// What is known of the hashes of a chain. A draft has none, and leaves this as it is.
+#[derive(Drop)]
+pub struct Hashes {
+    /// The digits of the hash of the block before.
+    pub digits: [u8; 64],
+    /// The hash of the block that has begun, as far as it goes.
+    pub block: Sha256,
+}
+
+impl Hashes {
+    /// Before the first block.
+    pub fn front() -> Hashes
+        ensures { Knows FileForm.Chain result no_digits [] }
+    {
+        Hashes {
+            digits: NO_DIGITS,
+            block: Sha256::new(),
+        }
+    }
+
+    /// The same again.
+    pub fn copy(&self) -> Result<Hashes, NoMemory>
+        ensures { IfOk result (λ twin. twin ≡ self.now) }
+    {
+        Ok(Hashes {
+            digits: self.digits,
+            block: self.block.clone()?,
+        })
+    }
+
+    /// Takes a line of the block that has begun.
+    pub fn add(&mut self, form: FileForm, line: &[u8])
+        ensures { (digits bytes : List ℕ) → Knows form self.old digits bytes → Knows form self.new digits (bytes ++ line_text line.now) }
+    {
+        match form {
+            FileForm::Draft => {}
+            FileForm::Chain => add_line(&mut self.block, line),
+        }
+    }
+
+    /// Takes the last line of the block that has begun.
+    pub fn end(&mut self, form: FileForm, line: &[u8])
+        ensures { (digits bytes : List ℕ) → Knows form self.old digits bytes → Knows form self.new (hash_digits (bytes ++ line_text line.now)) [] }
+    {
+        match form {
+            FileForm::Draft => {}
+            FileForm::Chain => {
+                add_line(&mut self.block, line);
+                let block = std::mem::replace(&mut self.block, Sha256::new());
+                self.digits = digits_of(block);
+            }
+        }
+    }
+}
+
+/// Puts a line and its newline behind what the hash holds.
+fn add_line(hash: &mut Sha256, line: &[u8])
+    ensures { (bytes : List ℕ) → Holds256 hash.old bytes → Holds256 hash.new (bytes ++ line_text line.now) }
 {
     hash.update(line);
     hash.update(b"\n".as_slice());
-    hash
 }
 
 /// Bytes as hexadecimal digits.
@@ -31,7 +88,7 @@ fn hex_of(digest: &[u8; 32]) -> [u8; 64]
 }
 
 /// The digits of a hash.
-pub fn digits_of(hash: Sha256) -> [u8; 64]
+fn digits_of(hash: Sha256) -> [u8; 64]
     ensures { (bytes : List ℕ) → Holds256 hash bytes → result ≡ hash_digits bytes }
 {
     hex_of(&hash.finalize())

@@ -58,7 +58,7 @@ fn last_part(alloc: Global, standing: Standing, rest: &[u8]) -> Result<State, No
 {
     if rest.len() > MOST_LINE_BYTES {
         return Ok(State::Stopped(ChainFault {
-            line: standing.line,
+            line: standing.spot.line,
             kind: ChainKind::LineTooLong,
         }));
     }
@@ -70,11 +70,12 @@ fn last_part(alloc: Global, standing: Standing, rest: &[u8]) -> Result<State, No
 pub fn read_lines(alloc: Global, standing: Standing, bytes: &[u8]) -> Result<Read, NoMemory>
     ensures { (at : Position) → StandsAt standing at → IfOk result (λ read. Reads read (walk at (parts_of bytes.now))) }
 {
+    let Standing { spot, mut hashes } = standing;
     let mut given = List::new(alloc);
-    let mut before = standing;
+    let mut before = spot;
     let mut rest = bytes;
     while let Some((line, after)) = split_line(rest) {
-        match take_line(alloc, before, line) {
+        match take_line(alloc, before, &mut hashes, line) {
             Ok((next, ended)) => {
                 push_ended(&mut given, ended)?;
                 before = next;
@@ -89,7 +90,8 @@ pub fn read_lines(alloc: Global, standing: Standing, bytes: &[u8]) -> Result<Rea
         }
         rest = after;
     }
-    let state = last_part(alloc, before, rest)?;
+    let spot = before;
+    let state = last_part(alloc, Standing { spot, hashes }, rest)?;
     Ok(Read {
         blocks: given,
         state,
@@ -106,7 +108,7 @@ fn read_on(alloc: Global, standing: &mut Standing, bytes: &[u8]) -> Result<Read,
         Before::Between(twin) => read_lines(alloc, twin, bytes),
         Before::Within(going) => {
             let more = read_more(alloc, going, bytes)?;
-            finish(alloc, standing, more)
+            finish(alloc, &mut standing.spot, more)
         }
     }
 }
@@ -146,11 +148,11 @@ fn fault_at_end(state: &State) -> Option<ChainFault>
     match state {
         State::Stopped(fault) => Some(*fault),
         State::Open { standing, held } => {
-            if held.is_empty() && matches!(standing.place, Section::Between { .. }) {
+            if held.is_empty() && matches!(standing.spot.place, Section::Between { .. }) {
                 return None;
             }
             Some(ChainFault {
-                line: standing.line,
+                line: standing.spot.line,
                 kind: ChainKind::Truncated,
             })
         }

@@ -3,19 +3,16 @@
 //! The transactions that the block had before stay where they are kept until nothing can fail any more.
 
 ghost use Rattle.std.specs.Prelude.{◌≡◌, ◌+◌, ◌∷◌, ◌++◌, ℕ, List, [], length, IfOk};
-ghost use Rattle.sha2.specs.Hashers.{Holds256};
 ghost use Rattle.tx_text.specs.Parts.{line_text, parts_of};
 ghost use Rattle.chain_file.specs.Draft.{block_of};
 ghost use Rattle.chain_file.specs.Chain.{Position, ended_blocks, walk, with_blocks};
-ghost use Rattle.chain_file.specs.Following.{StandsAt};
+ghost use Rattle.chain_file.specs.Following.{Knows, StandsAt};
 ghost use Rattle.chain_file.specs.Resumed.{Begins, Counts, Fits, Resumes, behind_end, going_at, txs_in};
 
-use crate::advance::behind_block;
 use crate::going::Going;
-use crate::hash::with_line;
 use crate::reader::{Read, State, read_lines};
 use crate::section::{FileForm, Section};
-use crate::standing::Standing;
+use crate::standing::{Spot, Standing};
 use crate::step::{StepFault, told_within};
 use proc_syntax::{Block, ChainFault, ChainKind, Tx};
 use rel_base::{List, NoMemory};
@@ -52,19 +49,18 @@ pub enum More {
 
 /// The same standing again, outside of blocks.
 fn outside(standing: &Standing, place: Section) -> Result<Standing, NoMemory>
-    requires { place ≡ standing.now.place }
+    requires { place ≡ standing.now.spot.place }
     ensures { (at : Position) → StandsAt standing.now at → IfOk result (λ twin. StandsAt twin at) }
 {
+    let line = standing.spot.line;
     Ok(Standing {
-        line: standing.line,
-        place,
-        digits: standing.digits,
-        hash: standing.hash.clone()?,
+        spot: Spot { line, place },
+        hashes: standing.hashes.copy()?,
     })
 }
 
 /// The block that has begun, without its transactions.
-#[tactic(auto, using(crate::proofs::Near::going_begun, crate::proofs::Resumed::at_begun, crate::proofs::Resumed::count_begun))]
+#[tactic(auto, using(crate::proofs::Near::going_begun, crate::proofs::Resumed::at_begun, crate::proofs::Resumed::count_begun, crate::proofs::Resumed::known_begun))]
 fn begun(
     alloc: Global,
     standing: &Standing,
@@ -72,27 +68,26 @@ fn begun(
     count: u64,
     txs: &List<Tx>,
 ) -> Result<Going, NoMemory>
-    requires { standing.now.place ≡ Section.Within form count txs.now }
-    ensures begins { (at : Position) → StandsAt standing.now at → IfOk result (λ going. (at ≡ going_at (txs_in standing.now.place) going at.bytes) × Holds256 going.hash at.bytes) }
-    ensures before { IfOk result (λ going. going.before ≡ length (txs_in standing.now.place)) }
+    requires { standing.now.spot.place ≡ Section.Within form count txs.now }
+    ensures begins { (at : Position) → StandsAt standing.now at → IfOk result (λ going. (at ≡ going_at (txs_in standing.now.spot.place) going at.digits at.bytes) × Knows going.form going.hashes at.digits at.bytes) }
+    ensures before { IfOk result (λ going. going.before ≡ length (txs_in standing.now.spot.place)) }
 {
     Ok(Going {
         form,
         count,
         before: txs.len(),
-        line: standing.line,
-        digits: standing.digits,
-        hash: standing.hash.clone()?,
+        line: standing.spot.line,
+        hashes: standing.hashes.copy()?,
         txs: List::new(alloc),
     })
 }
 
 /// What the lines of a piece go on with.
 pub fn before_piece(alloc: Global, standing: &Standing) -> Result<Before, NoMemory>
-    ensures begins { (at : Position) → StandsAt standing.now at → IfOk result (λ before. Begins (txs_in standing.now.place) before at) }
-    ensures counts { IfOk result (λ before. Counts (txs_in standing.now.place) before) }
+    ensures begins { (at : Position) → StandsAt standing.now at → IfOk result (λ before. Begins (txs_in standing.now.spot.place) before at) }
+    ensures counts { IfOk result (λ before. Counts (txs_in standing.now.spot.place) before) }
 {
-    match &standing.place {
+    match &standing.spot.place {
         Section::Start => {
             let twin = outside(standing, Section::Start)?;
             Ok(Before::Between(twin))
@@ -131,29 +126,31 @@ fn behind(alloc: Global, first: Block, following: List<Block>) -> Result<List<Bl
 #[tactic(auto, using(crate::proofs::Near::going_low, crate::proofs::Near::going_count, crate::proofs::Near::going_ended, crate::proofs::Near::going_few))]
 fn end_going(alloc: Global, going: Going, line: &[u8], after: &[u8]) -> Result<More, NoMemory>
     ensures fits { (kept : List Tx) → going.before ≡ length kept → IfOk result (λ more. Fits kept more) }
-    ensures resumes { (kept : List Tx) (bytes : List ℕ) → Holds256 going.hash bytes → IfOk result (λ more. Resumes kept more (with_blocks (ended_blocks (block_of (going.count + 1) (kept ++ going.txs))) (walk (behind_end going (bytes ++ line_text line.now)) (parts_of after.now)))) }
+    ensures resumes { (kept : List Tx) (digits bytes : List ℕ) → Knows going.form going.hashes digits bytes → IfOk result (λ more. Resumes kept more (with_blocks (ended_blocks (block_of (going.count + 1) (kept ++ going.txs))) (walk (behind_end going (bytes ++ line_text line.now)) (parts_of after.now)))) }
 {
     let Going {
         form,
         count,
         line: number,
-        hash,
+        mut hashes,
         txs,
         ..
     } = going;
-    let place = Section::Between {
-        form,
-        count: count + 1,
+    hashes.end(form, line);
+    let count = count + 1;
+    let spot = Spot {
+        line: number + 1,
+        place: Section::Between { form, count },
     };
-    let standing = behind_block(number + 1, place, with_line(hash, line));
+    let standing = Standing { spot, hashes };
     let read = read_lines(alloc, standing, after)?;
     let Read {
         blocks: following,
         state,
     } = read;
-    let blocks = behind(alloc, blank_block(alloc, count + 1), following)?;
+    let blocks = behind(alloc, blank_block(alloc, count), following)?;
     Ok(More::Ends {
-        number: count + 1,
+        number: count,
         txs,
         blocks,
         state,
@@ -164,7 +161,7 @@ fn end_going(alloc: Global, going: Going, line: &[u8], after: &[u8]) -> Result<M
 fn hold_going(alloc: Global, going: Going, rest: &[u8]) -> Result<More, NoMemory>
     requires { parts_of rest.now ≡ rest.now ∷ [] }
     ensures fits { (kept : List Tx) → going.before ≡ length kept → IfOk result (λ more. Fits kept more) }
-    ensures resumes { (kept : List Tx) (bytes : List ℕ) → Holds256 going.hash bytes → IfOk result (λ more. Resumes kept more (walk (going_at kept going bytes) (rest.now ∷ []))) }
+    ensures resumes { (kept : List Tx) (digits bytes : List ℕ) → Knows going.form going.hashes digits bytes → IfOk result (λ more. Resumes kept more (walk (going_at kept going digits bytes) (rest.now ∷ []))) }
 {
     if rest.len() > MOST_LINE_BYTES {
         return Ok(More::Stopped(ChainFault {
@@ -179,13 +176,13 @@ fn hold_going(alloc: Global, going: Going, rest: &[u8]) -> Result<More, NoMemory
 /// Reads lines that go on with a block.
 pub fn read_more(alloc: Global, going: Going, bytes: &[u8]) -> Result<More, NoMemory>
     ensures fits { (kept : List Tx) → going.before ≡ length kept → IfOk result (λ more. Fits kept more) }
-    ensures resumes { (kept : List Tx) (known : List ℕ) → going.before ≡ length kept → Holds256 going.hash known → IfOk result (λ more. Resumes kept more (walk (going_at kept going known) (parts_of bytes.now))) }
+    ensures resumes { (kept : List Tx) (digits known : List ℕ) → going.before ≡ length kept → Knows going.form going.hashes digits known → IfOk result (λ more. Resumes kept more (walk (going_at kept going digits known) (parts_of bytes.now))) }
 {
     let mut block = going;
     let mut rest = bytes;
     while let Some((line, after)) = split_line(rest) {
         match told_within(alloc, block.len(), line) {
-            Ok(Some(tx)) => block = block.with_tx(tx, line)?,
+            Ok(Some(tx)) => block.add_tx(tx, line)?,
             Ok(None) => return end_going(alloc, block, line, after),
             Err(StepFault::NoMemory) => return Err(NoMemory),
             Err(StepFault::Kind(kind)) => {

@@ -1,5 +1,8 @@
 //! Where the lines of a block file stand.
 
+ghost use Rattle.std.specs.Prelude.{◌≡◌};
+ghost use Rattle.chain_file.specs.Following.{form_of};
+
 use proc_syntax::{Block, Tx};
 use rel_base::List;
 
@@ -28,6 +31,18 @@ pub enum Section {
         count: u64,
         txs: List<Tx>,
     },
+}
+
+impl Section {
+    /// The form of the file; before the header a chain, which it may become.
+    pub fn form(&self) -> FileForm
+        ensures { result ≡ form_of self.now }
+    {
+        match self {
+            Section::Start => FileForm::Chain,
+            Section::Between { form, .. } | Section::Within { form, .. } => *form,
+        }
+    }
 }
 
 /// What a line leaves: where the next one stands, and the block that it ended.

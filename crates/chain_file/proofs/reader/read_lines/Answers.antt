@@ -11,8 +11,8 @@ pub returns-in-Err-Fault : goal.returns-in-Err-Fault
 returns-in-Err-Fault c =
     λ at stands.
     let inv = c.loop-line.invariant at stands in
-    let told : TakesLine (Err (stop.Fault c.in-Err-Fault.fault)) (take_line inv.0 c.in-Some.line.now) =
-    subst (λ (s : LineStop). TakesLine (Err s) (take_line inv.0 c.in-Some.line.now)) c.in-Err-Fault.field-0-is (c.in-Err-Fault.ensures inv.0 inv.1) in
+    let told : TakesLine (Err (stop.Fault c.in-Err-Fault.fault)) c.take_line.new.hashes (take_line inv.0 c.in-Some.line.now) =
+    subst (λ (s : LineStop). TakesLine (Err s) c.take_line.new.hashes (take_line inv.0 c.in-Some.line.now)) c.in-Err-Fault.field-0-is (c.in-Err-Fault.ensures inv.0 inv.1) in
     let e = walk_fault at inv.0 c.args.bytes.now c.loop-line.rest.now c.in-Some.line.now c.in-Some.after.now c.loop-line.given c.in-Err-Fault.fault inv.2 c.in-Some.ensures.parts told in
     (sym (ap (λ w. w.0) e), ap (λ w. w.1) e ∙ ap (λ f. Err f) (sym c.in-Err-Fault.fault-is))
 
