@@ -4,7 +4,7 @@ use Rattle.std.proofs.lemmas.Bool.{eqb-true}
 use Rattle.std.specs.Prelude.{Err, Ok, Result}
 use Rattle.bcdb.specs.Accepted.{accepted}
 use Rattle.bcdb.specs.Agrees.{Adds, AnswersAsRun, is_refused}
-use Rattle.bcdb.specs.Answer.{Answer, arrived_in, cluster_of, file_at, look_of, over_arrivals, over_cluster, over_schedule, over_simulation, over_told, says, simulation_of, status_of}
+use Rattle.bcdb.specs.Answer.{ProgramAnswer, arrived_in, cluster_of, file_at, look_of, over_arrivals, over_cluster, over_schedule, over_simulation, over_told, says, simulation_of, status_of}
 use Rattle.bcdb.specs.Refusals.{refusal_line}
 use Rattle.bcdb.specs.declared.refusal.Refusal.{Refusal}
 use Rattle.chain_file.specs.Chain.{chain}
@@ -12,7 +12,7 @@ use Rattle.cli_words.specs.declared.settings.Settings.TheVariants.{Load, Provena
 use Rattle.cli_words.specs.declared.settings.Settings.{Settings}
 use Rattle.edge_traits.specs.Shelf.{Files}
 use Rattle.node_model.specs.Fold.{all_rows, node_result, results_of}
-use Rattle.node_model.specs.History.{Sealed, snapshot}
+use Rattle.node_model.specs.History.{SealedBlock, snapshot}
 use Rattle.node_model.specs.declared.result.NodeResult.{NodeResult}
 use Rattle.proc_syntax.specs.Declaring.{tables_of}
 use Rattle.proc_syntax.specs.declared.call.Block.{Block}
@@ -22,15 +22,15 @@ use Rattle.proc_syntax.specs.declared.tree.App.{App}
 use Rattle.report_text.specs.Report.{journals_text, report_lines, shown_if}
 use Rattle.report_text.specs.declared.look.Look.{Look}
 use Rattle.schedule_sim.proofs.Legal.{schedules_seal_the_fold}
-use Rattle.schedule_sim.specs.Running.{Given, scheduled, simulated, told_of}
+use Rattle.schedule_sim.specs.Running.{Given, result_told, scheduled, simulated}
 use Rattle.schedule_sim.specs.Schedules.{schedule_of}
 use Rattle.schedule_sim.specs.declared.step.Step.{Step}
 
-abbrev told_by : App → List Sealed → NodeResult
+abbrev told_by : App → List SealedBlock → NodeResult
 told_by app sealed = record { blocks = results_of (tables_of app) sealed; tables = all_rows (snapshot (length sealed) sealed) 0 (tables_of app); journal = [] }
 
 -- the report of a run of one node
-abbrev one_reported : Look → App → List Block → Option ChainFault → Answer
+abbrev one_reported : Look → App → List Block → Option ChainFault → ProgramAnswer
 one_reported look app blocks stop = says (status_of stop) (report_lines look (tables_of app) (node_result app blocks ∷ []) stop)
 
 simulated_as_run : (look : Look) (given : Given) (lines : List Step) (stop : Option ChainFault) → is_refused (over_told look given.app stop (simulated given lines)).status ≡ false
@@ -38,16 +38,16 @@ simulated_as_run : (look : Look) (given : Given) (lines : List Step) (stop : Opt
 simulated_as_run look given lines stop kept = by (length (scheduled given lines).sealed == length given.blocks) refl kept
   where
     by : (all : Bool) → (length (scheduled given lines).sealed == length given.blocks) ≡ all
-        → is_refused (over_told look given.app stop (cond {A = Result NodeResult ℕ} all (Ok (told_of given.app (scheduled given lines))) (Err (length (scheduled given lines).sealed)))).status ≡ false
+        → is_refused (over_told look given.app stop (cond {A = Result NodeResult ℕ} all (Ok (result_told given.app (scheduled given lines))) (Err (length (scheduled given lines).sealed)))).status ≡ false
         → Adds look.trace (one_reported look given.app given.blocks stop)
-        (over_told look given.app stop (cond {A = Result NodeResult ℕ} all (Ok (told_of given.app (scheduled given lines))) (Err (length (scheduled given lines).sealed))))
+        (over_told look given.app stop (cond {A = Result NodeResult ℕ} all (Ok (result_told given.app (scheduled given lines))) (Err (length (scheduled given lines).sealed))))
     by true e kept =
         let sealed = (schedules_seal_the_fold given lines (eqb-true (length (scheduled given lines).sealed) (length given.blocks) e)).1 in
-        let journals : List ℕ = journals_text (told_of given.app (scheduled given lines) ∷ []) in
+        let journals : List ℕ = journals_text (result_told given.app (scheduled given lines) ∷ []) in
         record {
           status = refl;
           more = shown_if look.trace journals;
-          bytes = ap (λ (chain : List Sealed). report_lines look (tables_of given.app) (told_by given.app chain ∷ []) stop ++ shown_if look.trace journals) sealed;
+          bytes = ap (λ (chain : List SealedBlock). report_lines look (tables_of given.app) (told_by given.app chain ∷ []) stop ++ shown_if look.trace journals) sealed;
           none = λ silent. ap (λ b. shown_if b journals) silent;
         }
     by false e kept = absurd (cc)

@@ -4,7 +4,7 @@ use Rattle.std.proofs.lemmas.List.{length-take-le, take-append-drop}
 use Rattle.std.specs.Prelude.{Err, Ok, Result, nat_lt}
 use Rattle.std.specs.Result.{IsOk}
 use Rattle.bcdb.proofs.Taken.{at_size, end_by, front_by}
-use Rattle.bcdb.specs.ArrivalReading.{HasRead, IsRead, IsWhole}
+use Rattle.bcdb.specs.ArrivalReading.{HasRead, IsRead, IsWholeArrivals}
 use Rattle.edge_traits.specs.Shelf.{Files, IsPiece}
 use Rattle.proc_syntax.specs.declared.call.Tx.{Tx}
 use Rattle.tx_text.specs.Arrivals.{ArrivalFaultsLast, ArrivalsAreBounded, arrivals, arrived}
@@ -49,7 +49,7 @@ module _ (told : Option Files) (name buffer : List ℕ) (at count : ℕ) (old : 
 
 -- where no byte comes, the file was read whole
 pub ends : (told : Option Files) (name buffer : List ℕ) (at count : ℕ) (reader : ArrivalReader) (txs : List Tx) → (read : IsRead told name at reader txs) → 0 < length buffer → count ≡ 0
-    → IfSome told (λ files. IsPiece (files name) at count buffer) → IsWhole told name reader txs
+    → IfSome told (λ files. IsPiece (files name) at count buffer) → IsWholeArrivals told name reader txs
 ends told name buffer at count reader txs read room none piece =
     record { bytes = read.bytes; has = read.has; whole = end_by told name read.bytes buffer at count room none piece read.front }
 
@@ -72,7 +72,7 @@ pub read_whole : (bytes : List ℕ) (reader : ArrivalReader) (txs : List Tx) →
 read_whole bytes reader txs has ok = whole_read (arrived bytes) ok ∙ ap (λ read. Ok read) has.txs_are
 
 -- so the file is what was read
-pub told_whole : (told : Option Files) (name : List ℕ) (reader : ArrivalReader) (txs : List Tx) (result : Result (List Tx) ℕ) → (read : IsWhole told name reader txs)
+pub told_whole : (told : Option Files) (name : List ℕ) (reader : ArrivalReader) (txs : List Tx) (result : Result (List Tx) ℕ) → (read : IsWholeArrivals told name reader txs)
     → ((bytes : List ℕ) → HasRead bytes reader txs → arrivals bytes ≡ result) → IfSome told (λ files. arrivals (files name) ≡ result)
 told_whole None name reader txs result read gives = tt
 told_whole (Some files) name reader txs result read gives = ap arrivals (sym read.whole) ∙ gives read.bytes read.has

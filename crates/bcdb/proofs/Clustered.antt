@@ -4,7 +4,7 @@ use Rattle.std.proofs.lemmas.List.Elements.{All-head, All-tail}
 use Rattle.std.specs.Prelude.{Err, Ok, Result, codes}
 use Rattle.std.specs.Result.{IsOk}
 use Rattle.bcdb.specs.Accepted.{accepted}
-use Rattle.bcdb.specs.Answer.{Answer, all_arrived, over_nodes, says, status_of}
+use Rattle.bcdb.specs.Answer.{ProgramAnswer, all_arrived, over_nodes, says, status_of}
 use Rattle.bcdb.specs.Gathered.{AreInputs}
 use Rattle.bcdb.specs.Refusals.{arrivals_refusal, refusal_line}
 use Rattle.bcdb.specs.Reply.{Means}
@@ -89,7 +89,7 @@ first_tells app blocks told first counted each is =
 -- ---- what the files came to decides
 
 -- nothing follows a refusal
-pub alone : (meant : Answer) (reply : Reply) → Means meant reply → Means (followed_by [] meant) reply
+pub alone : (meant : ProgramAnswer) (reply : Reply) → Means meant reply → Means (followed_by [] meant) reply
 alone meant reply means = record { status = means.status; bytes = means.bytes ∙ sym (append-nil meant.bytes) }
 
 ran : (asked : Cluster) (inputs : Inputs) (reply : Reply) (files : Files) → RepliesNodes asked inputs.app.app inputs.read.blocks inputs.read.fault reply → AreInputs (Ok inputs) asked files

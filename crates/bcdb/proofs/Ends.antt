@@ -3,7 +3,7 @@ use Rattle.std.proofs.Common.{IfSome, List, None, Option, Some, [], append-nil, 
 use Rattle.edge_traits.proofs.Fronts.{none_front, whole_is_front}
 use Rattle.edge_traits.specs.Shelf.{Files}
 use Rattle.edge_traits.specs.Sink.{appended}
-use Rattle.bcdb.specs.Answer.{Answer, Ends, Writes, over_settings, says, usage_refused}
+use Rattle.bcdb.specs.Answer.{Ends, ProgramAnswer, Writes, over_settings, says, usage_refused}
 use Rattle.bcdb.specs.Reply.{Means}
 use Rattle.bcdb.specs.Traced.{EndsTraced, Replies, followed_by}
 use Rattle.bcdb.specs.declared.decide.Reply.{Reply}
@@ -11,7 +11,7 @@ use Rattle.bcdb.specs.declared.status.Status.TheVariants.{AppRefused, ArrivalRef
 use Rattle.bcdb.specs.declared.status.Status.{Status}
 use Rattle.cli_words.specs.declared.settings.Settings.{Settings}
 
-pub writes_whole : (meant : Answer) (status : Status) (before now : Option (List ℕ)) → status ≡ meant.status → now ≡ appended before meant.bytes → Writes meant status before now
+pub writes_whole : (meant : ProgramAnswer) (status : Status) (before now : Option (List ℕ)) → status ≡ meant.status → now ≡ appended before meant.bytes → Writes meant status before now
 writes_whole meant Done before now same wrote = (same, wrote)
 writes_whole meant Usage before now same wrote = (same, wrote)
 writes_whole meant ReadFault before now same wrote = (same, wrote)
@@ -24,7 +24,7 @@ writes_whole meant NoMemory before now same wrote = (same, wrote)
 writes_whole meant WriteFault before now same wrote = whole_is_front before now meant.bytes wrote
 
 -- what is written ends so
-pub ends_written : (meant : Answer) (status : Status) (before now : Option (List ℕ)) → Writes meant status before now → Ends meant status before now
+pub ends_written : (meant : ProgramAnswer) (status : Status) (before now : Option (List ℕ)) → Writes meant status before now → Ends meant status before now
 ends_written meant Done before now wrote = wrote
 ends_written meant Usage before now wrote = wrote
 ends_written meant ReadFault before now wrote = wrote
@@ -37,7 +37,7 @@ ends_written meant WriteFault before now wrote = wrote
 ends_written meant NoMemory before now wrote = whole_is_front before now meant.bytes wrote.1
 
 -- what is written of a reply is what the reply means
-writes_means : (meant : Answer) (reply : Reply) (status : Status) (before now : Option (List ℕ)) → Means meant reply
+writes_means : (meant : ProgramAnswer) (reply : Reply) (status : Status) (before now : Option (List ℕ)) → Means meant reply
     → Writes (says reply.status reply.bytes) status before now → Writes meant status before now
 writes_means meant reply status before now means writes =
     subst (λ bytes. Writes (says meant.status bytes) status before now) means.bytes

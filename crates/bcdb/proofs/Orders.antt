@@ -19,7 +19,7 @@ use Rattle.proc_syntax.specs.declared.call.Block.{Block}
 use Rattle.proc_syntax.specs.declared.call.Tx.{Tx}
 use Rattle.proc_syntax.specs.declared.tree.App.{App}
 use Rattle.schedule_sim.proofs.Legal.{blocks_numbered, schedules_seal_the_fold}
-use Rattle.schedule_sim.specs.Running.{Given, scheduled, simulated, told_of}
+use Rattle.schedule_sim.specs.Running.{Given, result_told, scheduled, simulated}
 use Rattle.schedule_sim.specs.Schedules.{schedule_of}
 use Rattle.schedule_sim.specs.declared.step.Step.{Step}
 use Rattle.serial_laws.specs.InOrder.{EachInOrder}
@@ -43,7 +43,7 @@ simulated_in_order : (given : Given) (lines : List Step) → ToldInOrder given.a
 simulated_in_order given lines = by (length (scheduled given lines).sealed == length given.blocks) refl
   where
     by : (all : Bool) → (length (scheduled given lines).sealed == length given.blocks) ≡ all
-        → ToldInOrder given.app given.blocks (cond {A = Result NodeResult ℕ} all (Ok (told_of given.app (scheduled given lines))) (Err (length (scheduled given lines).sealed)))
+        → ToldInOrder given.app given.blocks (cond {A = Result NodeResult ℕ} all (Ok (result_told given.app (scheduled given lines))) (Err (length (scheduled given lines).sealed)))
     by true e =
         let all = eqb-true (length (scheduled given lines).sealed) (length given.blocks) e in
         subst (λ sealed. EachInOrder given.app given.blocks (results_of (tables_of given.app) sealed)) (sym (schedules_seal_the_fold given lines all).1)

@@ -1,7 +1,7 @@
 -- Pieces of a file, one after another: what was read stays a front of the file, and a fault that was met is the file's.
 use Rattle.std.proofs.Common.{◌≡◌, ℕ, ◌<◌, ◌≤◌, ◌+◌, List, ◌++◌, length, take, drop, sym, ap, subst, ◌∙◌, length-append, arith, Option, Some, None, IfSome}
 use Rattle.std.proofs.lemmas.List.{length-take-le, take-append-drop, take_all}
-use Rattle.bcdb.specs.Reading.{HasFault, IsRead, IsWhole, TakesPiece}
+use Rattle.bcdb.specs.Reading.{HasFault, IsRead, IsWholeChain, TakesPiece}
 use Rattle.chain_file.specs.Chain.{chain, lasting}
 use Rattle.chain_file.specs.Files.{FaultsLast, FilesAreBounded, FilesAreNumbered}
 use Rattle.chain_file.specs.Numbered.{NumberedFrom}
@@ -69,7 +69,7 @@ end_by (Some files) name bytes buffer at count room none piece begins = begins �
 
 -- where no byte comes, the file was read whole
 pub ends : (told : Option Files) (name buffer : List ℕ) (at count : ℕ) (reader : Reader) (blocks : List Block) → (read : IsRead told name at reader blocks) → 0 < length buffer → count ≡ 0
-    → IfSome told (λ files. IsPiece (files name) at count buffer) → FilesAreNumbered → IsWhole told name reader blocks × NumberedFrom 1 blocks
+    → IfSome told (λ files. IsPiece (files name) at count buffer) → FilesAreNumbered → IsWholeChain told name reader blocks × NumberedFrom 1 blocks
 ends told name buffer at count reader blocks read room none piece all = (
   record { bytes = read.bytes; follows = read.follows; blocks_are = read.blocks_are; whole = end_by told name read.bytes buffer at count room none piece read.front },
   subst (NumberedFrom 1) read.blocks_are (all read.bytes),

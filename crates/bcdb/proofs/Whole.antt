@@ -2,7 +2,7 @@
 use Rattle.std.proofs.Common.{IfSome, List, None, Option, Some, ap, inl, inr, refl, subst, sym, ◌∙◌, ◌≡◌, ◌⊎◌, ℕ}
 use Rattle.std.specs.Prelude.{Err, IsOk, Ok, Result}
 use Rattle.bcdb.specs.Accepted.{accepted}
-use Rattle.bcdb.specs.Answer.{Answer, Writes, all_arrived, arrived_in, cluster_of, over_app, over_arrivals, over_cluster, over_load, over_nodes, over_schedule, over_settings, over_simulation, over_told, over_versions, read_refused, sealed, simulation_of, status_of, usage_refused}
+use Rattle.bcdb.specs.Answer.{ProgramAnswer, Writes, all_arrived, arrived_in, cluster_of, over_app, over_arrivals, over_cluster, over_load, over_nodes, over_schedule, over_settings, over_simulation, over_told, over_versions, read_refused, sealed, simulation_of, status_of, usage_refused}
 use Rattle.bcdb.specs.Causes.{RoseAtNamed, RoseInTurn}
 use Rattle.bcdb.specs.Selected.{selected}
 use Rattle.bcdb.specs.Traced.{EndsTraced, followed_by}
@@ -150,7 +150,7 @@ done_whole (Some (Load number)) files is = done_load number (accepted app_text) 
 -- ---- how a call ends
 
 -- what is written has the status that was meant, unless a write failed
-writes_status : (meant : Answer) (status : Status) (before now : Option (List ℕ)) → Writes meant status before now → (status ≡ WriteFault) ⊎ (status ≡ meant.status)
+writes_status : (meant : ProgramAnswer) (status : Status) (before now : Option (List ℕ)) → Writes meant status before now → (status ≡ WriteFault) ⊎ (status ≡ meant.status)
 writes_status meant Done before now wrote = inr wrote.0
 writes_status meant Usage before now wrote = inr wrote.0
 writes_status meant ReadFault before now wrote = inr wrote.0

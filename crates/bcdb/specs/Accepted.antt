@@ -4,7 +4,7 @@ use Rattle.bcdb.specs.declared.refusal.Refusal.{Refusal}
 use Rattle.bcdb.specs.declared.refusal.RefusalKind.TheVariants as kind
 use Rattle.proc_check.specs.Apps.{first_fault}
 use Rattle.proc_check.specs.declared.fault.Bad.{Bad}
-use Rattle.proc_parse.specs.Faults.{place_of}
+use Rattle.proc_parse.specs.Faults.{position_of}
 use Rattle.proc_parse.specs.Grammar.{application}
 use Rattle.proc_parse.specs.Reading.{Read}
 use Rattle.proc_parse.specs.Tokens.{tokens_of}
@@ -18,7 +18,7 @@ sound app (Some bad) = Err (record { line = bad.line; kind = kind.Bad bad.kind }
 -- what the grammar reads is checked; or the place at which it stops
 abbrev pub typed : Read App → Result App Refusal
 typed (Ok read) = sound read.0 (first_fault read.0)
-typed (Err rest) = Err (record { line = (place_of rest).line; kind = kind.Syntax })
+typed (Err rest) = Err (record { line = (position_of rest).line; kind = kind.Syntax })
 
 -- bytes above 1,048,576
 abbrev pub too_long : Refusal

@@ -1,6 +1,6 @@
 -- The answer of a simulation beside that of a run.
 use Rattle.std.specs.Prelude.{Bool, List, None, Option, Some, [], false, true, ◌++◌, ◌≡◌, ℕ}
-use Rattle.bcdb.specs.Answer.{Answer, over_settings}
+use Rattle.bcdb.specs.Answer.{ProgramAnswer, over_settings}
 use Rattle.bcdb.specs.declared.status.Status.TheVariants.{ArrivalRefused, ScheduleRefused}
 use Rattle.bcdb.specs.declared.status.Status.{Status}
 use Rattle.cli_words.specs.declared.settings.Settings.TheVariants.{Run, Simulate}
@@ -14,7 +14,7 @@ is_refused ScheduleRefused = true
 is_refused _ = false
 
 -- the second answer is the first, and then more lines, if these are asked for
-pub record Adds (asked : Bool) (first second : Answer) : Type 0 where
+pub record Adds (asked : Bool) (first second : ProgramAnswer) : Type 0 where
   pub status : second.status ≡ first.status
   pub more : List ℕ
   pub bytes : second.bytes ≡ first.bytes ++ more

@@ -43,11 +43,11 @@ use Rattle.std.specs.Option.{option_map}
 use Rattle.tx_text.specs.Arrivals.{arrivals}
 
 -- a status, and all that is written
-pub record Answer : Type 0 where
+pub record ProgramAnswer : Type 0 where
   pub status : Status
   pub bytes : List ℕ
 
-abbrev pub says : Status → List ℕ → Answer
+abbrev pub says : Status → List ℕ → ProgramAnswer
 says status bytes = record { status = status; bytes = bytes }
 
 -- whether the block file was read to its end
@@ -60,26 +60,26 @@ abbrev pub look_of : Flags → Look
 look_of flags = record { orders = flags.orders; digests = flags.digests; json = flags.json; trace = flags.trace }
 
 -- the versions that a query selects, and how the block file ended; or why the query is refused, also where the block file has a fault
-abbrev pub over_versions : List TableDef → Option ChainFault → Result (List Version) QueryFault → Answer
+abbrev pub over_versions : List TableDef → Option ChainFault → Result (List Version) QueryFault → ProgramAnswer
 over_versions tables stop (Ok versions) = says (status_of stop) (versions_text tables versions ++ end_line stop)
 over_versions tables stop (Err fault) = says QueryRefused (query_refusal fault)
 
 -- the blocks decide after the application: a query is answered over those before the first fault
-abbrev pub over_blocks : (query : List ℕ) → App → List Block → Option ChainFault → Answer
+abbrev pub over_blocks : (query : List ℕ) → App → List Block → Option ChainFault → ProgramAnswer
 over_blocks query app blocks stop = over_versions (tables_of app) stop (selected app blocks (query_of query))
 
 -- the application decides before the blocks
-abbrev pub over_app : (query : List ℕ) → Result App Refusal → List ℕ → Answer
+abbrev pub over_app : (query : List ℕ) → Result App Refusal → List ℕ → ProgramAnswer
 over_app query (Err refusal) bytes = says AppRefused (refusal_line refusal)
 over_app query (Ok app) bytes = over_blocks query app (chain bytes).0 (chain bytes).1
 
 -- a seal is the chain file of the blocks of a file without a fault, and else where the file stopped
-abbrev pub sealed : List Block → Option ChainFault → Answer
+abbrev pub sealed : List Block → Option ChainFault → ProgramAnswer
 sealed blocks None = says Done (chain_text blocks)
 sealed blocks (Some fault) = says ChainRefused (stopped_line fault)
 
 -- a load is the summary of the fold of its blocks on its application, which is read as that of a file
-abbrev pub over_load : ℕ → Result App Refusal → Answer
+abbrev pub over_load : ℕ → Result App Refusal → ProgramAnswer
 over_load number (Err refusal) = says AppRefused (refusal_line refusal)
 over_load number (Ok app) = says Done (summary_text number (node_result app (load_blocks number)).blocks)
 
@@ -111,16 +111,16 @@ all_arrived front node (suc count) files = arrived_before node (arrived_in (file
 -- ---- a run of nodes
 
 -- each node makes the fold of the blocks; how many executors it has, and what arrives, has no part in that
-abbrev pub reported : Cluster → App → List Block → Option ChainFault → Answer
+abbrev pub reported : Cluster → App → List Block → Option ChainFault → ProgramAnswer
 reported asked app blocks stop = says (status_of stop) (report_lines asked.look (tables_of app) (replicate asked.nodes (node_result app blocks)) stop)
 
 -- what arrives decides before the blocks
-abbrev pub over_nodes : Cluster → App → Result (List (List Tx)) BadArrivals → List ℕ → Answer
+abbrev pub over_nodes : Cluster → App → Result (List (List Tx)) BadArrivals → List ℕ → ProgramAnswer
 over_nodes asked app (Err bad) bytes = says ArrivalRefused (arrivals_refusal bad)
 over_nodes asked app (Ok txs) bytes = reported asked app (chain bytes).0 (chain bytes).1
 
 -- the application decides before all of these
-abbrev pub over_cluster : Cluster → Result App Refusal → Files → Answer
+abbrev pub over_cluster : Cluster → Result App Refusal → Files → ProgramAnswer
 over_cluster asked (Err refusal) files = says AppRefused (refusal_line refusal)
 over_cluster asked (Ok app) files = over_nodes asked app (all_arrived asked.arrivals 1 asked.nodes files) (files asked.blocks)
 
@@ -131,22 +131,22 @@ cluster_of app blocks front nodes executors flags =
 -- ---- a simulation
 
 -- what the node tells is reported; or so many blocks are sealed by a schedule that is short, also where the block file has a fault
-abbrev pub over_told : Look → App → Option ChainFault → Result NodeResult ℕ → Answer
+abbrev pub over_told : Look → App → Option ChainFault → Result NodeResult ℕ → ProgramAnswer
 over_told look app stop (Ok told) = says (status_of stop) (report_text look (tables_of app) (told ∷ []) stop)
 over_told look app stop (Err sealed) = says ScheduleRefused (short_refusal sealed)
 
 -- the schedule decides before the blocks
-abbrev pub over_schedule : Look → App → List Tx → Result (List Step) ℕ → List ℕ → Answer
+abbrev pub over_schedule : Look → App → List Tx → Result (List Step) ℕ → List ℕ → ProgramAnswer
 over_schedule look app txs (Err line) bytes = says ScheduleRefused (schedule_refusal line)
 over_schedule look app txs (Ok steps) bytes = over_told look app (chain bytes).1 (simulated (record { app = app; blocks = (chain bytes).0; arrivals = txs }) steps)
 
 -- what arrives decides before the schedule
-abbrev pub over_arrivals : Look → App → Result (List Tx) ℕ → (schedule blocks : List ℕ) → Answer
+abbrev pub over_arrivals : Look → App → Result (List Tx) ℕ → (schedule blocks : List ℕ) → ProgramAnswer
 over_arrivals look app (Err line) schedule blocks = says ArrivalRefused (arrivals_refusal (record { node = 1; line = line }))
 over_arrivals look app (Ok txs) schedule blocks = over_schedule look app txs (schedule_of schedule) blocks
 
 -- the application decides before all of these
-abbrev pub over_simulation : Simulation → Result App Refusal → Files → Answer
+abbrev pub over_simulation : Simulation → Result App Refusal → Files → ProgramAnswer
 over_simulation asked (Err refusal) files = says AppRefused (refusal_line refusal)
 over_simulation asked (Ok app) files = over_arrivals asked.look app (arrived_in asked.arrivals files) (files asked.schedule) (files asked.blocks)
 
@@ -154,11 +154,11 @@ abbrev pub simulation_of : (app blocks schedule : List ℕ) → Option (List ℕ
 simulation_of app blocks schedule front flags = record { app = app; arrivals = file_at front 1; schedule = schedule; blocks = blocks; look = look_of flags }
 
 -- words that are not in the language
-abbrev pub usage_refused : Answer
+abbrev pub usage_refused : ProgramAnswer
 usage_refused = says Usage (codes "refused usage\n")
 
 -- the words decide first
-abbrev pub over_settings : Option Settings → Files → Answer
+abbrev pub over_settings : Option Settings → Files → ProgramAnswer
 over_settings None files = usage_refused
 over_settings (Some (Run app blocks front nodes executors flags)) files = over_cluster (cluster_of app blocks front nodes executors flags) (accepted (files app)) files
 over_settings (Some (Simulate app blocks schedule front flags)) files = over_simulation (simulation_of app blocks schedule front flags) (accepted (files app)) files
@@ -167,18 +167,18 @@ over_settings (Some (Seal blocks)) files = sealed (chain (files blocks)).0 (chai
 over_settings (Some (Load number)) files = over_load number (accepted app_text)
 
 -- what the words mean over files
-abbrev pub answer : List (List ℕ) → Files → Answer
+abbrev pub answer : List (List ℕ) → Files → ProgramAnswer
 answer words files = over_settings (settings_of words) files
 
-abbrev pub read_refused : Answer
+abbrev pub read_refused : ProgramAnswer
 read_refused = says ReadFault (codes "refused read\n")
 
 -- What was meant is written: with its status and all of its bytes, or short of a write with a front of them.
-abbrev pub Writes : Answer → Status → Option (List ℕ) → Option (List ℕ) → Type 0
+abbrev pub Writes : ProgramAnswer → Status → Option (List ℕ) → Option (List ℕ) → Type 0
 Writes meant WriteFault before now = WroteFront before now meant.bytes
 Writes meant status before now = (status ≡ meant.status) × (now ≡ appended before meant.bytes)
 
 -- The call ends as it was meant to, or short of memory with a front of the bytes.
-abbrev pub Ends : Answer → Status → Option (List ℕ) → Option (List ℕ) → Type 0
+abbrev pub Ends : ProgramAnswer → Status → Option (List ℕ) → Option (List ℕ) → Type 0
 Ends meant NoMemory before now = WroteFront before now meant.bytes
 Ends meant status before now = Writes meant status before now

@@ -1,8 +1,8 @@
 -- An arrival file that is read piece by piece.
 use Rattle.std.specs.Prelude.{Err, IfSome, List, None, Option, Some, length, take, ℕ, ◌+◌, ◌<◌, ◌≡◌, ◌≤◌}
 use Rattle.std.specs.Result.{IsOk}
-use Rattle.bcdb.specs.declared.arrivals.Step.TheVariants as step
-use Rattle.bcdb.specs.declared.arrivals.Step.{Step}
+use Rattle.bcdb.specs.declared.arrivals.ArrivalPiece.TheVariants as step
+use Rattle.bcdb.specs.declared.arrivals.ArrivalPiece.{ArrivalPiece}
 use Rattle.edge_traits.specs.Shelf.{Files}
 use Rattle.proc_syntax.specs.declared.call.Tx.{Tx}
 use Rattle.tx_text.specs.Arrivals.{arrivals, arrived}
@@ -29,13 +29,13 @@ pub record IsRead (told : Option Files) (name : List ℕ) (count : ℕ) (reader 
   pub front : IfSome told (λ files. bytes ≡ take count (files name))
 
 -- the whole file was read
-pub record IsWhole (told : Option Files) (name : List ℕ) (reader : ArrivalReader) (txs : List Tx) : Type 0 where
+pub record IsWholeArrivals (told : Option Files) (name : List ℕ) (reader : ArrivalReader) (txs : List Tx) : Type 0 where
   pub bytes : List ℕ
   pub has : HasRead bytes reader txs
   pub whole : IfSome told (λ files. bytes ≡ files name)
 
 -- what one more piece of a file comes to, where so many bytes were read before it
-abbrev pub LeadsTo : Step → Option Files → List ℕ → ℕ → ArrivalReader → List Tx → Type 0
+abbrev pub LeadsTo : ArrivalPiece → Option Files → List ℕ → ℕ → ArrivalReader → List Tx → Type 0
 LeadsTo (step.More count) told name at reader txs = (0 < count) × (at + count ≤ longest_listing) × IsRead told name (at + count) reader txs
-LeadsTo step.End told name at reader txs = IsWhole told name reader txs
+LeadsTo step.End told name at reader txs = IsWholeArrivals told name reader txs
 LeadsTo (step.Stop line) told name at reader txs = IfSome told (λ files. arrivals (files name) ≡ Err line)

@@ -4,14 +4,14 @@ use Rattle.bcdb.specs.declared.status.Status.{Status}
 use Rattle.bcdb.specs.declared.status.Status.TheVariants.{AppRefused, ArrivalRefused, ChainRefused, Done, NoMemory, QueryRefused, ReadFault, ScheduleRefused, Usage, WriteFault}
 
 -- the number of a status
-abbrev pub number_of : Status → ℕ
-number_of Done = 0
-number_of Usage = 2
-number_of ReadFault = 3
-number_of AppRefused = 4
-number_of ChainRefused = 5
-number_of ArrivalRefused = 6
-number_of WriteFault = 7
-number_of NoMemory = 8
-number_of QueryRefused = 9
-number_of ScheduleRefused = 10
+abbrev pub number_of_status : Status → ℕ
+number_of_status Done = 0
+number_of_status Usage = 2
+number_of_status ReadFault = 3
+number_of_status AppRefused = 4
+number_of_status ChainRefused = 5
+number_of_status ArrivalRefused = 6
+number_of_status WriteFault = 7
+number_of_status NoMemory = 8
+number_of_status QueryRefused = 9
+number_of_status ScheduleRefused = 10

@@ -1,7 +1,7 @@
 -- A block file that is read piece by piece.
 use Rattle.std.specs.Prelude.{◌≡◌, ◌<◌, ◌≤◌, ◌+◌, ℕ, List, Option, Some, None, IfSome, length, take}
-use Rattle.bcdb.specs.declared.blocks.Step.{Step}
-use Rattle.bcdb.specs.declared.blocks.Step.TheVariants as step
+use Rattle.bcdb.specs.declared.blocks.ChainPiece.{ChainPiece}
+use Rattle.bcdb.specs.declared.blocks.ChainPiece.TheVariants as step
 use Rattle.chain_file.specs.Chain.{chain, lasting}
 use Rattle.chain_file.specs.Following.{WasFed}
 use Rattle.chain_file.specs.Numbered.{NumberedFrom}
@@ -27,7 +27,7 @@ pub record IsRead (told : Option Files) (name : List ℕ) (count : ℕ) (reader 
   pub front : IfSome told (λ files. bytes ≡ take count (files name))
 
 -- the whole file was read
-pub record IsWhole (told : Option Files) (name : List ℕ) (reader : Reader) (blocks : List Block) : Type 0 where
+pub record IsWholeChain (told : Option Files) (name : List ℕ) (reader : Reader) (blocks : List Block) : Type 0 where
   pub bytes : List ℕ
   pub follows : WasFed reader bytes
   pub blocks_are : (chain bytes).0 ≡ blocks
@@ -38,7 +38,7 @@ abbrev pub HasFault : Option Files → List ℕ → List Block → ChainFault �
 HasFault told name blocks fault = IfSome told (λ files. chain (files name) ≡ (blocks, Some fault))
 
 -- what one more piece of a file comes to, where so many bytes were read before it
-abbrev pub LeadsTo : Step → Option Files → List ℕ → ℕ → Reader → List Block → Type 0
+abbrev pub LeadsTo : ChainPiece → Option Files → List ℕ → ℕ → Reader → List Block → Type 0
 LeadsTo (step.More count) told name at reader blocks = (0 < count) × (at + count ≤ longest_draft) × IsRead told name (at + count) reader blocks
-LeadsTo step.End told name at reader blocks = IsWhole told name reader blocks × NumberedFrom 1 blocks
+LeadsTo step.End told name at reader blocks = IsWholeChain told name reader blocks × NumberedFrom 1 blocks
 LeadsTo (step.Stop fault) told name at reader blocks = HasFault told name blocks fault × NumberedFrom 1 blocks

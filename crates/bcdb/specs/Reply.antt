@@ -1,11 +1,11 @@
 -- A reply is an answer in memory.
 use Rattle.std.specs.Prelude.{Bool, false, true, ◌≡◌}
-use Rattle.bcdb.specs.Answer.{Answer}
+use Rattle.bcdb.specs.Answer.{ProgramAnswer}
 use Rattle.bcdb.specs.declared.decide.Reply.{Reply}
 use Rattle.bcdb.specs.declared.status.Status.TheVariants.{AppRefused, ArrivalRefused, ChainRefused, Done, QueryRefused, ScheduleRefused}
 use Rattle.bcdb.specs.declared.status.Status.{Status}
 
-pub record Means (meant : Answer) (reply : Reply) : Type 0 where
+pub record Means (meant : ProgramAnswer) (reply : Reply) : Type 0 where
   pub status : reply.status ≡ meant.status
   pub bytes : reply.bytes ≡ meant.bytes
 

@@ -1,7 +1,7 @@
 -- The journals that follow the report of a run, if they are asked for.
 use Rattle.std.specs.Prelude.{All, Bool, Err, List, None, Ok, Option, Result, Some, [], false, length, true, ◌++◌, ◌≡◌, ◌⊎◌, ℕ}
 use Rattle.bcdb.specs.Accepted.{accepted}
-use Rattle.bcdb.specs.Answer.{Answer, Writes, all_arrived, cluster_of, over_cluster, over_settings, reported, says}
+use Rattle.bcdb.specs.Answer.{ProgramAnswer, Writes, all_arrived, cluster_of, over_cluster, over_settings, reported, says}
 use Rattle.bcdb.specs.Reply.{Means}
 use Rattle.bcdb.specs.declared.cluster.Cluster.{Cluster}
 use Rattle.bcdb.specs.declared.decide.Reply.{Reply}
@@ -48,7 +48,7 @@ Follows (Some (Run app blocks front nodes executors flags)) files lines = Follow
 Follows settings files lines = lines ≡ []
 
 -- an answer, and lines that follow it
-abbrev pub followed_by : List ℕ → Answer → Answer
+abbrev pub followed_by : List ℕ → ProgramAnswer → ProgramAnswer
 followed_by lines meant = says meant.status (meant.bytes ++ lines)
 
 -- a reply has the answer and what may follow it: of nodes that ran, of a run over files, and of each command

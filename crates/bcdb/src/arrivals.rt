@@ -18,7 +18,7 @@ use tx_text::{ArrivalFault, ArrivalReader};
 
 /// What one more piece of a file came to.
 #[derive(Clone, Copy, Debug, PartialEq, Eq)]
-pub enum Step {
+pub enum ArrivalPiece {
     /// So many bytes more were read.
     More(usize),
     /// The file has ended.
@@ -65,7 +65,7 @@ fn read_piece<S: Shelf>(
     buffer: &mut [u8],
     reader: &mut ArrivalReader,
     txs: &mut List<Tx>,
-) -> Result<Step, FilesFault>
+) -> Result<ArrivalPiece, FilesFault>
     requires allowed { AllowsArrivals (S.told shelf.old) (S.may_read shelf.old) (Some name.now) }
     requires room { length buffer.old ≡ 65536 }
     requires bounded { ArrivalsAreBounded }
@@ -80,11 +80,11 @@ fn read_piece<S: Shelf>(
         return Err(FilesFault::Failed);
     };
     if count == 0 {
-        return Ok(Step::End);
+        return Ok(ArrivalPiece::End);
     }
     match take_piece(reader, txs, &buffer[..count])? {
-        None => Ok(Step::More(count)),
-        Some(line) => Ok(Step::Stop(line)),
+        None => Ok(ArrivalPiece::More(count)),
+        Some(line) => Ok(ArrivalPiece::Stop(line)),
     }
 }
 
@@ -110,9 +110,9 @@ fn read_through<S: Shelf>(
     let mut at: u64 = 0;
     loop {
         match read_piece(shelf, name, at, buffer, &mut reader, &mut txs)? {
-            Step::More(count) => at += count as u64,
-            Step::End => return Ok(end_read(reader, txs)),
-            Step::Stop(line) => return Ok(Err(line)),
+            ArrivalPiece::More(count) => at += count as u64,
+            ArrivalPiece::End => return Ok(end_read(reader, txs)),
+            ArrivalPiece::Stop(line) => return Ok(Err(line)),
         }
     }
 }

@@ -46,7 +46,7 @@ fn end_fault(mut reader: Reader) -> Option<ChainFault>
 
 /// What one more piece of a file came to.
 #[derive(Clone, Copy, Debug, PartialEq, Eq)]
-pub enum Step {
+pub enum ChainPiece {
     /// So many bytes more were read.
     More(usize),
     /// The file has ended.
@@ -64,7 +64,7 @@ fn read_piece<S: Shelf>(
     buffer: &mut [u8],
     reader: &mut Reader,
     blocks: &mut List<Block>,
-) -> Result<Step, FilesFault>
+) -> Result<ChainPiece, FilesFault>
     requires read { IsRead (S.told shelf.old) name.now at reader.old blocks.old }
     requires allowed { AllowsBlocks (S.told shelf.old) (S.may_read shelf.old) name.now }
     requires room { length buffer.old ≡ 65536 }
@@ -80,11 +80,11 @@ fn read_piece<S: Shelf>(
         return Err(FilesFault::Failed);
     };
     if count == 0 {
-        return Ok(Step::End);
+        return Ok(ChainPiece::End);
     }
     match take_piece(reader, blocks, &buffer[..count])? {
-        None => Ok(Step::More(count)),
-        Some(fault) => Ok(Step::Stop(fault)),
+        None => Ok(ChainPiece::More(count)),
+        Some(fault) => Ok(ChainPiece::Stop(fault)),
     }
 }
 
@@ -109,12 +109,12 @@ fn read_through<S: Shelf>(
     let mut at: u64 = 0;
     loop {
         match read_piece(shelf, name, at, buffer, &mut reader, &mut blocks)? {
-            Step::More(count) => at += count as u64,
-            Step::End => {
+            ChainPiece::More(count) => at += count as u64,
+            ChainPiece::End => {
                 let fault = end_fault(reader);
                 return Ok(Fed { blocks, fault });
             }
-            Step::Stop(fault) => {
+            ChainPiece::Stop(fault) => {
                 return Ok(Fed {
                     blocks,
                     fault: Some(fault),

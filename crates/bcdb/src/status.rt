@@ -2,7 +2,7 @@
 
 ghost use Rattle.std.specs.Prelude.{◌≡◌};
 ghost use Rattle.std.specs.Process.{exit_status};
-ghost use Rattle.bcdb.specs.Numbers.{number_of};
+ghost use Rattle.bcdb.specs.Numbers.{number_of_status};
 
 use std::process::ExitCode;
 
@@ -33,7 +33,7 @@ pub enum Status {
 
 /// What the process ends with: the number of the status.
 pub fn exit_code(status: Status) -> ExitCode
-    ensures { exit_status result ≡ number_of status }
+    ensures { exit_status result ≡ number_of_status status }
 {
     ExitCode::from(status as u8)
 }

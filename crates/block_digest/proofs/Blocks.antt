@@ -15,7 +15,7 @@ use Rattle.rel_base.specs.Text.{has_id_form}
 use Rattle.rel_base.specs.declared.access.Placed.{Placed}
 use Rattle.block_digest.specs.Grammar.{most_counted, most_outcomes, IsSmall, IsPosition, HasOutcomeCode, HasToldCode, HasPlacedCode, HaveCodes, HasBlockCode}
 use Rattle.block_digest.specs.Joined.{Reading, then_at, then_by}
-use Rattle.block_digest.specs.Readings.{small_at, id_at, outcome_at, told_of, told_at, is_position, position_at, placed_at, rise, outcomes_at, order_at, writes_at, block_of, block_at}
+use Rattle.block_digest.specs.Readings.{small_at, id_at, outcome_at, told_with, told_at, is_position, position_at, placed_at, rise, outcomes_at, order_at, writes_at, block_of, block_at}
 use Rattle.block_digest.proofs.Joins.{form_exact, held_exact, tested_exact, pair_code, HasPairCode, then_exact, made_exact}
 use Rattle.block_digest.proofs.Outcomes.{HasBoth, both_exact, small_exact, outcome_exact}
 use Rattle.block_digest.proofs.Rising.{sorted_from_rise, rise_from_sorted}
@@ -27,7 +27,7 @@ IsId id = has_id_form id ≡ true
 
 told_exact : IsExact told_code HasToldCode told_at
 told_exact =
-    made_exact told_of (λ told. (told.id, told.outcome)) (pair_code short_code outcome_code) (HasBoth IsId HasOutcomeCode) (then_at id_at outcome_at) told_code HasToldCode
+    made_exact told_with (λ told. (told.id, told.outcome)) (pair_code short_code outcome_code) (HasBoth IsId HasOutcomeCode) (then_at id_at outcome_at) told_code HasToldCode
     (both_exact short_code IsId id_at outcome_code HasOutcomeCode outcome_at (form_exact has_id_form) outcome_exact) (record {
       has_parts = λ told has. (has.id, has.outcome);
       again = λ told has. refl;

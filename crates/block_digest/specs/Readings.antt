@@ -86,11 +86,11 @@ outcome_at (kind ∷ bytes) =
 
 -- ---- blocks
 
-abbrev pub told_of : List ℕ × Outcome → Told
-told_of found = record { id = found.0; outcome = found.1 }
+abbrev pub told_with : List ℕ × Outcome → Told
+told_with found = record { id = found.0; outcome = found.1 }
 
 abbrev pub told_at : Reading Told
-told_at = made_at told_of (then_at id_at outcome_at)
+told_at = made_at told_with (then_at id_at outcome_at)
 
 -- whether a position lies between 1 and the number of transactions
 abbrev pub is_position : ℕ → ℕ → Bool

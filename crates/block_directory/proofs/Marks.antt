@@ -26,8 +26,8 @@ padded (word ∷ words) count (suc i) = padded words count i
 -- ---- one mark more
 
 -- marks that are set stay
-abbrev pub Keeps : List ℕ → List ℕ → Type 0
-Keeps old new = (place number : ℕ) → is_marked old place number ≡ true → is_marked new place number ≡ true
+abbrev pub KeepsMarks : List ℕ → List ℕ → Type 0
+KeepsMarks old new = (place number : ℕ) → is_marked old place number ≡ true → is_marked new place number ≡ true
 
 module _ (words : List ℕ) (index word : ℕ) (at : ℕ) (within : index < length words) (is : (other : ℕ) → is_one word other ≡ (nat_eq other at || is_one (slice_index words index) other)) where
   bit_stays : (i other : ℕ) → is_one (slice_index words i) other ≡ true → is_one (slice_index (slice_set words index word) i) other ≡ true
@@ -39,7 +39,7 @@ module _ (words : List ℕ) (index word : ℕ) (at : ℕ) (within : index < leng
       (λ apart. ap (λ w. is_one w other) (get_or-set_other words index i word 0 apart.1) ∙ one)
       (eqb_tells i index)
 
-  pub mark_kept : Keeps words (slice_set words index word)
+  pub mark_kept : KeepsMarks words (slice_set words index word)
   mark_kept place number one = bit_stays (1088 * (number / 64) + place) (number % 64) one
 
   pub mark_own : (place number : ℕ) → index ≡ 1088 * (number / 64) + place → at ≡ number % 64 → is_marked (slice_set words index word) place number ≡ true
@@ -55,7 +55,7 @@ module _ {X : Type 0} (has : X → ℕ → Bool) (all : List X) (number : ℕ) w
   abbrev pub MarkedSoFar : List ℕ → List X → Type 0
   MarkedSoFar words left = (place : ℕ) → list_any (λ item. has item place) all ≡ true → (is_marked words place number || list_any (λ item. has item place) left) ≡ true
 
-  pub marked_next : (words words' : List ℕ) (left after : List X) (item : X) → left ≡ item ∷ after → MarkedSoFar words left → Keeps words words'
+  pub marked_next : (words words' : List ℕ) (left after : List X) (item : X) → left ≡ item ∷ after → MarkedSoFar words left → KeepsMarks words words'
       → ((place : ℕ) → has item place ≡ true → is_marked words' place number ≡ true) → MarkedSoFar words' after
   marked_next words words' left after item is so_far keeps own place some =
       by (is_marked words place number) (has item place) (ap (λ xs. is_marked words place number || list_any (λ x. has x place) xs) (sym is) ∙ so_far place some) (keeps place number) (own place)
@@ -68,7 +68,7 @@ module _ {X : Type 0} (has : X → ℕ → Bool) (all : List X) (number : ℕ) w
 
 -- ---- one transaction more
 
-pub has_marks_in : (has : Committed → ℕ → Bool) (committed : List Committed) (words words' : List ℕ) → Keeps words words' → HasMarks has committed words → HasMarks has committed words'
+pub has_marks_in : (has : Committed → ℕ → Bool) (committed : List Committed) (words words' : List ℕ) → KeepsMarks words words' → HasMarks has committed words → HasMarks has committed words'
 has_marks_in has committed words words' keeps marks number place done at is = keeps place number (marks number place done at is)
 
 -- what stands in a list item is itself

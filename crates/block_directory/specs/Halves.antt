@@ -20,5 +20,5 @@ meets tables (Reads reads) done = touches tables reads.now done.writes
 meets tables (Writes writes) done = touches tables done.reads writes.now
 
 -- the positions of committed transactions with an edge
-abbrev pub has_edge : List TableDef → List Committed → Half → ℕ → Bool
-has_edge tables committed half pos = list_any (λ done. nat_eq done.pos pos && meets tables half done) committed
+abbrev pub has_half_edge : List TableDef → List Committed → Half → ℕ → Bool
+has_half_edge tables committed half pos = list_any (λ done. nat_eq done.pos pos && meets tables half done) committed

@@ -2,7 +2,7 @@
 
 ghost use Rattle.std.specs.Prelude.{ℕ, ◌≡◌, ◌<◌, ◌≤◌, ◌==◌, All, MatchOption, None, false, length};
 ghost use Rattle.std.specs.Option.{option_map};
-ghost use Rattle.block_directory.specs.Halves.{HalfFits, has_edge, meets};
+ghost use Rattle.block_directory.specs.Halves.{HalfFits, has_half_edge, meets};
 ghost use Rattle.block_directory.specs.Marking.{NoneFound, OnlyFound};
 ghost use Rattle.node_model.specs.Decide.{clash, first_shared};
 ghost use Rattle.node_model.specs.Edges.{comes_from, leads_to, touches};
@@ -77,7 +77,7 @@ fn edges_among(tables: &[TableDef], committed: &[Committed], found: &Bits, half:
     requires few { length committed.now ≤ 1024 }
     requires half { HalfFits tables.now half }
     requires only { OnlyFound found.now committed.now (λ done. meets tables.now half done ≡ false) }
-    ensures { (pos : ℕ) → holds result pos ≡ has_edge tables.now committed.now half.entry pos }
+    ensures { (pos : ℕ) → holds result pos ≡ has_half_edge tables.now committed.now half.entry pos }
 {
     let mut edges = Bits::new();
     let mut from = 0;

@@ -8,7 +8,7 @@ use Rattle.block_work.specs.Chain.{ResultsFrom, HoldsChain, StoreFits, IsUpTo, s
 use Rattle.block_work.specs.Results.{last_digest, placed_at}
 use Rattle.block_work.specs.declared.block.BlockInWork.{BlockInWork}
 use Rattle.node_model.specs.Fold.{block_result}
-use Rattle.node_model.specs.History.{Sealed, history_of, placed_of}
+use Rattle.node_model.specs.History.{SealedBlock, history_of, placed_of}
 use Rattle.node_model.specs.declared.result.BlockResult.{BlockResult}
 use Rattle.node_model.specs.declared.result.Committed.{Committed}
 use Rattle.proc_syntax.specs.declared.tree.App.{App}
@@ -99,7 +99,7 @@ one_applied defs defs' number last high spare spare' history history' whole done
 
 -- ---- the chain with the block
 
-pub holds_more : (tables : List TableDef) (chain : List Sealed) (history history' : List Stamped) (results results' : List BlockResult) (work : BlockInWork) → HoldsChain tables chain history results
+pub holds_more : (tables : List TableDef) (chain : List SealedBlock) (history history' : List Stamped) (results results' : List BlockResult) (work : BlockInWork) → HoldsChain tables chain history results
     → history' ≡ history ++ stamps work.number work.committed.items
     → results' ≡ results ++ block_result tables (last_digest results) (sealed_of work) ∷ []
     → HoldsChain tables (chain ++ sealed_of work ∷ []) history' results'

@@ -7,7 +7,7 @@ use Rattle.std.specs.List.{AllByRecursion}
 use Rattle.std.specs.Prelude.{AllPairs, IsTrue}
 use Rattle.block_digest.specs.Codable.{HasFewKey}
 use Rattle.block_directory.specs.Marking.{IsDirectoryOf}
-use Rattle.block_work.specs.Block.{CanCommit, IsConsistent, KeepsEdges, StandInOrder}
+use Rattle.block_work.specs.Block.{CanCommitWith, IsConsistent, KeepsEdges, StandInOrder}
 use Rattle.block_work.specs.Causes.{AreOwnEdges}
 use Rattle.block_work.specs.declared.block.BlockInWork.{BlockInWork}
 use Rattle.node_model.specs.Danger.{danger, danger_among}
@@ -168,7 +168,7 @@ module _ (tables : List TableDef) (old new : BlockInWork) (is : IsConsistent tab
   }
 
   -- a transaction committed
-  pub after_commit : (id : List ℕ) (pos : ℕ) (ran : Ran) (own : Edges) → CanCommit tables old ran own → pos ≡ length old.outcomes.items + 1
+  pub after_commit : (id : List ℕ) (pos : ℕ) (ran : Ran) (own : Edges) → CanCommitWith tables old ran own → pos ≡ length old.outcomes.items + 1
       → new.outcomes.items ≡ old.outcomes.items ++ record { id = id; outcome = outcome.Committed } ∷ []
       → new.committed.items ≡ old.committed.items ++ record { pos = pos; reads = ran.reads; writes = ran.writes } ∷ []
       → ((all : List Committed) (at : ℕ) → length all ≡ length old.committed.items → IsDirectoryOf all old.directory

@@ -6,7 +6,7 @@ use Rattle.std.specs.Prelude.{Bool, slice_get, ℤ}
 use Rattle.block_digest.specs.Codable.{AreCodable, IsFewWrite}
 use Rattle.node_model.specs.BlockCode.{digest_of}
 use Rattle.node_model.specs.Fold.{block_result, digest_after, no_digest}
-use Rattle.node_model.specs.History.{Sealed}
+use Rattle.node_model.specs.History.{SealedBlock}
 use Rattle.node_model.specs.History.{placed_of}
 use Rattle.node_model.specs.Order.{is_free, order, order_from, place, serial_order, take_first}
 use Rattle.node_model.specs.declared.result.BlockResult.{BlockResult}
@@ -113,7 +113,7 @@ order_kept tables committed set list rise is keeps =
     is ∙ (λ i. order (λ from to. keeps.edges from to i) (keeps.positions i)) ∙ order_by_position tables committed rise
 
 -- the result that is made of a block is that of the definition
-pub result_is : (tables : List TableDef) (previous : List ℕ) (block : Sealed) (time : ℤ) (outcomes : List Told) (edges : EdgeSet) (list : List ℕ) (writes : List Placed)
+pub result_is : (tables : List TableDef) (previous : List ℕ) (block : SealedBlock) (time : ℤ) (outcomes : List Told) (edges : EdgeSet) (list : List ℕ) (writes : List Placed)
     → time ≡ block.time → outcomes ≡ block.outcomes → StandByPosition block.committed → KeepsEdges tables block.committed edges → list ≡ order (has_edge edges) (positions_of edges) → writes ≡ placed_of block.committed
     → with_parts block.number time outcomes list writes (digest_of previous (with_parts block.number time outcomes list writes no_digest))
     ≡ block_result tables previous block

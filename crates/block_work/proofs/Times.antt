@@ -4,16 +4,16 @@ use Rattle.std.proofs.lemmas.Bool.Decides.{nat_tests}
 use Rattle.std.specs.Prelude.{pos, slice_get}
 use Rattle.block_work.specs.Chain.{ResultsFrom, time_of_result, time_or_none}
 use Rattle.node_model.specs.Fold.{block_result, results_from, results_of, no_digest}
-use Rattle.node_model.specs.History.{Sealed, time_at}
+use Rattle.node_model.specs.History.{SealedBlock, time_at}
 use Rattle.node_model.specs.declared.result.BlockResult.{BlockResult}
 use Rattle.rel_base.specs.declared.schema.TableDef.{TableDef}
 
 -- the results have the numbers and the times of the blocks
-times_from : (tables : List TableDef) (previous : List ℕ) (height : ℕ) (chain : List Sealed) → time_of_result height (results_from tables previous chain) ≡ time_at height chain
+times_from : (tables : List TableDef) (previous : List ℕ) (height : ℕ) (chain : List SealedBlock) → time_of_result height (results_from tables previous chain) ≡ time_at height chain
 times_from tables previous height [] = refl
 times_from tables previous height (block ∷ rest) = ap (cond (block.number == height) block.time) (times_from tables (block_result tables previous block).digest height rest)
 
-pub times_are : (tables : List TableDef) (height : ℕ) (chain : List Sealed) (results : List BlockResult) → results ≡ results_of tables chain → time_of_result height results ≡ time_at height chain
+pub times_are : (tables : List TableDef) (height : ℕ) (chain : List SealedBlock) (results : List BlockResult) → results ≡ results_of tables chain → time_of_result height results ≡ time_at height chain
 times_are tables height chain results are = ap (time_of_result height) are ∙ times_from tables no_digest height chain
 
 time_below : (low height : ℕ) (results : List BlockResult) → ResultsFrom low results → height + 1 ≤ low → time_of_result height results ≡ pos 0

@@ -5,7 +5,7 @@ use Rattle.block_work.specs.Causes.{AreOwnEdges, RunFits}
 use Rattle.block_work.specs.declared.block.BlockInWork.{BlockInWork}
 use Rattle.node_model.specs.Edges.{edge_at}
 use Rattle.node_model.specs.Fold.{Work, join_committed}
-use Rattle.node_model.specs.History.{Sealed}
+use Rattle.node_model.specs.History.{SealedBlock}
 use Rattle.node_model.specs.declared.outcome.Outcome.{Outcome}
 use Rattle.node_model.specs.declared.result.Committed.{Committed}
 use Rattle.proc_syntax.specs.declared.run.Ran.{Ran}
@@ -26,7 +26,7 @@ abbrev pub work_of : BlockInWork → Work
 work_of work = record { outcomes = work.outcomes.items; committed = work.committed.items }
 
 -- the block, where all of its transactions are decided
-abbrev pub sealed_of : BlockInWork → Sealed
+abbrev pub sealed_of : BlockInWork → SealedBlock
 sealed_of work = record { number = work.number; time = work.time; outcomes = work.outcomes.items; committed = work.committed.items }
 
 -- a transaction more, with its outcome, and with its run among the committed ones where it commits
@@ -66,14 +66,14 @@ pub record IsConsistent (tables : List TableDef) (work : BlockInWork) : Type 0 w
   pub edges : KeepsEdges tables work.committed.items work.edges
 
 -- there is room for one more transaction
-pub record HasRoom (work : BlockInWork) : Type 0 where
+pub record HasRoomForOne (work : BlockInWork) : Type 0 where
   pub outcomes : vec_len work.outcomes < vec_capacity work.outcomes
   pub committed : vec_len work.committed < vec_capacity work.committed
   pub directory : HasRoomFor (length work.committed.items) work.directory
   pub edges : HasRoomAt work.edges (length work.outcomes.items + 1)
 
 -- the next transaction may commit with a run and some edges
-pub record CanCommit (tables : List TableDef) (work : BlockInWork) (ran : Ran) (edges : Edges) : Type 0 where
+pub record CanCommitWith (tables : List TableDef) (work : BlockInWork) (ran : Ran) (edges : Edges) : Type 0 where
   pub consistent : IsConsistent tables work
   pub fits : RunFits tables ran
   pub own : AreOwnEdges tables work.committed.items ran edges

@@ -1,6 +1,6 @@
 -- What a chain of decided blocks keeps: a store of the committed writes, and the results.
 use Rattle.node_model.specs.Fold.{results_of}
-use Rattle.node_model.specs.History.{Sealed, history_of}
+use Rattle.node_model.specs.History.{SealedBlock, history_of}
 use Rattle.node_model.specs.declared.result.BlockResult.{BlockResult}
 use Rattle.node_model.specs.declared.result.Committed.{Committed}
 use Rattle.proc_syntax.specs.Declaring.{tables_of}
@@ -11,7 +11,7 @@ use Rattle.row_sets.specs.Versions.{stamped_at}
 use Rattle.std.specs.Prelude.{All, List, None, Option, Some, [], cond, length, pos, ◌+◌, ◌++◌, ◌<◌, ◌==◌, ◌≡◌, ◌≤◌, ◌∷◌, ◌⊎◌, ℕ, ℤ}
 
 -- a store and some results are those of a chain of decided blocks
-pub record HoldsChain (tables : List TableDef) (chain : List Sealed) (history : List Stamped) (blocks : List BlockResult) : Type 0 where
+pub record HoldsChain (tables : List TableDef) (chain : List SealedBlock) (history : List Stamped) (blocks : List BlockResult) : Type 0 where
   pub writes : history ≡ history_of chain
   pub results : blocks ≡ results_of tables chain
 

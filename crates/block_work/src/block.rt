@@ -1,7 +1,7 @@
 //! The block in work.
 
 ghost use Rattle.std.specs.Prelude.{◌≡◌, ◌<◌, List, OnOk, length};
-ghost use Rattle.block_work.specs.Block.{CanCommit, HasRoom, IsConsistent, IsSameWork, work_of, work_with};
+ghost use Rattle.block_work.specs.Block.{CanCommitWith, HasRoomForOne, IsConsistent, IsSameWork, work_of, work_with};
 ghost use Rattle.block_work.specs.Causes.{IsCause};
 ghost use Rattle.node_model.specs.Fold.{no_work};
 ghost use Rattle.node_model.specs.declared.outcome.Outcome.TheVariants as outcome;
@@ -53,7 +53,7 @@ impl BlockInWork {
         requires few { length self.old.outcomes.items < 1024 }
         ensures same { IsSameWork self.old self.new }
         ensures consistent { (tables : List TableDef) → IsConsistent tables self.old → IsConsistent tables self.new }
-        ensures room { OnOk result (HasRoom self.new) }
+        ensures room { OnOk result (HasRoomForOne self.new) }
     {
         let pos = self.outcomes.len() as u32 + 1;
         self.outcomes.reserve(1)?;
@@ -64,7 +64,7 @@ impl BlockInWork {
 
     /// Adds the outcome of a transaction that is aborted for a cause. Takes no memory.
     pub fn abort(&mut self, id: Id, cause: Outcome)
-        requires room { HasRoom self.old }
+        requires room { HasRoomForOne self.old }
         requires cause { IsCause cause }
         ensures number { self.new.number ≡ self.old.number }
         ensures time { self.new.time ≡ self.old.time }
@@ -77,12 +77,12 @@ impl BlockInWork {
     /// Adds a transaction that commits with a run, and its edges to and from those that committed before it. Takes no memory.
     pub fn commit(&mut self, id: Id, ran: Ran, edges: &Edges)
         requires few { length self.old.outcomes.items < 1024 }
-        requires room { HasRoom self.old }
-        requires can { (tables : List TableDef) × CanCommit tables self.old ran edges.now }
+        requires room { HasRoomForOne self.old }
+        requires can { (tables : List TableDef) × CanCommitWith tables self.old ran edges.now }
         ensures number { self.new.number ≡ self.old.number }
         ensures time { self.new.time ≡ self.old.time }
         ensures work { work_of self.new ≡ work_with (work_of self.old) id ran outcome.Committed }
-        ensures consistent { (tables : List TableDef) → CanCommit tables self.old ran edges.now → IsConsistent tables self.new }
+        ensures consistent { (tables : List TableDef) → CanCommitWith tables self.old ran edges.now → IsConsistent tables self.new }
     {
         let pos = self.outcomes.len() as u32 + 1;
         self.edges.add_reserved(pos, edges);

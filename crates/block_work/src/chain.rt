@@ -7,7 +7,7 @@ ghost use Rattle.block_work.specs.Chain.{ResultsFrom, HoldsChain, StoreFits, sta
 ghost use Rattle.block_work.specs.Results.{last_digest};
 ghost use Rattle.node_model.specs.Decide.{by_run, or_committed};
 ghost use Rattle.node_model.specs.Fold.{all_rows, block_result, results_of};
-ghost use Rattle.node_model.specs.History.{Sealed, placed_of, snapshot, time_at};
+ghost use Rattle.node_model.specs.History.{SealedBlock, placed_of, snapshot, time_at};
 ghost use Rattle.proc_check.specs.Sizes.{IsSmall};
 ghost use Rattle.proc_syntax.specs.Declaring.{tables_of};
 ghost use Rattle.rel_base.specs.Tables.{writes_between};
@@ -146,7 +146,7 @@ impl<V: Versions> Chain<V> {
     /// The time of the block of a height; 0 before the first.
     pub fn time_of(&self, height: u64) -> i64
         requires store { StoreFits self.now.app.value.app (V.tables self.now.versions) (V.history self.now.versions) self.now.blocks }
-        ensures { (chain : List Sealed) → HoldsChain (tables_of self.now.app.value.app) chain (V.history self.now.versions) self.now.blocks → result ≡ time_at height chain }
+        ensures { (chain : List SealedBlock) → HoldsChain (tables_of self.now.app.value.app) chain (V.history self.now.versions) self.now.blocks → result ≡ time_at height chain }
     {
         time_in(self.blocks.as_slice(), height)
     }
@@ -179,7 +179,7 @@ impl<V: Versions> Chain<V> {
         ensures app { self.new.app.value ≡ self.old.app.value }
         ensures store { StoreFits self.new.app.value.app (V.tables self.new.versions) (V.history self.new.versions) self.new.blocks }
         ensures count { OnOk result (length self.new.blocks ≡ length self.old.blocks + 1) }
-        ensures holds { OnOk result ((chain : List Sealed) → HoldsChain (tables_of self.old.app.value.app) chain (V.history self.old.versions) self.old.blocks
+        ensures holds { OnOk result ((chain : List SealedBlock) → HoldsChain (tables_of self.old.app.value.app) chain (V.history self.old.versions) self.old.blocks
             → HoldsChain (tables_of self.old.app.value.app) (chain ++ sealed_of work ∷ []) (V.history self.new.versions) self.new.blocks) }
         ensures same_history { OnErr result (V.history self.new.versions ≡ V.history self.old.versions) }
         ensures same_blocks { OnErr result (self.new.blocks ≡ self.old.blocks) }
@@ -195,7 +195,7 @@ impl<V: Versions> Chain<V> {
     /// The results of the blocks, the tables after the last of them, and a journal.
     pub fn close(self, journal: List<Entry>) -> Result<NodeResult, NoMemory>
         requires store { StoreFits self.app.value.app (V.tables self.versions) (V.history self.versions) self.blocks }
-        ensures { IfOk result (λ made. (chain : List Sealed) → HoldsChain (tables_of self.app.value.app) chain (V.history self.versions) self.blocks
+        ensures { IfOk result (λ made. (chain : List SealedBlock) → HoldsChain (tables_of self.app.value.app) chain (V.history self.versions) self.blocks
             → made ≡ record { blocks = results_of (tables_of self.app.value.app) chain; tables = all_rows (snapshot (length chain) chain) 0 (tables_of self.app.value.app); journal = journal }) }
     {
         let tables = list_tables(

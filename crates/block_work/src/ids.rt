@@ -1,7 +1,7 @@
 //! The ids of a chain.
 
 ghost use Rattle.std.specs.Prelude.{◌≡◌, List, None, OnErr, OnOk, ℕ};
-ghost use Rattle.block_work.specs.Ids.{AddsPlace, Forgets, SamePlaces, place_of, without};
+ghost use Rattle.block_work.specs.Ids.{AddsPlace, Forgets, SamePlaces, place_of_id, without};
 
 use node_model::Told;
 use rel_base::{Id, NoMemory, Place};
@@ -18,7 +18,7 @@ pub struct IdIndex {
 impl IdIndex {
     /// No ids.
     pub fn new(alloc: Global) -> IdIndex
-        ensures { (id : List ℕ) → place_of result id ≡ None }
+        ensures { (id : List ℕ) → place_of_id result id ≡ None }
     {
         IdIndex {
             places: BTreeMap::new(alloc),
@@ -27,7 +27,7 @@ impl IdIndex {
 
     /// Where an id first stands; nothing for an id that does not stand in the chain.
     pub fn find(&self, id: &Id) -> Option<Place>
-        ensures { result ≡ place_of self.now id.now }
+        ensures { result ≡ place_of_id self.now id.now }
     {
         self.places.get(id).copied()
     }
@@ -46,7 +46,7 @@ impl IdIndex {
 
     // Takes an id out where it first stands in the block of a number.
     fn forget_id(&mut self, number: u64, id: &Id)
-        ensures { (other : List ℕ) → place_of self.new other ≡ without number id.now (place_of self.old) other }
+        ensures { (other : List ℕ) → place_of_id self.new other ≡ without number id.now (place_of_id self.old) other }
     {
         if let Some(place) = self.find(id) {
             if place.block == number {

@@ -10,7 +10,7 @@ use Rattle.rel_base.specs.declared.value.Value.{Value}
 use Rattle.rel_base.specs.declared.value.Value.TheVariants as value
 use Rattle.rel_base.specs.declared.access.Placed.{Placed}
 use Rattle.rel_base.specs.Reading.{as_kind}
-use Rattle.canon_code.specs.declared.write.Change.{Change}
+use Rattle.canon_code.specs.declared.write.RowChange.{RowChange}
 use Rattle.canon_code.specs.Codes.{AreBytes, be_code, byte_code, short_code, HasShortCode}
 use Rattle.canon_code.specs.Parts.{◌>>=◌, number_at, byte_at, short_at}
 use Rattle.canon_code.specs.Laws.{ComesBack, WasWritten}
@@ -139,20 +139,20 @@ row_exact = counted_exact byte_code 256 byte_at byte_exact value_code HasValueCo
 
 -- ---- what became of a row
 
-abbrev change_bytes : Change → List ℕ
+abbrev change_bytes : RowChange → List ℕ
 change_bytes change = change_code change.before change.after
 
-abbrev HasChange : Change → Type 0
+abbrev HasChange : RowChange → Type 0
 HasChange change = HasChangeCode change.before change.after
 
 -- the change after one row, and after two
-abbrev inserted : List Value → Change
+abbrev inserted : List Value → RowChange
 inserted after = record { before = None; after = Some after }
 
-abbrev updated : List Value → List Value → Change
+abbrev updated : List Value → List Value → RowChange
 updated before after = record { before = Some before; after = Some after }
 
-abbrev deleted : List Value → Change
+abbrev deleted : List Value → RowChange
 deleted before = record { before = Some before; after = None }
 
 change_back : (before after : Option (List Value)) (rest : List ℕ) → HasChangeCode before after → change_at (change_code before after ++ rest) ≡ Some (record { before = before; after = after }, rest)
@@ -164,10 +164,10 @@ change_back (Some before) (Some after) rest has =
     ∙ ap (λ found. found >>= λ row. Some (updated before row.0, row.1)) (row_exact.back after rest has.1)
 change_back (Some before) None rest has = ap (λ found. found >>= λ row. Some (deleted row.0, row.1)) (row_exact.back before rest has)
 
-abbrev IsChanged : List ℕ → List ℕ → Change → Type 0
+abbrev IsChanged : List ℕ → List ℕ → RowChange → Type 0
 IsChanged bytes rest change = HasChange change × (bytes ≡ change_bytes change ++ rest)
 
-insert_written : (b : ℕ) (bytes : List ℕ) (change : Change) (rest : List ℕ) → (b == 1) ≡ true → AreBytes bytes → insert_at bytes ≡ Some (change, rest) → IsChanged (b ∷ bytes) rest change
+insert_written : (b : ℕ) (bytes : List ℕ) (change : RowChange) (rest : List ℕ) → (b == 1) ≡ true → AreBytes bytes → insert_at bytes ≡ Some (change, rest) → IsChanged (b ∷ bytes) rest change
 insert_written b bytes change rest same fits e =
     let a = bind_some (row_at bytes) (λ row. Some (inserted row.0, row.1)) (change, rest) e in
     let row = row_exact.written bytes a.0.0 a.0.1 fits a.1 in
@@ -175,7 +175,7 @@ insert_written b bytes change rest same fits e =
     subst (IsChanged (b ∷ bytes) rest) parts.0
     (row.0, ap (λ x. x ∷ bytes) (eqb-true b 1 same) ∙ ap (λ xs. 1 ∷ xs) (row.1 ∙ ap (λ xs. row_code a.0.0 ++ xs) parts.1))
 
-delete_written : (b : ℕ) (bytes : List ℕ) (change : Change) (rest : List ℕ) → (b == 3) ≡ true → AreBytes bytes → delete_at bytes ≡ Some (change, rest) → IsChanged (b ∷ bytes) rest change
+delete_written : (b : ℕ) (bytes : List ℕ) (change : RowChange) (rest : List ℕ) → (b == 3) ≡ true → AreBytes bytes → delete_at bytes ≡ Some (change, rest) → IsChanged (b ∷ bytes) rest change
 delete_written b bytes change rest same fits e =
     let a = bind_some (row_at bytes) (λ row. Some (deleted row.0, row.1)) (change, rest) e in
     let row = row_exact.written bytes a.0.0 a.0.1 fits a.1 in
@@ -183,7 +183,7 @@ delete_written b bytes change rest same fits e =
     subst (IsChanged (b ∷ bytes) rest) parts.0
     (row.0, ap (λ x. x ∷ bytes) (eqb-true b 3 same) ∙ ap (λ xs. 3 ∷ xs) (row.1 ∙ ap (λ xs. row_code a.0.0 ++ xs) parts.1))
 
-update_written : (b : ℕ) (bytes : List ℕ) (change : Change) (rest : List ℕ) → (b == 2) ≡ true → AreBytes bytes → update_at bytes ≡ Some (change, rest) → IsChanged (b ∷ bytes) rest change
+update_written : (b : ℕ) (bytes : List ℕ) (change : RowChange) (rest : List ℕ) → (b == 2) ≡ true → AreBytes bytes → update_at bytes ≡ Some (change, rest) → IsChanged (b ∷ bytes) rest change
 update_written b bytes change rest same fits e =
     let a = bind_some (row_at bytes) (λ first. row_at first.1 >>= λ row. Some (updated first.0 row.0, row.1)) (change, rest) e in
     let c = bind_some (row_at a.0.1) (λ row. Some (updated a.0.0 row.0, row.1)) (change, rest) a.2 in
@@ -194,20 +194,20 @@ update_written b bytes change rest same fits e =
     before.1 ∙ ap (λ xs. row_code a.0.0 ++ xs) (after.1 ∙ ap (λ xs. row_code c.0.0 ++ xs) parts.1) ∙ sym (append_assoc (row_code a.0.0) (row_code c.0.0) rest) in
     subst (IsChanged (b ∷ bytes) rest) parts.0 ((before.0, after.0), ap (λ x. x ∷ bytes) (eqb-true b 2 same) ∙ ap (λ xs. 2 ∷ xs) whole)
 
-change_choice : (b : ℕ) (bytes : List ℕ) (p q r : Bool) → (b == 1) ≡ p → (b == 2) ≡ q → (b == 3) ≡ r → AreBytes bytes → (change : Change) (rest : List ℕ)
-    → cond {A = Option (Change × List ℕ)} p (insert_at bytes) (cond q (update_at bytes) (cond r (delete_at bytes) None)) ≡ Some (change, rest) → IsChanged (b ∷ bytes) rest change
+change_choice : (b : ℕ) (bytes : List ℕ) (p q r : Bool) → (b == 1) ≡ p → (b == 2) ≡ q → (b == 3) ≡ r → AreBytes bytes → (change : RowChange) (rest : List ℕ)
+    → cond {A = Option (RowChange × List ℕ)} p (insert_at bytes) (cond q (update_at bytes) (cond r (delete_at bytes) None)) ≡ Some (change, rest) → IsChanged (b ∷ bytes) rest change
 change_choice b bytes true q r ep eq er fits change rest e = insert_written b bytes change rest ep fits e
 change_choice b bytes false true r ep eq er fits change rest e = update_written b bytes change rest eq fits e
 change_choice b bytes false false true ep eq er fits change rest e = delete_written b bytes change rest er fits e
 change_choice b bytes false false false ep eq er fits change rest e = absurd (none-some (change, rest) e)
 
-change_written : (bytes : List ℕ) (change : Change) (rest : List ℕ) → AreBytes bytes → change_at bytes ≡ Some (change, rest) → IsChanged bytes rest change
+change_written : (bytes : List ℕ) (change : RowChange) (rest : List ℕ) → AreBytes bytes → change_at bytes ≡ Some (change, rest) → IsChanged bytes rest change
 change_written [] change rest fits e = absurd (none-some (change, rest) e)
 change_written (b ∷ bytes) change rest fits e = change_choice b bytes (b == 1) (b == 2) (b == 3) refl refl refl (bytes_tail b bytes fits) change rest e
 
 -- ---- writes
 
-abbrev placed_of : ℕ → ℕ → List Value → Change → Placed
+abbrev placed_of : ℕ → ℕ → List Value → RowChange → Placed
 placed_of p table key change = record { pos = p; write = record { table = table; key = key; before = change.before; after = change.after } }
 
 -- the parts of a code, each followed by the next
@@ -224,7 +224,7 @@ joined a b c d bytes after_a after_b after_c rest ha hb hc hd =
     ha ∙ ap (λ xs. a ++ xs) (hb ∙ ap (λ xs. b ++ xs) (hc ∙ ap (λ xs. c ++ xs) hd)) ∙ sym (regrouped a b c d rest)
 
 -- what is read after the position, the table, the key and the change
-abbrev with_change : ℕ → ℕ → List Value → Change × List ℕ → Option (Placed × List ℕ)
+abbrev with_change : ℕ → ℕ → List Value → RowChange × List ℕ → Option (Placed × List ℕ)
 with_change p table key change = Some (placed_of p table key change.0, change.1)
 
 abbrev with_key : ℕ → ℕ → List Value × List ℕ → Option (Placed × List ℕ)

@@ -3,7 +3,7 @@ use Rattle.std.specs.Prelude.{◌<◌, ◌≤◌, ◌^◌, ◌++◌, ℕ, List, 
 use Rattle.std.specs.Int.{w32}
 use Rattle.rel_base.specs.declared.value.Value.{Value}
 use Rattle.rel_base.specs.declared.access.Placed.{Placed}
-use Rattle.canon_code.specs.declared.write.Change.{Change}
+use Rattle.canon_code.specs.declared.write.RowChange.{RowChange}
 use Rattle.canon_code.specs.Codes.{be_code}
 use Rattle.canon_code.specs.Parts.{◌>>=◌, number_at}
 use Rattle.canon_code.specs.Rows.{row_code, key_code, HasRowCode, row_at}
@@ -47,23 +47,23 @@ IsFewPart row = IfSome row (λ values. length values ≤ 32)
 
 -- ---- reading
 
-abbrev pub insert_at : List ℕ → Option (Change × List ℕ)
+abbrev pub insert_at : List ℕ → Option (RowChange × List ℕ)
 insert_at bytes = do
   after ← row_at bytes
   Some (record { before = None; after = Some after.0 }, after.1)
 
-abbrev pub update_at : List ℕ → Option (Change × List ℕ)
+abbrev pub update_at : List ℕ → Option (RowChange × List ℕ)
 update_at bytes = do
   before ← row_at bytes
   after ← row_at before.1
   Some (record { before = Some before.0; after = Some after.0 }, after.1)
 
-abbrev pub delete_at : List ℕ → Option (Change × List ℕ)
+abbrev pub delete_at : List ℕ → Option (RowChange × List ℕ)
 delete_at bytes = do
   before ← row_at bytes
   Some (record { before = Some before.0; after = None }, before.1)
 
-abbrev pub change_at : List ℕ → Option (Change × List ℕ)
+abbrev pub change_at : List ℕ → Option (RowChange × List ℕ)
 change_at [] = None
 change_at (kind ∷ bytes) =
     cond (kind == 1) (insert_at bytes) (cond (kind == 2) (update_at bytes) (cond (kind == 3) (delete_at bytes) None))

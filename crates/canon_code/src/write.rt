@@ -15,7 +15,7 @@ use std::alloc::Global;
 
 /// The row before a write and the row after it.
 #[derive(Drop)]
-pub struct Change {
+pub struct RowChange {
     pub before: Option<Row>,
     pub after: Option<Row>,
 }
@@ -105,11 +105,11 @@ pub fn put_write(out: &mut Vec<u8>, placed: &Placed) -> Result<(), NoMemory>
 }
 
 /// Reads the row after an insert.
-fn read_insert(alloc: Global, bytes: &[u8]) -> Result<(Change, &[u8]), CodeFault>
+fn read_insert(alloc: Global, bytes: &[u8]) -> Result<(RowChange, &[u8]), CodeFault>
     ensures { Reads result (insert_at bytes.now) }
 {
     let (after, rest) = read_row(alloc, bytes)?;
-    let change = Change {
+    let change = RowChange {
         before: None,
         after: Some(after),
     };
@@ -117,12 +117,12 @@ fn read_insert(alloc: Global, bytes: &[u8]) -> Result<(Change, &[u8]), CodeFault
 }
 
 /// Reads the rows before and after an update.
-fn read_update(alloc: Global, bytes: &[u8]) -> Result<(Change, &[u8]), CodeFault>
+fn read_update(alloc: Global, bytes: &[u8]) -> Result<(RowChange, &[u8]), CodeFault>
     ensures { Reads result (update_at bytes.now) }
 {
     let (before, rest) = read_row(alloc, bytes)?;
     let (after, rest) = read_row(alloc, rest)?;
-    let change = Change {
+    let change = RowChange {
         before: Some(before),
         after: Some(after),
     };
@@ -130,11 +130,11 @@ fn read_update(alloc: Global, bytes: &[u8]) -> Result<(Change, &[u8]), CodeFault
 }
 
 /// Reads the row before a delete.
-fn read_delete(alloc: Global, bytes: &[u8]) -> Result<(Change, &[u8]), CodeFault>
+fn read_delete(alloc: Global, bytes: &[u8]) -> Result<(RowChange, &[u8]), CodeFault>
     ensures { Reads result (delete_at bytes.now) }
 {
     let (before, rest) = read_row(alloc, bytes)?;
-    let change = Change {
+    let change = RowChange {
         before: Some(before),
         after: None,
     };
@@ -142,7 +142,7 @@ fn read_delete(alloc: Global, bytes: &[u8]) -> Result<(Change, &[u8]), CodeFault
 }
 
 /// Reads what became of a row.
-fn read_change(alloc: Global, bytes: &[u8]) -> Result<(Change, &[u8]), CodeFault>
+fn read_change(alloc: Global, bytes: &[u8]) -> Result<(RowChange, &[u8]), CodeFault>
     ensures { Reads result (change_at bytes.now) }
 {
     match bytes {
@@ -161,7 +161,7 @@ pub fn read_write(alloc: Global, bytes: &[u8]) -> Result<(Placed, &[u8]), CodeFa
     let (table, rest) = read_u32(rest)?;
     let (key, rest) = read_key(alloc, rest)?;
     let (change, rest) = read_change(alloc, rest)?;
-    let Change { before, after } = change;
+    let RowChange { before, after } = change;
     let write = Write {
         table,
         key,

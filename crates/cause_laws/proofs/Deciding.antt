@@ -8,7 +8,7 @@ use Rattle.cause_laws.specs.Laws.{NamesConflict, NamesTheLeast, OutcomesNameTheL
 use Rattle.node_model.specs.Danger.{danger}
 use Rattle.node_model.specs.Decide.{bad_call, by_run, clash, conflict_outcome, danger_outcome, decide, duplicate, early, fault_outcome, future, late_outcome, or_committed, run_at, writes_since}
 use Rattle.node_model.specs.Fold.{Work, fold, join_committed, no_work, work_on, work_through}
-use Rattle.node_model.specs.History.{Sealed, ids_of, ids_told, snapshot, time_at}
+use Rattle.node_model.specs.History.{SealedBlock, ids_of, ids_told, snapshot, time_at}
 use Rattle.node_model.specs.declared.danger.Danger.{Danger}
 use Rattle.node_model.specs.declared.outcome.Outcome.TheVariants as outcome
 use Rattle.node_model.specs.declared.outcome.Outcome.{Outcome}
@@ -59,7 +59,7 @@ joined count committed ran outcome.Committed are =
     }
 joined count committed ran _ are = higher count committed are
 
-module _ (app : App) (chain : List Sealed) (number : ℕ) where
+module _ (app : App) (chain : List SealedBlock) (number : ℕ) where
   longer : (work : Work) (tx : Tx) → length (work_on app chain number work tx).outcomes ≡ length work.outcomes + 1
   longer work tx = length-append work.outcomes (record { id = tx.id; outcome = decide app chain number work.outcomes work.committed tx } ∷ [])
 
@@ -158,7 +158,7 @@ module _ (tables : List TableDef) (committed : List Committed) (ran : Ran) where
   names_last None (Some found) none is = (none, is)
   names_last None None none safe = (none, safe)
 
-module _ (app : App) (chain : List Sealed) (number : ℕ) (first : List Tx) (tx : Tx) where
+module _ (app : App) (chain : List SealedBlock) (number : ℕ) (first : List Tx) (tx : Tx) where
   names_by_run : (since : List Stamped) → let committed : List Committed = committed_among app chain number first in
       NamesTheLeast (tables_of app) committed (run_at app chain tx) (or_committed (by_run (tables_of app) since committed (run_at app chain tx)))
   names_by_run since =
@@ -181,7 +181,7 @@ module _ (app : App) (chain : List Sealed) (number : ℕ) (first : List Tx) (tx 
 
 pub outcomes_name_the_least : OutcomesNameTheLeast
 outcomes_name_the_least app blocks block first tx rest is =
-    let chain : List Sealed = fold app blocks in
+    let chain : List SealedBlock = fold app blocks in
     let names : Told → Type 0 = λ told. NamesTheLeast (tables_of app) (committed_among app chain block.number first) (run_at app chain tx) told.outcome in
     subst (λ txs. IsSomeAnd (slice_get (work_through app chain block.number no_work txs).outcomes (length first)) names) (sym is)
     (subst (λ found. IsSomeAnd found names) (sym (told_is app chain block.number first tx rest))

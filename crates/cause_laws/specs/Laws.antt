@@ -4,7 +4,7 @@ use Rattle.cause_laws.specs.Dangers.{HasNoDanger, IsLeastDanger}
 use Rattle.node_model.specs.Danger.{danger}
 use Rattle.node_model.specs.Decide.{clash, conflict_outcome, run_at}
 use Rattle.node_model.specs.Fold.{fold, no_work, seal, work_through}
-use Rattle.node_model.specs.History.{Sealed}
+use Rattle.node_model.specs.History.{SealedBlock}
 use Rattle.node_model.specs.declared.outcome.Outcome.TheVariants as outcome
 use Rattle.node_model.specs.declared.outcome.Outcome.{Outcome}
 use Rattle.node_model.specs.declared.result.Committed.{Committed}
@@ -40,12 +40,12 @@ DangerIsLeast = (tables : List TableDef) (committed : List Committed) (reads : L
 -- ---- of the fold
 
 -- what committed among the first transactions of a block of a number
-abbrev pub committed_among : App → List Sealed → ℕ → List Tx → List Committed
+abbrev pub committed_among : App → List SealedBlock → ℕ → List Tx → List Committed
 committed_among app chain number first = (work_through app chain number no_work first).committed
 
 -- wherever the fold decides a transaction behind others of its block, what committed among these stands by position, and what it wrote by key
 abbrev pub PremisesAreMet : Type 0
-PremisesAreMet = (app : App) (chain : List Sealed) (number : ℕ) (first : List Tx) (tx : Tx) → StandByPosition (committed_among app chain number first) × StandByKey (run_at app chain tx).writes
+PremisesAreMet = (app : App) (chain : List SealedBlock) (number : ℕ) (first : List Tx) (tx : Tx) → StandByPosition (committed_among app chain number first) × StandByKey (run_at app chain tx).writes
 
 -- an outcome of a run among those that committed before it: a write conflict is the least, and so is a danger, which is told only where
 -- there is no conflict; and what committed has neither

@@ -13,7 +13,7 @@ use Rattle.proc_syntax.specs.declared.chain_fault.ChainKind.{ChainKind}
 use Rattle.proc_syntax.specs.declared.chain_fault.ChainKind.TheVariants as kind
 use Rattle.tx_text.specs.Fields.{is_space, after, word, past_word}
 use Rattle.tx_text.specs.Lines.{tx_of, tx_text}
-use Rattle.tx_text.proofs.Takes.{IsWhole, tx_takes}
+use Rattle.tx_text.proofs.Takes.{SpelledWhole, tx_takes}
 use Rattle.chain_file.specs.declared.section.FileForm.TheVariants as form
 use Rattle.chain_file.specs.declared.section.Section.{Section}
 use Rattle.chain_file.specs.declared.section.Section.TheVariants as place
@@ -97,7 +97,7 @@ more_leaves count txs digits bytes line tx true so_far is =
     ∙ ap (λ lines. line_text (block_line (count + 1) digits) ++ lines) (sym (flat_more tx_line txs tx))
 more_leaves count txs digits bytes line tx false so_far is = tt
 
-tx_leaves : (count : ℕ) (txs : List Tx) (digits bytes line : List ℕ) (found : Option Tx) → bytes ≡ line_text (block_line (count + 1) digits) ++ flat_map tx_line txs → IsWhole tx_text line found
+tx_leaves : (count : ℕ) (txs : List Tx) (digits bytes line : List ℕ) (found : Option Tx) → bytes ≡ line_text (block_line (count + 1) digits) ++ flat_map tx_line txs → SpelledWhole tx_text line found
     → LeavesIf digits (bytes ++ line_text line) (add_tx form.Chain count txs found)
 tx_leaves count txs digits bytes line None so_far is = tt
 tx_leaves count txs digits bytes line (Some tx) so_far is = more_leaves count txs digits bytes line tx (nat_lt (length txs) 1024) so_far is

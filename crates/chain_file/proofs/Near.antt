@@ -16,7 +16,7 @@ use Rattle.chain_file.specs.declared.section.Section.TheVariants as place
 use Rattle.chain_file.specs.declared.section.Taken.{Taken}
 use Rattle.chain_file.specs.Draft.{block_of}
 use Rattle.chain_file.specs.Near.{is_near, is_within_near}
-use Rattle.chain_file.specs.Steps.{goes_on, is_number, has_end, is_next, has_digits, numbered, begun_by, ends, end_block, add_tx, line_step, step, HasRoom}
+use Rattle.chain_file.specs.Steps.{goes_on, is_number, has_end, is_next, has_digits, numbered, begun_by, ends, end_block, add_tx, line_step, step, HasRoomInChain}
 use Rattle.tx_text.specs.Parts.{is_long}
 
 between_near : (f : FileForm) (line count : ℕ) → count ≤ 1000000 → line ≤ count * 1026 + 2 → is_near line (place.Between f count) ≡ true
@@ -102,7 +102,7 @@ near_low line place.Start e = omega (arith, leb-true line 1 e)
 near_low line (place.Between f count) e = let facts = between_facts f line count e in omega (arith, facts.0, facts.1)
 near_low line (place.Within f count txs) e = let facts = within_facts f line count txs e in omega (arith, facts.0, facts.1, facts.2)
 
-pub near_room : (line : ℕ) (at : Section) → is_near line at ≡ true → HasRoom at
+pub near_room : (line : ℕ) (at : Section) → is_near line at ≡ true → HasRoomInChain at
 near_room line place.Start e = tt
 near_room line (place.Between f count) e = tt
 near_room line (place.Within f count txs) e = (within_facts f line count txs e).0

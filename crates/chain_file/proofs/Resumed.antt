@@ -17,7 +17,7 @@ use Rattle.chain_file.specs.declared.section.Taken.{Taken}
 use Rattle.chain_file.specs.declared.going.Going.{Going}
 use Rattle.chain_file.specs.declared.hash.Hashes.{Hashes}
 use Rattle.chain_file.specs.declared.standing.Spot.{Spot}
-use Rattle.chain_file.specs.declared.reader.Read.{Read}
+use Rattle.chain_file.specs.declared.reader.ReadBlocks.{ReadBlocks}
 use Rattle.chain_file.specs.declared.resume.More.TheVariants as more
 use Rattle.chain_file.specs.Draft.{block_of}
 use Rattle.chain_file.specs.Near.{is_near}
@@ -144,7 +144,7 @@ pub count_begun : (p : Section) (f : FileForm) (count : ℕ) (txs : List Tx) →
 count_begun p f count txs is = sym (ap (λ (q : Section). length (txs_in q)) is)
 
 -- what follows the line that ends the block
-pub ends_resume : (kept : List Tx) (g : Going) (bytes after : List ℕ) (read : Read) (blank : Block) (blocks : List Block) → Reads read (walk (behind_end g bytes) (parts_of after)) → blocks ≡ blank ∷ read.blocks
+pub ends_resume : (kept : List Tx) (g : Going) (bytes after : List ℕ) (read : ReadBlocks) (blank : Block) (blocks : List Block) → Reads read (walk (behind_end g bytes) (parts_of after)) → blocks ≡ blank ∷ read.blocks
     → Resumes kept (more.Ends (g.count + 1) g.txs blocks read.state) (with_blocks (ended_blocks (block_of (g.count + 1) (kept ++ g.txs))) (walk (behind_end g bytes) (parts_of after)))
 ends_resume kept g bytes after read blank blocks reads is =
     (blank, walk (behind_end g bytes) (parts_of after), is ∙ ap (λ following. blank ∷ following) reads.0, reads.1, refl)

@@ -11,7 +11,7 @@ use Rattle.std.proofs.lemmas.List.Splits.{join_with_byte-slice_split}
 use Rattle.proc_syntax.specs.declared.call.Tx.{Tx}
 use Rattle.proc_syntax.specs.declared.call.Block.{Block}
 use Rattle.tx_text.specs.Lines.{tx_of, tx_text}
-use Rattle.tx_text.proofs.Takes.{IsWhole, tx_takes}
+use Rattle.tx_text.proofs.Takes.{SpelledWhole, tx_takes}
 use Rattle.chain_file.specs.declared.draft.Reading.{Reading}
 use Rattle.chain_file.specs.declared.draft.Begun.{Begun}
 use Rattle.tx_text.specs.Parts.{parts_of, line_text}
@@ -73,7 +73,7 @@ more_made blocks number txs line tx true same =
     ∙ ap (λ text. (draft_text blocks ++ begun_text number txs) ++ line_text text) (sym same)
 more_made blocks number txs line tx false same = tt
 
-tx_made : (blocks : List Block) (number : ℕ) (txs : List Tx) (line : List ℕ) (found : Option Tx) → IsWhole tx_text line found
+tx_made : (blocks : List Block) (number : ℕ) (txs : List Tx) (line : List ℕ) (found : Option Tx) → SpelledWhole tx_text line found
     → Made ((draft_text blocks ++ begun_text number txs) ++ line_text line) (option_and_then (λ tx. cond (nat_lt (length txs) 1024) (Some (within_block blocks number (txs ++ (tx ∷ [])))) None) found)
 tx_made blocks number txs line None h = tt
 tx_made blocks number txs line (Some tx) h = more_made blocks number txs line tx (nat_lt (length txs) 1024) h

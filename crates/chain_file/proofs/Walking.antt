@@ -7,10 +7,10 @@ use Rattle.proc_syntax.specs.declared.chain_fault.ChainFault.{ChainFault}
 use Rattle.chain_file.specs.declared.standing.Standing.{Standing}
 use Rattle.chain_file.specs.declared.reader.State.{State}
 use Rattle.chain_file.specs.declared.reader.State.TheVariants as state
-use Rattle.chain_file.specs.declared.reader.Read.{Read}
+use Rattle.chain_file.specs.declared.reader.ReadBlocks.{ReadBlocks}
 use Rattle.tx_text.specs.Parts.{parts_of, onto}
 use Rattle.chain_file.specs.Chain.{Position, Walked, take_line, ended_blocks, with_blocks, onward, walk, walked, chain, lasting}
-use Rattle.chain_file.specs.Following.{StandsAt, Keeps, Reads, fault_met}
+use Rattle.chain_file.specs.Following.{StandsAt, KeepsChain, Reads, fault_met}
 use Rattle.chain_file.proofs.Lasting.{fault_so_far, so_far_lasts}
 use Rattle.chain_file.proofs.Pieces.{goes_on, walk_line, walked_on}
 use Rattle.tx_text.proofs.Glued.{onto_parts, parts_some}
@@ -55,35 +55,35 @@ walked_more : (bytes piece held : List ℕ) (at : Position) → (walked bytes).1
 walked_more bytes piece held at e one =
     walked_on bytes piece ∙ open_goes_on (walked bytes) at held (parts_of piece) e ∙ ap (λ parts. with_blocks (walked bytes).0 (walk at parts)) (onto_parts held piece one)
 
-met_so_far : (s : State) (meant : Result (Position × List ℕ) ChainFault) → Keeps s meant → fault_met s ≡ fault_so_far meant
+met_so_far : (s : State) (meant : Result (Position × List ℕ) ChainFault) → KeepsChain s meant → fault_met s ≡ fault_so_far meant
 met_so_far (state.Open standing held) meant keeps = sym (ap fault_so_far keeps.3)
 met_so_far (state.Stopped found) meant keeps = sym (ap fault_so_far keeps)
 
 -- what a reader answers for a piece
-pub record FedOn (bytes piece : List ℕ) (read : Read) : Type 0 where
-  pub keeps : Keeps read.state (walked (bytes ++ piece)).1
+pub record FedOn (bytes piece : List ℕ) (read : ReadBlocks) : Type 0 where
+  pub keeps : KeepsChain read.state (walked (bytes ++ piece)).1
   pub given : (walked (bytes ++ piece)).0 ≡ (walked bytes).0 ++ read.blocks
   pub fault : fault_met read.state ≡ lasting (chain (bytes ++ piece)).1
 
-fed_along : (bytes piece : List ℕ) (read : Read) (w : Walked) → walked (bytes ++ piece) ≡ with_blocks (walked bytes).0 w → Reads read w → FedOn bytes piece read
+fed_along : (bytes piece : List ℕ) (read : ReadBlocks) (w : Walked) → walked (bytes ++ piece) ≡ with_blocks (walked bytes).0 w → Reads read w → FedOn bytes piece read
 fed_along bytes piece read w e reads =
-    let keeps : Keeps read.state (walked (bytes ++ piece)).1 = subst (λ (all : Walked). Keeps read.state all.1) (sym e) reads.1 in
+    let keeps : KeepsChain read.state (walked (bytes ++ piece)).1 = subst (λ (all : Walked). KeepsChain read.state all.1) (sym e) reads.1 in
     record { keeps = keeps; given = ap (λ all. all.0) e ∙ ap (λ more. (walked bytes).0 ++ more) (sym reads.0); fault = met_so_far read.state (walked (bytes ++ piece)).1 keeps ∙ so_far_lasts (bytes ++ piece) }
 
-pub fed_open : (bytes piece : List ℕ) (standing : Standing) (held : List ℕ) (read : Read) → Keeps (state.Open standing held) (walked bytes).1
+pub fed_open : (bytes piece : List ℕ) (standing : Standing) (held : List ℕ) (read : ReadBlocks) → KeepsChain (state.Open standing held) (walked bytes).1
     → ((at : Position) → StandsAt standing at → Reads read (walk at (parts_of (held ++ piece)))) → FedOn bytes piece read
 fed_open bytes piece standing held read keeps reads =
     fed_along bytes piece read (walk keeps.0 (parts_of (held ++ piece))) (walked_more bytes piece held keeps.0 keeps.3 keeps.2) (reads keeps.0 keeps.1)
 
-keeps_stopped : (s : State) (found : ChainFault) (bytes : List ℕ) → s ≡ state.Stopped found → Keeps s (walked bytes).1 → (walked bytes).1 ≡ Err found
-keeps_stopped s found bytes is keeps = subst (λ (x : State). Keeps x (walked bytes).1) is keeps
+keeps_stopped : (s : State) (found : ChainFault) (bytes : List ℕ) → s ≡ state.Stopped found → KeepsChain s (walked bytes).1 → (walked bytes).1 ≡ Err found
+keeps_stopped s found bytes is keeps = subst (λ (x : State). KeepsChain x (walked bytes).1) is keeps
 
 -- a reader that met a fault answers it again
-pub stays_stopped : (s : State) (found : ChainFault) (bytes piece : List ℕ) → s ≡ state.Stopped found → Keeps s (walked bytes).1 → Keeps s (walked (bytes ++ piece)).1
+pub stays_stopped : (s : State) (found : ChainFault) (bytes piece : List ℕ) → s ≡ state.Stopped found → KeepsChain s (walked bytes).1 → KeepsChain s (walked (bytes ++ piece)).1
 stays_stopped s found bytes piece is keeps =
-    subst (λ (w : Walked). Keeps s w.1) (sym (walked_stopped bytes piece found (keeps_stopped s found bytes is keeps))) keeps
+    subst (λ (w : Walked). KeepsChain s w.1) (sym (walked_stopped bytes piece found (keeps_stopped s found bytes is keeps))) keeps
 
-pub gives_no_more : (s : State) (found : ChainFault) (bytes piece : List ℕ) (given : List Block) → s ≡ state.Stopped found → Keeps s (walked bytes).1 → given ≡ []
+pub gives_no_more : (s : State) (found : ChainFault) (bytes piece : List ℕ) (given : List Block) → s ≡ state.Stopped found → KeepsChain s (walked bytes).1 → given ≡ []
     → ((walked (bytes ++ piece)).0 ≡ (walked bytes).0 ++ given) × (Some found ≡ lasting (chain (bytes ++ piece)).1)
 gives_no_more s found bytes piece given is keeps none =
     let told : (walked bytes).1 ≡ Err found = keeps_stopped s found bytes is keeps in

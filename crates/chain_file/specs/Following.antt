@@ -14,7 +14,7 @@ use Rattle.chain_file.specs.declared.advance.LineStop.{LineStop}
 use Rattle.chain_file.specs.declared.advance.LineStop.TheVariants as stop
 use Rattle.chain_file.specs.declared.reader.State.{State}
 use Rattle.chain_file.specs.declared.reader.State.TheVariants as state
-use Rattle.chain_file.specs.declared.reader.Read.{Read}
+use Rattle.chain_file.specs.declared.reader.ReadBlocks.{ReadBlocks}
 use Rattle.chain_file.specs.declared.reader.Fed.{Fed}
 use Rattle.chain_file.specs.declared.reader.Reader.{Reader}
 use Rattle.tx_text.specs.Parts.{line_text, parts_of}
@@ -63,13 +63,13 @@ TakesLine (Err stop.NoMemory) h meant = Unit {0}
 TakesLine (Err (stop.Fault found)) h meant = meant ≡ Err found
 
 -- what the code keeps behind bytes
-abbrev pub Keeps : State → Result (Position × List ℕ) ChainFault → Type 0
-Keeps (state.Open s held) meant = (at : Position) × StandsAt s at × (parts_of held ≡ held ∷ []) × (meant ≡ Ok (at, held))
-Keeps (state.Stopped found) meant = meant ≡ Err found
+abbrev pub KeepsChain : State → Result (Position × List ℕ) ChainFault → Type 0
+KeepsChain (state.Open s held) meant = (at : Position) × StandsAt s at × (parts_of held ≡ held ∷ []) × (meant ≡ Ok (at, held))
+KeepsChain (state.Stopped found) meant = meant ≡ Err found
 
 -- the reader was fed these bytes
 abbrev pub WasFed : Reader → List ℕ → Type 0
-WasFed reader bytes = Keeps reader.state (walked bytes).1
+WasFed reader bytes = KeepsChain reader.state (walked bytes).1
 
 -- the fault that the reader met
 abbrev pub fault_met : State → Option ChainFault
@@ -77,8 +77,8 @@ fault_met (state.Open s held) = None
 fault_met (state.Stopped found) = Some found
 
 -- what was read, against what is meant
-abbrev pub Reads : Read → Walked → Type 0
-Reads read meant = (read.blocks ≡ meant.0) × Keeps read.state meant.1
+abbrev pub Reads : ReadBlocks → Walked → Type 0
+Reads read meant = (read.blocks ≡ meant.0) × KeepsChain read.state meant.1
 
 -- a piece behind bytes gives the blocks that the bytes do not have without it, and the first fault, but that more bytes are wanting
 abbrev pub Answers : List ℕ → List ℕ → Fed → Type 0

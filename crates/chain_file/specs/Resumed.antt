@@ -12,7 +12,7 @@ use Rattle.chain_file.specs.declared.resume.More.{More}
 use Rattle.chain_file.specs.declared.resume.More.TheVariants as more
 use Rattle.chain_file.specs.Draft.{block_of}
 use Rattle.chain_file.specs.Chain.{Position, Walked, ended_blocks, hash_digits, with_blocks}
-use Rattle.chain_file.specs.Following.{Keeps, Knows, StandsAt}
+use Rattle.chain_file.specs.Following.{KeepsChain, Knows, StandsAt}
 
 -- the transactions of the block that has begun
 abbrev pub txs_in : Section → List Tx
@@ -44,7 +44,7 @@ abbrev pub Resumes : List Tx → More → Walked → Type 0
 Resumes kept (more.Goes g held) meant =
     (digits : List ℕ) × (bytes : List ℕ) × Knows g.form g.hashes digits bytes × (parts_of held ≡ held ∷ []) × (meant ≡ ([], Ok (going_at kept g digits bytes, held)))
 Resumes kept (more.Ends number txs blocks s) meant =
-    (blank : Block) × (rest : Walked) × (blocks ≡ blank ∷ rest.0) × Keeps s rest.1 × (meant ≡ with_blocks (ended_blocks (block_of number (kept ++ txs))) rest)
+    (blank : Block) × (rest : Walked) × (blocks ≡ blank ∷ rest.0) × KeepsChain s rest.1 × (meant ≡ with_blocks (ended_blocks (block_of number (kept ++ txs))) rest)
 Resumes kept (more.Stopped found) meant = meant ≡ ([], Err found)
 
 -- the transactions before and those of the piece are few enough for a block, for which there is a place in front

@@ -103,10 +103,10 @@ abbrev pub step : Section → List ℕ → List ℕ → Result Taken ChainKind
 step at digits line = cond (is_long line) (Err kind.LineTooLong) (line_step at digits line)
 
 -- a block that has begun is at most the 1,000,000th
-abbrev pub HasRoom : Section → Type 0
-HasRoom place.Start = Unit {0}
-HasRoom (place.Between f count) = Unit {0}
-HasRoom (place.Within f count txs) = count < 1000000
+abbrev pub HasRoomInChain : Section → Type 0
+HasRoomInChain place.Start = Unit {0}
+HasRoomInChain (place.Between f count) = Unit {0}
+HasRoomInChain (place.Within f count txs) = count < 1000000
 
 -- what the code answers, against what is meant: the same, unless memory ran out
 abbrev pub GivesStep : Result Taken StepFault → Result Taken ChainKind → Type 0

@@ -10,7 +10,7 @@ ghost use Rattle.chain_file.specs.Following.{Knows, Reads};
 ghost use Rattle.chain_file.specs.Resumed.{Fits, Resumes, going_at, txs_in};
 
 use crate::going::Going;
-use crate::reader::{Read, State};
+use crate::reader::{ReadBlocks, State};
 use crate::resume::More;
 use crate::section::Section;
 use crate::standing::{Spot, Standing};
@@ -49,7 +49,7 @@ fn keep_going(
     spot: &mut Spot,
     going: Going,
     held: List<u8>,
-) -> Result<Read, NoMemory>
+) -> Result<ReadBlocks, NoMemory>
     requires { going.before ≡ length (txs_in spot.old.place) }
     ensures reads { (digits bytes : List ℕ) → Knows going.form going.hashes digits bytes → parts_of held ≡ held ∷ [] → IfOk result (λ read. Reads read ([], Ok (going_at (txs_in spot.old.place) going digits bytes, held))) }
     ensures err { OnErr result (spot.new ≡ spot.old) }
@@ -66,7 +66,7 @@ fn keep_going(
     let place = Section::Within { form, count, txs };
     let spot = Spot { line, place };
     let standing = Standing { spot, hashes };
-    Ok(Read {
+    Ok(ReadBlocks {
         blocks: List::new(alloc),
         state: State::Open { standing, held },
     })
@@ -88,13 +88,13 @@ fn put_block(blocks: &mut List<Block>, number: u64, txs: List<Tx>)
 
 /// Moves the transactions that the block had before, where it goes on, or to those of the piece, where it ended. Where memory is
 /// wanting, all is as before.
-pub fn finish(alloc: Global, spot: &mut Spot, more: More) -> Result<Read, NoMemory>
+pub fn finish(alloc: Global, spot: &mut Spot, more: More) -> Result<ReadBlocks, NoMemory>
     requires { Fits (txs_in spot.old.place) more }
     ensures reads { (meant : Walked) → Resumes (txs_in spot.old.place) more meant → IfOk result (λ read. Reads read meant) }
     ensures err { OnErr result (spot.new ≡ spot.old) }
 {
     match more {
-        More::Stopped(fault) => Ok(Read {
+        More::Stopped(fault) => Ok(ReadBlocks {
             blocks: List::new(alloc),
             state: State::Stopped(fault),
         }),
@@ -107,7 +107,7 @@ pub fn finish(alloc: Global, spot: &mut Spot, more: More) -> Result<Read, NoMemo
         } => {
             let all = take_txs(spot, txs)?;
             put_block(&mut blocks, number, all);
-            Ok(Read { blocks, state })
+            Ok(ReadBlocks { blocks, state })
         }
     }
 }

@@ -5,7 +5,7 @@ ghost use Rattle.std.specs.List.{flat_map};
 ghost use Rattle.std.specs.Prelude.{Option};
 ghost use Rattle.tx_text.specs.Parts.{parts_of};
 ghost use Rattle.chain_file.specs.Chain.{Position, chain, ended_blocks, fault_at_end, is_between, open_length, walk, walked};
-ghost use Rattle.chain_file.specs.Following.{Answers, EndsAs, WasFed, Keeps, Reads, StandsAt, fault_met};
+ghost use Rattle.chain_file.specs.Following.{Answers, EndsAs, WasFed, KeepsChain, Reads, StandsAt, fault_met};
 
 use crate::advance::{LineStop, take_line};
 use crate::finish::finish;
@@ -27,7 +27,7 @@ pub enum State {
 
 /// What bytes gave: the blocks that ended, and what is known behind them.
 #[derive(Drop)]
-pub struct Read {
+pub struct ReadBlocks {
     pub blocks: List<Block>,
     pub state: State,
 }
@@ -54,7 +54,7 @@ fn push_ended(given: &mut List<Block>, ended: Option<Block>) -> Result<(), NoMem
 /// What the bytes after the last newline leave.
 fn last_part(alloc: Global, standing: Standing, rest: &[u8]) -> Result<State, NoMemory>
     requires { parts_of rest.now ≡ rest.now ∷ [] }
-    ensures { (at : Position) → StandsAt standing at → IfOk result (λ state. Keeps state (walk at (rest.now ∷ [])).1) }
+    ensures { (at : Position) → StandsAt standing at → IfOk result (λ state. KeepsChain state (walk at (rest.now ∷ [])).1) }
 {
     if rest.len() > MOST_LINE_BYTES {
         return Ok(State::Stopped(ChainFault {
@@ -67,7 +67,7 @@ fn last_part(alloc: Global, standing: Standing, rest: &[u8]) -> Result<State, No
 }
 
 /// Reads lines, and what stands behind the last of them.
-pub fn read_lines(alloc: Global, standing: Standing, bytes: &[u8]) -> Result<Read, NoMemory>
+pub fn read_lines(alloc: Global, standing: Standing, bytes: &[u8]) -> Result<ReadBlocks, NoMemory>
     ensures { (at : Position) → StandsAt standing at → IfOk result (λ read. Reads read (walk at (parts_of bytes.now))) }
 {
     let Standing { spot, mut hashes } = standing;
@@ -82,7 +82,7 @@ pub fn read_lines(alloc: Global, standing: Standing, bytes: &[u8]) -> Result<Rea
             }
             Err(LineStop::NoMemory) => return Err(NoMemory),
             Err(LineStop::Fault(fault)) => {
-                return Ok(Read {
+                return Ok(ReadBlocks {
                     blocks: given,
                     state: State::Stopped(fault),
                 });
@@ -92,14 +92,14 @@ pub fn read_lines(alloc: Global, standing: Standing, bytes: &[u8]) -> Result<Rea
     }
     let spot = before;
     let state = last_part(alloc, Standing { spot, hashes }, rest)?;
-    Ok(Read {
+    Ok(ReadBlocks {
         blocks: given,
         state,
     })
 }
 
 /// Reads bytes that stand behind the last newline. Where memory is wanting, all is as before.
-fn read_on(alloc: Global, standing: &mut Standing, bytes: &[u8]) -> Result<Read, NoMemory>
+fn read_on(alloc: Global, standing: &mut Standing, bytes: &[u8]) -> Result<ReadBlocks, NoMemory>
     ensures reads { (at : Position) → StandsAt standing.old at → IfOk result (λ read. Reads read (walk at (parts_of bytes.now))) }
     ensures err { OnErr result (standing.new ≡ standing.old) }
 {
@@ -119,7 +119,7 @@ fn read_piece(
     standing: &mut Standing,
     held: &[u8],
     piece: &[u8],
-) -> Result<Read, NoMemory>
+) -> Result<ReadBlocks, NoMemory>
     ensures reads { (at : Position) → StandsAt standing.old at → IfOk result (λ read. Reads read (walk at (parts_of (held.now ++ piece.now)))) }
     ensures err { OnErr result (standing.new ≡ standing.old) }
 {
@@ -143,7 +143,7 @@ fn fault_met(state: &State) -> Option<ChainFault>
 /// The fault of a file that ends here.
 fn fault_at_end(state: &State) -> Option<ChainFault>
     ensures met { IfSome (fault_met state.now) (λ fault. result ≡ Some fault) }
-    ensures end { (meant : Result (Position × List ℕ) ChainFault) → Keeps state.now meant → result ≡ fault_at_end meant }
+    ensures end { (meant : Result (Position × List ℕ) ChainFault) → KeepsChain state.now meant → result ≡ fault_at_end meant }
 {
     match state {
         State::Stopped(fault) => Some(*fault),
@@ -211,7 +211,7 @@ impl Reader {
             }),
             State::Open { standing, held } => {
                 let read = read_piece(self.alloc, standing, held.as_slice(), piece)?;
-                let Read { blocks, state } = read;
+                let ReadBlocks { blocks, state } = read;
                 let fault = fault_met(&state);
                 self.state = state;
                 Ok(Fed { blocks, fault })

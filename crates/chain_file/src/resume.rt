@@ -10,7 +10,7 @@ ghost use Rattle.chain_file.specs.Following.{Knows, StandsAt};
 ghost use Rattle.chain_file.specs.Resumed.{Begins, Counts, Fits, Resumes, behind_end, going_at, txs_in};
 
 use crate::going::Going;
-use crate::reader::{Read, State, read_lines};
+use crate::reader::{ReadBlocks, State, read_lines};
 use crate::section::{FileForm, Section};
 use crate::standing::{Spot, Standing};
 use crate::step::{StepFault, told_within};
@@ -144,7 +144,7 @@ fn end_going(alloc: Global, going: Going, line: &[u8], after: &[u8]) -> Result<M
     };
     let standing = Standing { spot, hashes };
     let read = read_lines(alloc, standing, after)?;
-    let Read {
+    let ReadBlocks {
         blocks: following,
         state,
     } = read;

@@ -2,7 +2,7 @@
 
 ghost use Rattle.std.specs.Prelude.{◌≡◌, ◌<◌, ◌&&◌, ◌≤◌, length, Some, None, Ok, Err, IfOk, IfSome, cond};
 ghost use Rattle.chain_file.specs.Onward.{GivesTold, next_tx, told_within};
-ghost use Rattle.chain_file.specs.Steps.{GivesStep, add_tx, begin, end_block, has_digits, has_end, header, is_hash_field, is_hex, is_next, is_number, HasRoom, line_step, numbered, step, within};
+ghost use Rattle.chain_file.specs.Steps.{GivesStep, add_tx, begin, end_block, has_digits, has_end, header, is_hash_field, is_hex, is_next, is_number, HasRoomInChain, line_step, numbered, step, within};
 ghost use Rattle.std.specs.Char.{is_ascii_digit};
 ghost use Rattle.std.specs.List.{list_all};
 ghost use Rattle.tx_text.specs.Lines.{tx_of};
@@ -269,7 +269,7 @@ fn within(
 
 /// A line of any length.
 fn line_step(alloc: Global, place: Section, digits: &[u8], line: &[u8]) -> Result<Taken, StepFault>
-    requires { HasRoom place }
+    requires { HasRoomInChain place }
     ensures { GivesStep result (line_step place digits.now line.now) }
 {
     match place {
@@ -281,7 +281,7 @@ fn line_step(alloc: Global, place: Section, digits: &[u8], line: &[u8]) -> Resul
 
 /// A line: what it leaves, where it has no fault. The digits are those that a hash has there.
 pub fn step(alloc: Global, place: Section, digits: &[u8], line: &[u8]) -> Result<Taken, StepFault>
-    requires { HasRoom place }
+    requires { HasRoomInChain place }
     ensures { GivesStep result (step place digits.now line.now) }
 {
     if line.len() > MOST_LINE_BYTES {

@@ -2,8 +2,8 @@
 use Rattle.std.proofs.Common.{◌≡◌, ℕ, List, [], ◌∷◌, ◌++◌, Bool, true, false, cond, Option, Some, None, refl, ◌∙◌, sym, ap}
 use Rattle.std.specs.Prelude.{is_none}
 use Rattle.std.specs.List.{AllByRecursion, flat_map}
-use Rattle.cli_words.specs.declared.given.Step.{Step}
-use Rattle.cli_words.specs.declared.given.Step.TheVariants.{Bad, Awaits, Ends}
+use Rattle.cli_words.specs.declared.given.NextWord.{NextWord}
+use Rattle.cli_words.specs.declared.given.NextWord.TheVariants.{Bad, Awaits, Ends}
 use Rattle.cli_words.specs.declared.options.CommandOption.{CommandOption}
 use Rattle.cli_words.specs.declared.options.Takes.{Takes}
 use Rattle.cli_words.specs.declared.options.Takes.TheVariants.{Nothing, Text, Number}
@@ -22,10 +22,10 @@ word_step x takes e = ap begun_by (option_back x) ∙ ap (begun x) e
 value_step : (x : CommandOption) (value : List ℕ) → fits (takes_of x) value ≡ true → step (Some x) value ≡ Ends x
 value_step x value e = ap (λ test. cond test (Ends x) Bad) e
 
-abbrev items_by : Option CommandOption → List ℕ → List (List ℕ) → Step → List Item
+abbrev items_by : Option CommandOption → List ℕ → List (List ℕ) → NextWord → List Item
 items_by waiting word words next = by_step next [] (λ x. items_from (Some x) words) (λ x. item x (value_in waiting word) ∷ items_from None words)
 
-abbrev read_by : List (List ℕ) → Step → Bool
+abbrev read_by : List (List ℕ) → NextWord → Bool
 read_by words next = by_step next false (λ x. is_read (Some x) words) (λ x. is_read None words)
 
 -- words are read as an option and what follows it

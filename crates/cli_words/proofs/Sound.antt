@@ -1,8 +1,8 @@
 -- The options that words give have values that they take.
 use Rattle.std.proofs.Common.{◌≡◌, ℕ, List, [], ◌∷◌, Bool, true, false, cond, Option, Some, None, refl, ap}
 use Rattle.std.specs.List.{AllByRecursion}
-use Rattle.cli_words.specs.declared.given.Step.{Step}
-use Rattle.cli_words.specs.declared.given.Step.TheVariants.{Bad, Awaits, Ends}
+use Rattle.cli_words.specs.declared.given.NextWord.{NextWord}
+use Rattle.cli_words.specs.declared.given.NextWord.TheVariants.{Bad, Awaits, Ends}
 use Rattle.cli_words.specs.declared.options.CommandOption.{CommandOption}
 use Rattle.cli_words.specs.declared.options.Takes.{Takes}
 use Rattle.cli_words.specs.declared.options.Takes.TheVariants.{Nothing, Text, Number}
@@ -17,7 +17,7 @@ fit_matches Text value e = e
 fit_matches (Number least most) value e = e
 
 -- a word that ends an option gives it a value that it takes
-abbrev EndsSound : Option CommandOption → List ℕ → Step → Type 0
+abbrev EndsSound : Option CommandOption → List ℕ → NextWord → Type 0
 EndsSound waiting word Bad = Unit {0}
 EndsSound waiting word (Awaits x) = Unit {0}
 EndsSound waiting word (Ends x) = matches (takes_of x) (value_in waiting word) ≡ true
@@ -39,7 +39,7 @@ step_sound : (waiting : Option CommandOption) (word : List ℕ) → EndsSound wa
 step_sound None word = named_sound word (option_of word)
 step_sound (Some x) word = valued_sound x word (fits (takes_of x) word) refl
 
-next_sound : (waiting : Option CommandOption) (word : List ℕ) (words : List (List ℕ)) (next : Step) → EndsSound waiting word next
+next_sound : (waiting : Option CommandOption) (word : List ℕ) (words : List (List ℕ)) (next : NextWord) → EndsSound waiting word next
     → ((others : Option CommandOption) → AllByRecursion IsSound (items_from others words))
     → AllByRecursion IsSound (by_step next [] (λ x. items_from (Some x) words) (λ x. item x (value_in waiting word) ∷ items_from None words))
 next_sound waiting word words Bad sound more = tt

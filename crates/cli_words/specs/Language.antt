@@ -7,8 +7,8 @@ use Rattle.cli_words.specs.Table.{command_of, is_same, option_of, options, takes
 use Rattle.cli_words.specs.declared.command.Command.{Command}
 use Rattle.cli_words.specs.declared.command.Command.TheVariants as command
 use Rattle.cli_words.specs.declared.flags.Flags.{Flags}
-use Rattle.cli_words.specs.declared.given.Step.{Step}
-use Rattle.cli_words.specs.declared.given.Step.TheVariants.{Bad, Awaits, Ends}
+use Rattle.cli_words.specs.declared.given.NextWord.{NextWord}
+use Rattle.cli_words.specs.declared.given.NextWord.TheVariants.{Bad, Awaits, Ends}
 use Rattle.cli_words.specs.declared.options.CommandOption.{CommandOption}
 use Rattle.cli_words.specs.declared.options.CommandOption.TheVariants as option
 use Rattle.cli_words.specs.declared.options.Takes.{Takes}
@@ -54,16 +54,16 @@ fits (Number least most) word = is_within least most (whole_number word)
 -- ---- the words behind the command
 
 -- a word that has to be an option
-abbrev pub begun : CommandOption → Takes → Step
+abbrev pub begun : CommandOption → Takes → NextWord
 begun x Nothing = Ends x
 begun x _ = Awaits x
 
-abbrev pub begun_by : Option CommandOption → Step
+abbrev pub begun_by : Option CommandOption → NextWord
 begun_by None = Bad
 begun_by (Some x) = begun x (takes_of x)
 
 -- one more word: the value of the option that awaits one, or else an option
-abbrev pub step : Option CommandOption → List ℕ → Step
+abbrev pub step : Option CommandOption → List ℕ → NextWord
 step None word = begun_by (option_of word)
 step (Some x) word = cond (fits (takes_of x) word) (Ends x) Bad
 
@@ -81,7 +81,7 @@ value_in None word = []
 value_in (Some x) word = word
 
 -- what follows a word: nothing behind one that is neither; else what follows with an option that awaits its value, or behind one
-abbrev pub by_step : {A : Type 0} → Step → A → (CommandOption → A) → (CommandOption → A) → A
+abbrev pub by_step : {A : Type 0} → NextWord → A → (CommandOption → A) → (CommandOption → A) → A
 by_step Bad bad awaits ends = bad
 by_step (Awaits x) bad awaits ends = awaits x
 by_step (Ends x) bad awaits ends = ends x

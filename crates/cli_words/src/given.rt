@@ -8,7 +8,7 @@ use crate::value::fits;
 
 /// What one more word is.
 #[derive(Clone, Copy, Debug, PartialEq, Eq)]
-pub enum Step {
+pub enum NextWord {
     /// Neither an option nor the value that is awaited.
     Bad,
     /// An option whose value comes next.
@@ -18,31 +18,31 @@ pub enum Step {
 }
 
 // A word that has to be an option.
-fn begin(word: &str) -> Step
+fn begin(word: &str) -> NextWord
     ensures { result ≡ step None word.now }
 {
     match option_of(word) {
-        None => Step::Bad,
+        None => NextWord::Bad,
         Some(option) => match option.takes() {
-            Takes::Nothing => Step::Ends(option),
-            Takes::Text | Takes::Number { .. } => Step::Awaits(option),
+            Takes::Nothing => NextWord::Ends(option),
+            Takes::Text | Takes::Number { .. } => NextWord::Awaits(option),
         },
     }
 }
 
 // A word that has to be the value of an option.
-fn end(option: CommandOption, word: &str) -> Step
+fn end(option: CommandOption, word: &str) -> NextWord
     ensures { result ≡ step (Some option) word.now }
 {
     if fits(option.takes(), word) {
-        Step::Ends(option)
+        NextWord::Ends(option)
     } else {
-        Step::Bad
+        NextWord::Bad
     }
 }
 
 // One more word: the value of the option that awaits one, or else an option.
-fn read_word(waiting: Option<CommandOption>, word: &str) -> Step
+fn read_word(waiting: Option<CommandOption>, word: &str) -> NextWord
     ensures { result ≡ step waiting word.now }
 {
     match waiting {
@@ -58,9 +58,9 @@ pub fn is_read(words: &[&str]) -> bool
     let mut waiting = None;
     for word in words {
         match read_word(waiting, word) {
-            Step::Bad => return false,
-            Step::Awaits(option) => waiting = Some(option),
-            Step::Ends(_) => waiting = None,
+            NextWord::Bad => return false,
+            NextWord::Awaits(option) => waiting = Some(option),
+            NextWord::Ends(_) => waiting = None,
         }
     }
     waiting.is_none()
@@ -74,9 +74,9 @@ pub fn count(words: &[&str], option: CommandOption) -> usize
     let mut waiting = None;
     for word in words {
         match read_word(waiting, word) {
-            Step::Bad => return count,
-            Step::Awaits(next) => waiting = Some(next),
-            Step::Ends(ended) => {
+            NextWord::Bad => return count,
+            NextWord::Awaits(next) => waiting = Some(next),
+            NextWord::Ends(ended) => {
                 waiting = None;
                 if ended.is(option) {
                     count += 1;
@@ -94,9 +94,9 @@ pub fn find<'a>(words: &[&'a str], option: CommandOption) -> Option<&'a str>
     let mut waiting = None;
     for word in words {
         match read_word(waiting, word) {
-            Step::Bad => return None,
-            Step::Awaits(next) => waiting = Some(next),
-            Step::Ends(ended) => {
+            NextWord::Bad => return None,
+            NextWord::Awaits(next) => waiting = Some(next),
+            NextWord::Ends(ended) => {
                 if ended.is(option) {
                     return Some(if waiting.is_some() { *word } else { "" });
                 }

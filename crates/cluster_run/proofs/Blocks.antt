@@ -13,7 +13,7 @@ use Rattle.node_core.specs.declared.answers.Decided.{Decided}
 use Rattle.node_core.specs.declared.answers.Delivered.{Delivered}
 use Rattle.node_core.specs.declared.answers.Sealed as answers
 use Rattle.node_model.specs.Events.{drop_over, dropped, is_over, needs_no_job, with_jobs, with_sealed}
-use Rattle.node_model.specs.History.{Sealed, ids_of}
+use Rattle.node_model.specs.History.{SealedBlock, ids_of}
 use Rattle.node_model.specs.Journals.{delivered, world}
 use Rattle.node_model.specs.Steps as steps
 use Rattle.node_model.specs.Steps.{Answer, Reply, Shared, ToCommit, ToDeliver, ToSeal, commits, commits_due, delivers, is_ready, noted, reply, seals, seals_due}
@@ -55,7 +55,7 @@ none_with app actor number ids (tx ∷ txs) jobs none = none_with app actor numb
     by false = none_snoc actor jobs tx none
 
 -- jobs that a seal drops are not held
-none_over : (actor : ℕ) (sealed : List Sealed) (jobs : List Job) → NoneIn jobs actor → NoneIn (map (drop_over sealed) jobs) actor
+none_over : (actor : ℕ) (sealed : List SealedBlock) (jobs : List Job) → NoneIn jobs actor → NoneIn (map (drop_over sealed) jobs) actor
 none_over actor sealed jobs none number job holds = let m = job-map jobs (drop_over sealed) number job holds.stands in by m.0 m.1 m.2 (is_over sealed m.0) refl
   where
     by : (was : Job) → job_at jobs number ≡ Some was → job ≡ drop_over sealed was → (b : Bool) → is_over sealed was ≡ b → ⊥

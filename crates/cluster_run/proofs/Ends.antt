@@ -6,7 +6,7 @@ use Rattle.cluster_run.specs.Standing.{HasNone, delivered_by, in_work, state_see
 use Rattle.node_core.specs.Core.{Core}
 use Rattle.node_core.specs.Looking.{closed}
 use Rattle.node_model.specs.Fold.{all_rows, fold, node_result, results_of}
-use Rattle.node_model.specs.History.{Sealed, snapshot}
+use Rattle.node_model.specs.History.{SealedBlock, snapshot}
 use Rattle.node_model.specs.Journals.{IsLegal, delivered, world}
 use Rattle.node_model.specs.declared.journal.Entry.{Entry}
 use Rattle.node_model.specs.declared.result.NodeResult.{NodeResult}
@@ -34,7 +34,7 @@ module _ {ghosts : Ghosts Core App Entry} (pass : Pass Core App Entry ghosts) (z
     folds : record made { journal = [] } ≡ node_result (pass_base pass) (delivered_by pass)
     folds = ap (λ (one : NodeResult). record one { journal = [] }) is ∙ ap told_by sealed_is
       where
-        told_by : List Sealed → NodeResult
+        told_by : List SealedBlock → NodeResult
         told_by sealed = record { blocks = results_of (tables_of (pass_base pass)) sealed; tables = all_rows (snapshot (length sealed) sealed) 0 (tables_of (pass_base pass)); journal = [] }
 
     delivers : delivered made.journal ≡ delivered_by pass

@@ -10,7 +10,7 @@ use Rattle.block_work.specs.contracts.ids.IdIndex as IdIndex
 use Rattle.cluster_run.proofs.Crossing.{checked_send, checked_sync, sends}
 use Rattle.node_core.specs.contracts.index.JobIndex as JobIndex
 use Rattle.node_core.specs.contracts.jobs.Jobs as Jobs
-use Rattle.node_core.specs.contracts.jobs.Row as Row
+use Rattle.node_core.specs.contracts.jobs.JobRow as JobRow
 use Rattle.node_core.specs.contracts.node.NodeCore as NodeCore
 use Rattle.node_core.specs.contracts.node.NodeCoreStoried.TheImpl as storied
 use Rattle.node_core.proofs.working.IndexedBlock.TheSendSync as indexed
@@ -36,10 +36,10 @@ ids_send = search (sends, maps.crosses, crosses, sendable) depth 60 fits 20000
 index_send : IsSend JobIndex.the_field.row
 index_send = search (sends, maps.crosses, crosses, sendable) depth 60 fits 20000
 
-row_field_send : IsSend Row.the_field.row
+row_field_send : IsSend JobRow.the_field.row
 row_field_send = search (sends, table_row.the_send, table_key.the_send, tx.the_send, tx.the_sync, crosses, sendable) depth 60 fits 20000
 
-row_send : IsSend Row.the_row
+row_send : IsSend JobRow.the_row
 row_send = search (row_field_send, sendable) depth 60 fits 20000
 
 jobs_send : IsSend Jobs.the_field.row

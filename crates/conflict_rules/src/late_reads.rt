@@ -54,7 +54,7 @@ fn late_from<'a, V: Versions>(
 
 /// The first of the reads of a run that a write of the blocks above `height` up to `upto` hits, with the least such write by
 /// place and key; `None` exactly where there is none. Takes no memory.
-#[tactic(auto, using(crate::proofs::Told::told_from))]
+#[tactic(auto, using(crate::proofs::FirstLate::told_from))]
 pub fn late<'a, V: Versions>(
     versions: &'a V,
     reads: &List<Made>,

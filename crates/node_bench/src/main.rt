@@ -7,20 +7,20 @@ mod timing;
 mod turns;
 
 use crate::timing::measure;
-use crate::turns::Kind;
+use crate::turns::TurnKind;
 use std::{env, io};
 
 fn main(rt: HostRuntime) -> io::Result<()> {
     let alloc = rt.alloc();
     let Some(asked) = env::args(&rt)?.nth(1) else {
-        measure(&rt, alloc, 2, Kind::Look, 100)?;
-        measure(&rt, alloc, 2, Kind::Arrival, 100)?;
+        measure(&rt, alloc, 2, TurnKind::Look, 100)?;
+        measure(&rt, alloc, 2, TurnKind::Arrival, 100)?;
         return println!(rt; "done");
     };
     let turns = asked.parse::<u32>().unwrap_or(100_000);
     for threads in [1, 2, 4, 8] {
-        let looks = measure(&rt, alloc, threads, Kind::Look, turns)?;
-        let arrivals = measure(&rt, alloc, threads, Kind::Arrival, turns)?;
+        let looks = measure(&rt, alloc, threads, TurnKind::Look, turns)?;
+        let arrivals = measure(&rt, alloc, threads, TurnKind::Arrival, turns)?;
         println!(rt;
             "{threads} threads: {looks} looks per second, {arrivals} arrivals per second"
         )?;

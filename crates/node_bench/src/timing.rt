@@ -3,7 +3,7 @@ ghost use Rattle.std.specs.Prelude.{◌≡◌, ◌≤◌, IfSome};
 ghost use Rattle.turn_lock.specs.Passes.{IsIdle, made, pass_number};
 
 use crate::crews::split_crew;
-use crate::turns::{Kind, Plan, run_each};
+use crate::turns::{TurnKind, TurnPlan, run_each};
 use node_core::NodeCore;
 use node_shared::{NodePass, SharedNode};
 use proc_check::{Checked, check};
@@ -62,7 +62,7 @@ pub fn measure<R: Threads + Wait + Sync + Clock>(
     rt: &R,
     alloc: Global,
     threads: u32,
-    kind: Kind,
+    kind: TurnKind,
     turns: u32,
 ) -> io::Result<u128>
     requires few { threads ≤ 8 }
@@ -75,7 +75,7 @@ pub fn measure<R: Threads + Wait + Sync + Clock>(
     };
     let tx = &tx;
     let began = Instant::now(rt)?;
-    run_each(rt, &node, crew.as_mut_slice(), Plan { kind, tx, turns });
+    run_each(rt, &node, crew.as_mut_slice(), TurnPlan { kind, tx, turns });
     let took = began.elapsed(rt)?;
     Ok(u128::from(turns) * u128::from(threads) * 1_000_000_000 / took.as_nanos().max(1))
 }

@@ -11,15 +11,15 @@ use std::thread::Threads;
 
 /// What is done in a turn.
 #[derive(Clone, Copy)]
-pub enum Kind {
+pub enum TurnKind {
     Look,
     Arrival,
 }
 
 /// What each thread does, and how often.
 #[derive(Clone, Copy)]
-pub struct Plan<'a> {
-    pub kind: Kind,
+pub struct TurnPlan<'a> {
+    pub kind: TurnKind,
     pub tx: &'a Tx,
     pub turns: u32,
 }
@@ -29,17 +29,17 @@ fn run_one<V: Versions, R: Wait>(
     rt: &R,
     node: &SharedNode<V>,
     pass: &mut NodePass<V>,
-    plan: Plan<'_>,
+    plan: TurnPlan<'_>,
 )
     requires { IsIdle node.now.lock pass.old }
     ensures { IsIdle node.now.lock pass.new }
 {
     for _ in 0..plan.turns {
         match plan.kind {
-            Kind::Look => {
+            TurnKind::Look => {
                 node.height(rt, pass);
             }
-            Kind::Arrival => {
+            TurnKind::Arrival => {
                 let _ = node.arrive(rt, pass, plan.tx);
             }
         }
@@ -51,7 +51,7 @@ pub fn run_each<V: Versions + Send, R: Threads + Wait + Sync>(
     rt: &R,
     node: &SharedNode<V>,
     crew: &mut [NodePass<V>],
-    plan: Plan<'_>,
+    plan: TurnPlan<'_>,
 )
     requires { All (IsIdle node.now.lock) crew.old }
 {

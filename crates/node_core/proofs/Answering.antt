@@ -11,7 +11,7 @@ use Rattle.node_core.specs.Answers.{got_as, got_of}
 use Rattle.node_core.specs.Core.{IsHeld, Steps}
 use Rattle.node_core.specs.InHand.{InHand, IsNextRead, job_in, with_read}
 use Rattle.node_core.specs.Kept.{IsNode, IsRowOf, IsStageOf, Kept, told_in, world_in}
-use Rattle.node_core.specs.declared.jobs.Row.{Row}
+use Rattle.node_core.specs.declared.jobs.JobRow.{JobRow}
 use Rattle.node_core.specs.declared.jobs.Stage.TheVariants as stage
 use Rattle.node_core.specs.declared.jobs.Stage.{Stage}
 use Rattle.node_model.specs.Events.{after, hit_since, next_read, read_on, record_read, settled_in}
@@ -105,7 +105,7 @@ module _ (kept : Kept) (node : IsNode kept) (work : InHand) (held : IsHeld (core
           quiet kept node work.actor (ToRead work.job) (got_as (got_of hit)) (event.Read work.job) may told journal' noted refl refl kept.rows
           (rows_keep (tables_of kept.app) (told_in kept.work) kept.rows (world_in kept).jobs work.job (read_on kept.app (world_in kept).sealed) (job_in work) held.holds.stands keeps node.rows)
         where
-          keeps : (row : Row) → IsRowOf (tables_of kept.app) (told_in kept.work) row (job_in work) → IsRowOf (tables_of kept.app) (told_in kept.work) row (read_on kept.app (world_in kept).sealed (job_in work))
+          keeps : (row : JobRow) → IsRowOf (tables_of kept.app) (told_in kept.work) row (job_in work) → IsRowOf (tables_of kept.app) (told_in kept.work) row (read_on kept.app (world_in kept).sealed (job_in work))
           keeps row is = record {
             tx = is.tx ∙ sym (read_tx (job_in work) kept (next_read kept.app (world_in kept).sealed (job_in work)));
             stage = held_stage (tables_of kept.app) (told_in kept.work) row.stage (job_in work) (read_on kept.app (world_in kept).sealed (job_in work)) refl

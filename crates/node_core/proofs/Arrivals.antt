@@ -1,7 +1,7 @@
 -- An arrival is a step.
 use Rattle.std.proofs.Common.{Bool, List, None, Option, Some, [], ap, cond, false, length, refl, subst, sym, true, ◌+◌, ◌++◌, ◌||◌, ◌∙◌, ◌≡◌, ◌∷◌, ℕ}
 use Rattle.std.specs.Option.{is_some, option_map}
-use Rattle.block_work.specs.Ids.{place_of}
+use Rattle.block_work.specs.Ids.{place_of_id}
 use Rattle.node_core.proofs.Journal.{core_of, quiet, stays, steps}
 use Rattle.node_core.proofs.Rowed.{has_job, rows_more, same_length}
 use Rattle.node_core.proofs.Settled.{settled_is}
@@ -12,11 +12,11 @@ use Rattle.node_core.specs.Known.{arrival, is_in_block}
 use Rattle.node_core.specs.Rows.{new_row, shown_all}
 use Rattle.node_core.specs.declared.answers.Arrived.TheVariants as arrived
 use Rattle.node_core.specs.declared.answers.Arrived.{Arrived}
-use Rattle.node_core.specs.declared.jobs.Row.{Row}
+use Rattle.node_core.specs.declared.jobs.JobRow.{JobRow}
 use Rattle.node_core.specs.declared.working.Working.{Working}
 use Rattle.node_model.specs.Events.{is_settled}
 use Rattle.node_model.specs.Steps.{Invalid, Known, Queued, Reply, Shared, ToArrive, is_in_work, is_known, reply}
-use Rattle.node_model.specs.World.{job_of, new_job, number_of}
+use Rattle.node_model.specs.World.{job_of, new_job, number_of_job}
 use Rattle.node_model.specs.declared.journal.Entry.{Entry}
 use Rattle.node_model.specs.declared.journal.Event.TheVariants.{Arrive}
 use Rattle.proc_syntax.specs.Call.{call_fault}
@@ -37,9 +37,9 @@ module _ (kept : Kept) (node : IsNode kept) (height : ℕ) (at : height ≡ leng
       by None = refl
       by (Some working) = refl
 
-  known : (tx : Tx) → (is_some (number_of tx (shown_all kept.rows)) || (is_some (up_to height (place_of kept.ids tx.id)) || is_in_block tx.id kept.work)) ≡ is_known (world_in kept) tx
+  known : (tx : Tx) → (is_some (number_of_job tx (shown_all kept.rows)) || (is_some (up_to height (place_of_id kept.ids tx.id)) || is_in_block tx.id kept.work)) ≡ is_known (world_in kept) tx
   known tx =
-      ap (λ b. b || (is_some (up_to height (place_of kept.ids tx.id)) || is_in_block tx.id kept.work)) (has_job (tables_of kept.app) (told_in kept.work) tx kept.rows (world_in kept).jobs node.rows)
+      ap (λ b. b || (is_some (up_to height (place_of_id kept.ids tx.id)) || is_in_block tx.id kept.work)) (has_job (tables_of kept.app) (told_in kept.work) tx kept.rows (world_in kept).jobs node.rows)
       ∙ ap (λ (found : Option ℕ). is_some (job_of tx (world_in kept).jobs) || (is_some found || is_in_block tx.id kept.work)) (settled_is kept node height tx.id at)
       ∙ ap (λ b. is_some (job_of tx (world_in kept).jobs) || (is_settled tx.id (world_in kept).sealed || b)) (in_work tx.id)
 
@@ -48,9 +48,9 @@ module _ (kept : Kept) (node : IsNode kept) (height : ℕ) (at : height ≡ leng
       ap (λ (t : Tx). cond {A = Reply} (is_some (call_fault kept.app t)) (Invalid, None) (cond (is_known (world_in kept) t) (Known, None) (Queued, Some (Arrive (length (world_in kept).jobs + 1) shared)))) same
       ∙ ap (λ b. cond {A = Reply} (is_some (call_fault kept.app tx)) (Invalid, None) (cond b (Known, None) (Queued, Some (Arrive (length (world_in kept).jobs + 1) shared)))) (sym (known tx))
       ∙ ap (λ n. cond {A = Reply} (is_some (call_fault kept.app tx)) (Invalid, None)
-      (cond (is_some (number_of tx (shown_all kept.rows)) || (is_some (up_to height (place_of kept.ids tx.id)) || is_in_block tx.id kept.work)) (Known, None) (Queued, Some (Arrive (n + 1) shared))))
+      (cond (is_some (number_of_job tx (shown_all kept.rows)) || (is_some (up_to height (place_of_id kept.ids tx.id)) || is_in_block tx.id kept.work)) (Known, None) (Queued, Some (Arrive (n + 1) shared))))
       (sym (same_length (tables_of kept.app) (told_in kept.work) kept.rows (world_in kept).jobs node.rows))
-      ∙ by (is_some (call_fault kept.app tx)) (is_some (number_of tx (shown_all kept.rows)) || (is_some (up_to height (place_of kept.ids tx.id)) || is_in_block tx.id kept.work))
+      ∙ by (is_some (call_fault kept.app tx)) (is_some (number_of_job tx (shown_all kept.rows)) || (is_some (up_to height (place_of_id kept.ids tx.id)) || is_in_block tx.id kept.work))
     where
       by : (a b : Bool) → cond {A = Reply} a (Invalid, None) (cond b (Known, None) (Queued, Some (Arrive (length kept.rows + 1) shared))) ≡ reply_of (cond a arrived.Invalid (cond b arrived.Known arrived.Queued)) (length kept.rows + 1) shared
       by true b = refl
@@ -73,7 +73,7 @@ module _ (kept : Kept) (node : IsNode kept) (height : ℕ) (at : height ≡ leng
     told = arrives_so noted tx also ∙ ap (λ a. reply_of a (length kept.rows + 1) noted) (sym queued) ∙ ap (λ n. (Queued, Some (Arrive n noted))) (sym next)
 
     -- it waits as a new job
-    pub arrive_kept : (rows' : List Row) → rows' ≡ kept.rows ++ new_row shared ∷ [] → IsNode (record kept { rows = rows'; journal = journal' })
+    pub arrive_kept : (rows' : List JobRow) → rows' ≡ kept.rows ++ new_row shared ∷ [] → IsNode (record kept { rows = rows'; journal = journal' })
     arrive_kept rows' are =
         quiet kept node actor (ToArrive noted) Queued (Arrive job noted) tt told journal' more refl refl rows'
         (subst (λ rs. AreRowsOf (tables_of kept.app) (told_in kept.work) rs ((world_in kept).jobs ++ new_job noted.value ∷ [])) (sym are) (rows_more (tables_of kept.app) (told_in kept.work) kept.rows (world_in kept).jobs shared noted.value (same ∙ sym also) node.rows))

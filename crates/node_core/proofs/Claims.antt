@@ -7,7 +7,7 @@ use Rattle.std.specs.Option.{IsSomeAnd, is_some, option_and_then, option_map}
 use Rattle.std.specs.Prelude.{IfSome, ℤ}
 use Rattle.block_work.proofs.Places.{is_known}
 use Rattle.block_work.specs.Causes.{early_by}
-use Rattle.block_work.specs.Ids.{HasFirstPlaces, place_of}
+use Rattle.block_work.specs.Ids.{HasFirstPlaces, place_of_id}
 use Rattle.node_core.proofs.Journal.{facts, quiet, world_noted}
 use Rattle.node_core.proofs.Rowed.{eligible_of_rows, number_of_rows, row_of, rows_put, status_is}
 use Rattle.node_core.proofs.Settled.{height_is}
@@ -17,7 +17,7 @@ use Rattle.node_core.specs.Core.{IsHeld}
 use Rattle.node_core.specs.InHand.{InHand}
 use Rattle.node_core.specs.Kept.{AreRowsOf, IsNode, IsRowOf, IsWorkingOn, Kept, number_of_work, outcomes_of, shown_work, told_in, world_in}
 use Rattle.node_core.specs.Rows.{count_held, put_row, row_at, row_waits, shown_all, status_of}
-use Rattle.node_core.specs.declared.jobs.Row.{Row}
+use Rattle.node_core.specs.declared.jobs.JobRow.{JobRow}
 use Rattle.node_core.specs.declared.jobs.Stage.TheVariants as stage
 use Rattle.node_core.specs.declared.jobs.Stage.{Stage}
 use Rattle.node_core.specs.declared.working.Working.{Working}
@@ -27,7 +27,7 @@ use Rattle.node_model.specs.History.{ids_of, ids_told, time_at}
 use Rattle.node_model.specs.Journals.{world}
 use Rattle.node_model.specs.Steps.{Claimed, May, ToClaim, chosen, claims, due_number, early_cause, waiting_number}
 use Rattle.node_model.specs.World as model
-use Rattle.node_model.specs.World.{BlockInWork, Job, World, change_job, change_place, due, eligible, is_for, is_held, is_waiting, job_at, job_of, number_of}
+use Rattle.node_model.specs.World.{BlockInWork, Job, World, change_job, change_place, due, eligible, is_for, is_held, is_waiting, job_at, job_of, number_of_job}
 use Rattle.node_model.specs.declared.journal.Entry.{Entry}
 use Rattle.node_model.specs.declared.outcome.Outcome.{Outcome}
 use Rattle.node_model.specs.declared.journal.Event.TheVariants.{Claim}
@@ -76,12 +76,12 @@ look_for tx first (job ∷ jobs) = by (is_for tx job) refl (look_for tx (first +
 pub record Numbered (tx : Tx) (jobs : List Job) : Type 0 where
   pub number : ℕ
   pub job : Job
-  pub numbered : number_of tx jobs ≡ Some number
+  pub numbered : number_of_job tx jobs ≡ Some number
   pub is : job_of tx jobs ≡ Some job
   pub stands : job_at jobs number ≡ Some job
 
 abbrev pub HasNone : Tx → List Job → Type 0
-HasNone tx jobs = (number_of tx jobs ≡ None) × (job_of tx jobs ≡ None)
+HasNone tx jobs = (number_of_job tx jobs ≡ None) × (job_of tx jobs ≡ None)
 
 pub numbered : (tx : Tx) (jobs : List Job) → HasNone tx jobs ⊎ Numbered tx jobs
 numbered tx jobs = by (look_for tx 1 jobs)
@@ -116,7 +116,7 @@ module _ (kept : Kept) (node : IsNode kept) where
   waiting_is : (tx : Tx) → waiting_in tx kept.rows ≡ waiting_number tx (world_in kept).jobs (job_of tx (world_in kept).jobs)
   waiting_is tx = ap (if_waiting kept.rows) (number_of_rows (tables_of kept.app) (told_in kept.work) tx kept.rows (world_in kept).jobs node.rows) ∙ by (numbered tx (world_in kept).jobs)
     where
-      by : HasNone tx (world_in kept).jobs ⊎ Numbered tx (world_in kept).jobs → if_waiting kept.rows (number_of tx (world_in kept).jobs) ≡ waiting_number tx (world_in kept).jobs (job_of tx (world_in kept).jobs)
+      by : HasNone tx (world_in kept).jobs ⊎ Numbered tx (world_in kept).jobs → if_waiting kept.rows (number_of_job tx (world_in kept).jobs) ≡ waiting_number tx (world_in kept).jobs (job_of tx (world_in kept).jobs)
       by (inl none) = ap (if_waiting kept.rows) none.0 ∙ sym (ap (waiting_number tx (world_in kept).jobs) none.1)
       by (inr found) =
           ap (if_waiting kept.rows) found.numbered
@@ -125,7 +125,7 @@ module _ (kept : Kept) (node : IsNode kept) where
           ∙ sym (ap (waiting_number tx (world_in kept).jobs) found.is)))
 
   -- the cause that is known without a run
-  pub early_is : (working : Working) (tx : Tx) → kept.work ≡ Some working → early_by (is_some (place_of kept.ids tx.id)) kept.app working.done.number tx ≡ early_cause kept.app (world_in kept) (shown_work working) tx
+  pub early_is : (working : Working) (tx : Tx) → kept.work ≡ Some working → early_by (is_some (place_of_id kept.ids tx.id)) kept.app working.done.number tx ≡ early_cause kept.app (world_in kept) (shown_work working) tx
   early_is working tx here =
       let fits : IsWorkingOn (tables_of kept.app) working = subst (λ (w : Option Working). IfSome w (IsWorkingOn (tables_of kept.app))) here node.working in
       let first : HasFirstPlaces kept.ids (world_in kept).sealed working.done.number working.done.outcomes.items =
@@ -152,7 +152,7 @@ module _ (kept : Kept) (node : IsNode kept) where
     free : IsFree (world_in kept) job
     free = steps_are_allowed kept.app (world_in kept) (record { actor = actor; event = Claim job }) (facts kept node) (record { ask = ToClaim pick; may = may; told = ap (λ (o : Option ℕ). (claims o).1) is })
 
-    there : (row : Row) × (row_at kept.rows job ≡ Some row) × IsRowOf (tables_of kept.app) (told_in kept.work) row free.job
+    there : (row : JobRow) × (row_at kept.rows job ≡ Some row) × IsRowOf (tables_of kept.app) (told_in kept.work) row free.job
     there = row_of (tables_of kept.app) (told_in kept.work) kept.rows (world_in kept).jobs job free.job free.stands node.rows
 
     waits : is_waiting (status_of there.0.stage) ≡ true
@@ -162,7 +162,7 @@ module _ (kept : Kept) (node : IsNode kept) where
     claim_there = ap is_some there.1
 
     pub claim_waits : IsSomeAnd (row_at kept.rows job) (λ row. is_waiting (status_of row.stage) ≡ true)
-    claim_waits = subst (λ (o : Option Row). IsSomeAnd o (λ row. is_waiting (status_of row.stage) ≡ true)) (sym there.1) waits
+    claim_waits = subst (λ (o : Option JobRow). IsSomeAnd o (λ row. is_waiting (status_of row.stage) ≡ true)) (sym there.1) waits
 
     not_held : count_held (put_row kept.rows job (stage.Held actor)) ≡ count_held kept.rows + 1
     not_held = by there.0.stage waits (count_put kept.rows job (stage.Held actor) there.0 there.1)
@@ -175,11 +175,11 @@ module _ (kept : Kept) (node : IsNode kept) where
         by stage.Taken e count = absurd (false≢true e)
         by stage.Dropped e count = absurd (false≢true e)
 
-    pub claim_room : (rows' : List Row) (len room capacity : ℕ) → rows' ≡ put_row kept.rows job (stage.Held actor) → room + 2 + count_held kept.rows ≤ capacity → len ≡ room + 1 → len + count_held rows' ≤ capacity
+    pub claim_room : (rows' : List JobRow) (len room capacity : ℕ) → rows' ≡ put_row kept.rows job (stage.Held actor) → room + 2 + count_held kept.rows ≤ capacity → len ≡ room + 1 → len + count_held rows' ≤ capacity
     claim_room rows' len room capacity are fits longer = let counted = ap count_held are ∙ not_held in omega (arith, counted, fits, longer)
 
     module _ (journal' : List Entry) (more : journal' ≡ kept.journal ++ record { actor = actor; event = Claim job } ∷ []) where
-      pub claim_kept : (rows' : List Row) → rows' ≡ put_row kept.rows job (stage.Held actor) → IsNode (record kept { rows = rows'; journal = journal' })
+      pub claim_kept : (rows' : List JobRow) → rows' ≡ put_row kept.rows job (stage.Held actor) → IsNode (record kept { rows = rows'; journal = journal' })
       claim_kept rows' are =
           quiet kept node actor (ToClaim pick) (Claimed job) (Claim job) may (ap claims is) journal' more refl refl rows'
           (subst (λ rs. AreRowsOf (tables_of kept.app) (told_in kept.work) rs (change_job (claimed actor) (world_in kept).jobs job)) (sym are)
@@ -187,7 +187,7 @@ module _ (kept : Kept) (node : IsNode kept) where
 
       pub claim_held : (work : InHand) (told : MachineView) (tx : Tx) (time : ℤ) → work ≡ record { job = job; actor = actor; told = told; cut = false; gone = false }
           → told ≡ record { app = kept.app; tx = tx; time = time; fed = []; asks = None; ended = false }
-          → option_map (λ (row : Row). row.tx.value) (row_at kept.rows job) ≡ Some tx → time ≡ time_at tx.height (world_in kept).sealed → IsHeld (record { app = kept.app; journal = journal' }) work
+          → option_map (λ (row : JobRow). row.tx.value) (row_at kept.rows job) ≡ Some tx → time ≡ time_at tx.height (world_in kept).sealed → IsHeld (record { app = kept.app; journal = journal' }) work
       claim_held work told tx time work_is told_is shares at =
           subst (λ (w : InHand). IsHeld (record { app = kept.app; journal = journal' }) w) (sym work_is)
           (subst (λ (t : MachineView). IsHeld (record { app = kept.app; journal = journal' }) (record { job = job; actor = actor; told = t; cut = false; gone = false })) (sym told_is) (record {
@@ -205,4 +205,4 @@ module _ (kept : Kept) (node : IsNode kept) where
           after_it = world_noted kept node actor (ToClaim pick) (Claimed job) (Claim job) may (ap claims is) journal' more
 
           same : free.job.tx ≡ tx
-          same = sym there.2.tx ∙ same_Some there.0.tx.value tx (sym (ap (option_map (λ (row : Row). row.tx.value)) there.1) ∙ shares)
+          same = sym there.2.tx ∙ same_Some there.0.tx.value tx (sym (ap (option_map (λ (row : JobRow). row.tx.value)) there.1) ∙ shares)

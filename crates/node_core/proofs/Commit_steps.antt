@@ -25,7 +25,7 @@ use Rattle.node_core.specs.Kept.{AreRowsOf, IsNode, IsWorkingOn, Kept, number_of
 use Rattle.node_core.specs.Rows.{count_held, one_held, put_row}
 use Rattle.node_core.specs.declared.due.Due.TheVariants as stand
 use Rattle.node_core.specs.declared.due.Due.{Due}
-use Rattle.node_core.specs.declared.jobs.Row.{Row}
+use Rattle.node_core.specs.declared.jobs.JobRow.{JobRow}
 use Rattle.node_core.specs.declared.jobs.Stage.TheVariants as stage
 use Rattle.node_core.specs.declared.working.Working.{Working}
 use Rattle.node_model.specs.Decide.{by_run, decide_by, or_committed}
@@ -107,9 +107,9 @@ module _ (kept : Kept) (node : IsNode kept) (working : Working) (here : kept.wor
   }
 
   pub commit_same : (working' : Working) (ids' : IdIndex) → working'.block ≡ working.block → IsSameWork working.done working'.done → IsConsistent (tables_of kept.app) working'.done → SamePlaces kept.ids ids'
-      → (rows' : List Row) → rows' ≡ kept.rows → (journal' : List Entry) → journal' ≡ kept.journal → IsNode (record kept { ids = ids'; work = Some working'; rows = rows'; journal = journal' })
+      → (rows' : List JobRow) → rows' ≡ kept.rows → (journal' : List Entry) → journal' ≡ kept.journal → IsNode (record kept { ids = ids'; work = Some working'; rows = rows'; journal = journal' })
   commit_same working' ids' block same consistent places rows' same_rows journal' same_journal =
-      subst (λ (rows : List Row). IsNode (record kept { ids = ids'; work = Some working'; rows = rows; journal = journal' })) (sym same_rows)
+      subst (λ (rows : List JobRow). IsNode (record kept { ids = ids'; work = Some working'; rows = rows; journal = journal' })) (sym same_rows)
       (subst (λ (journal : List Entry). IsNode (record kept { ids = ids'; work = Some working'; journal = journal })) (sym same_journal) (same_node working' ids' block same consistent places))
 
   -- ---- the step
@@ -144,7 +144,7 @@ module _ (kept : Kept) (node : IsNode kept) (working : Working) (here : kept.wor
     after_it : world kept.app journal' ≡ after kept.app (world_in kept) (record { actor = actor; event = event.Commit pos })
     after_it = world_noted kept node actor ToCommit (Decided pos) (event.Commit pos) zero_actor told journal' more
 
-    module _ (tx : Tx) (working' : Working) (ids' : IdIndex) (rows' : List Row) (decided : IsDecided working working' kept.ids ids' tx (ran_of tx) (decided_so tx)) (consistent : IsConsistent (tables_of kept.app) working'.done) where
+    module _ (tx : Tx) (working' : Working) (ids' : IdIndex) (rows' : List JobRow) (decided : IsDecided working working' kept.ids ids' tx (ran_of tx) (decided_so tx)) (consistent : IsConsistent (tables_of kept.app) working'.done) where
       abbrev told_one : Told
       told_one = record { id = tx.id; outcome = decided_so tx }
 
@@ -189,12 +189,12 @@ module _ (kept : Kept) (node : IsNode kept) (working : Working) (here : kept.wor
         (rows_told (tables_of kept.app) (told_in kept.work) (early.tx.id ∷ []) kept.rows (world_in kept).jobs node.rows)
 
     -- by what is recorded of a job
-    pub by_job_kept : (number : ℕ) (found : IsByJob kept.app kept.ids working kept.rows number) (working' : Working) (ids' : IdIndex) (rows' : List Row)
+    pub by_job_kept : (number : ℕ) (found : IsByJob kept.app kept.ids working kept.rows number) (working' : Working) (ids' : IdIndex) (rows' : List JobRow)
         → IsDecided working working' kept.ids ids' found.tx found.recorded.ran (outcome_by (tables_of kept.app) kept.history working.done kept.rows (is_done kept node working number found))
         → IsConsistent (tables_of kept.app) working'.done → rows' ≡ put_row kept.rows number stage.Taken → IsNode (record kept { ids = ids'; work = Some working'; rows = rows'; journal = journal' })
     by_job_kept number found working' ids' rows' decided consistent rows_are =
         commit_kept found.tx working' ids' rows' so consistent
-        (subst (λ (rows : List Row). AreRowsOf (tables_of kept.app) (told_in kept.work ++ found.tx.id ∷ []) rows (world_in kept).jobs) (sym rows_are)
+        (subst (λ (rows : List JobRow). AreRowsOf (tables_of kept.app) (told_in kept.work ++ found.tx.id ∷ []) rows (world_in kept).jobs) (sym rows_are)
         (rows_take (tables_of kept.app) (told_in kept.work ++ found.tx.id ∷ []) kept.rows (world_in kept).jobs number job.0 job.1.stands (its_stage kept node working number found).0 known
         (rows_told (tables_of kept.app) (told_in kept.work) (found.tx.id ∷ []) kept.rows (world_in kept).jobs node.rows)))
       where

@@ -10,7 +10,7 @@ use Rattle.node_core.specs.Kept.{AreRowsOf, IsNode, IsStageOf, Kept, shown_work,
 use Rattle.node_core.specs.Rows.{put_row}
 use Rattle.node_core.specs.declared.due.Due.TheVariants as stand
 use Rattle.node_core.specs.declared.due.Due.{Due}
-use Rattle.node_core.specs.declared.jobs.Row.{Row}
+use Rattle.node_core.specs.declared.jobs.JobRow.{JobRow}
 use Rattle.node_core.specs.declared.jobs.Stage.TheVariants as stage
 use Rattle.node_core.specs.declared.jobs.Stage.{Stage}
 use Rattle.node_core.specs.declared.working.Working.{Working}
@@ -18,7 +18,7 @@ use Rattle.node_model.specs.Decide.{bad_call, future}
 use Rattle.node_model.specs.History.{ids_of, ids_told}
 use Rattle.node_model.specs.Steps.{AllDecided, Decided, NoBlock, NotReady, Reply, ToCommit, commits, commits_due, early_cause, is_done_job, is_ready, reply}
 use Rattle.node_model.specs.World as model
-use Rattle.node_model.specs.World.{BlockInWork, Job, World, change_job, change_place, decided, due, holder_of, is_done, is_for, is_live, job_at, job_of, number_of, same_tx}
+use Rattle.node_model.specs.World.{BlockInWork, Job, World, change_job, change_place, decided, due, holder_of, is_done, is_for, is_live, job_at, job_of, number_of_job, same_tx}
 use Rattle.node_model.specs.declared.journal.Event.TheVariants as event
 use Rattle.node_model.specs.declared.outcome.Outcome.{Outcome}
 use Rattle.node_model.specs.declared.outcome.Outcome.TheVariants as outcome
@@ -52,7 +52,7 @@ stage_more tables told more (stage.Done recorded) job is = is
 stage_more tables told more stage.Taken job is = (is.0, any_more job.tx.id told more is.1)
 stage_more tables told more stage.Dropped job is = is
 
-pub rows_told : (tables : List TableDef) (told more : List (List ℕ)) (rows : List Row) (jobs : List Job) → AreRowsOf tables told rows jobs → AreRowsOf tables (told ++ more) rows jobs
+pub rows_told : (tables : List TableDef) (told more : List (List ℕ)) (rows : List JobRow) (jobs : List Job) → AreRowsOf tables told rows jobs → AreRowsOf tables (told ++ more) rows jobs
 rows_told tables told more [] [] are = tt
 rows_told tables told more [] (job ∷ jobs) are = absurd are
 rows_told tables told more (row ∷ rows) [] are = absurd are
@@ -70,7 +70,7 @@ same_jobs jobs zero = refl
 same_jobs jobs (suc place) = same_place jobs place
 
 -- the record of a done job is taken, once its transaction is decided
-pub rows_take : (tables : List TableDef) (told : List (List ℕ)) (rows : List Row) (jobs : List Job) (number : ℕ) (job : Job) → job_at jobs number ≡ Some job → job.status ≡ model.Done
+pub rows_take : (tables : List TableDef) (told : List (List ℕ)) (rows : List JobRow) (jobs : List Job) (number : ℕ) (job : Job) → job_at jobs number ≡ Some job → job.status ≡ model.Done
     → list_any (bytes_eq job.tx.id) told ≡ true → AreRowsOf tables told rows jobs → AreRowsOf tables told (put_row rows number stage.Taken) jobs
 rows_take tables told rows jobs number job here done known are =
     subst (AreRowsOf tables told (put_row rows number stage.Taken)) (same_jobs jobs number)
@@ -110,9 +110,9 @@ module _ (kept : Kept) (node : IsNode kept) (working : Working) (here : kept.wor
       answer found = cond {A = Reply} (is_done_job found) (Decided pos, Some (event.Commit pos)) (NotReady pos (option_and_then (λ (job : Job). holder_of job.status) found), None)
 
       stage_is : (number' : ℕ) (job : Job) → job_of tx (world_in kept).jobs ≡ Some job → (now : Stage) → IsStageOf (tables_of kept.app) (told_in kept.work) now job → answer (Some job) ≡ reply_of (by_stage number' now) pos number
-      stage_is number' job found stage.Waiting stays = ap (λ (s : model.Status). cond {A = Reply} (is_done s) (Decided pos, Some (event.Commit pos)) (NotReady pos (holder_of s), None)) stays
-      stage_is number' job found (stage.Held actor) stays = ap (λ (s : model.Status). cond {A = Reply} (is_done s) (Decided pos, Some (event.Commit pos)) (NotReady pos (holder_of s), None)) stays
-      stage_is number' job found (stage.Done recorded) stays = ap (λ (s : model.Status). cond {A = Reply} (is_done s) (Decided pos, Some (event.Commit pos)) (NotReady pos (holder_of s), None)) stays.0
+      stage_is number' job found stage.Waiting stays = ap (λ (s : model.JobStatus). cond {A = Reply} (is_done s) (Decided pos, Some (event.Commit pos)) (NotReady pos (holder_of s), None)) stays
+      stage_is number' job found (stage.Held actor) stays = ap (λ (s : model.JobStatus). cond {A = Reply} (is_done s) (Decided pos, Some (event.Commit pos)) (NotReady pos (holder_of s), None)) stays
+      stage_is number' job found (stage.Done recorded) stays = ap (λ (s : model.JobStatus). cond {A = Reply} (is_done s) (Decided pos, Some (event.Commit pos)) (NotReady pos (holder_of s), None)) stays.0
       stage_is number' job found stage.Taken stays =
           let same : job.tx ≡ tx = same_tx-exact job.tx tx (and_parts (is_live job.status) (same_tx job.tx tx) (job_of-is tx (world_in kept).jobs job found)).1 in
           let told : list_any (bytes_eq tx.id) (ids_told working.done.outcomes.items) ≡ true =
@@ -122,13 +122,13 @@ module _ (kept : Kept) (node : IsNode kept) (working : Working) (here : kept.wor
           let live : is_live job.status ≡ true = (and_parts (is_live job.status) (same_tx job.tx tx) (job_of-is tx (world_in kept).jobs job found)).0 in
           absurd (false≢true (sym (ap is_live stays) ∙ live))
 
-      by : HasNone tx (world_in kept).jobs ⊎ Numbered tx (world_in kept).jobs → answer (job_of tx (world_in kept).jobs) ≡ reply_of (by_number kept.rows (number_of tx (world_in kept).jobs)) pos number
+      by : HasNone tx (world_in kept).jobs ⊎ Numbered tx (world_in kept).jobs → answer (job_of tx (world_in kept).jobs) ≡ reply_of (by_number kept.rows (number_of_job tx (world_in kept).jobs)) pos number
       by (inl none) = ap answer none.1 ∙ sym (ap (λ (n : Option ℕ). reply_of (by_number kept.rows n) pos number) none.0)
       by (inr found) =
           let there = row_of (tables_of kept.app) (told_in kept.work) kept.rows (world_in kept).jobs found.number found.job found.stands node.rows in
           ap answer found.is
           ∙ (stage_is found.number found.job found.is there.0.stage there.2.stage
-          ∙ (sym (ap (λ (r : Option Row). reply_of (by_row found.number r) pos number) there.1)
+          ∙ (sym (ap (λ (r : Option JobRow). reply_of (by_row found.number r) pos number) there.1)
           ∙ sym (ap (λ (n : Option ℕ). reply_of (by_number kept.rows n) pos number) found.numbered)))
 
   tx_is : (found : Option Tx) (pos : ℕ) → pos ≡ decided (shown_work working) + 1

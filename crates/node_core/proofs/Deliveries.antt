@@ -18,7 +18,7 @@ use Rattle.node_core.specs.Core.{Delivers}
 use Rattle.node_core.specs.Fresh.{fresh_in, needs_none}
 use Rattle.node_core.specs.Kept.{AreRowsOf, IsNode, IsWorkingOn, Kept, number_of_work, outcomes_of, shown_work, told_in, world_in}
 use Rattle.node_core.specs.Rows.{new_row, shown_all}
-use Rattle.node_core.specs.declared.jobs.Row.{Row}
+use Rattle.node_core.specs.declared.jobs.JobRow.{JobRow}
 use Rattle.node_core.specs.declared.working.Working.{Working}
 use Rattle.node_model.specs.Decide.{early}
 use Rattle.node_model.specs.Events.{after, needs_no_job, with_jobs}
@@ -26,7 +26,7 @@ use Rattle.node_model.specs.Fold.{Work, no_work}
 use Rattle.node_model.specs.History.{ids_of, ids_told}
 use Rattle.node_model.specs.Journals.{world}
 use Rattle.node_model.specs.Steps.{InWork, NotNext, Reply, Shared, Taken, ToDeliver, delivers, reply}
-use Rattle.node_model.specs.World.{Job, World, new_job, number_of}
+use Rattle.node_model.specs.World.{Job, World, new_job, number_of_job}
 use Rattle.node_model.specs.declared.journal.Entry.{Entry}
 use Rattle.node_model.specs.declared.journal.Event.TheVariants.{Deliver}
 use Rattle.node_model.specs.declared.result.Told.{Told}
@@ -41,7 +41,7 @@ new_rows : (tables : List TableDef) (told : List (List ℕ)) (shared : List (Sha
 new_rows tables told [] = tt
 new_rows tables told (one ∷ shared) = (record { tx = refl; stage = refl }, new_rows tables told shared)
 
-rows_add : (tables : List TableDef) (told : List (List ℕ)) (shared : List (Shared Tx)) (rows : List Row) (jobs : List Job) → AreRowsOf tables told rows jobs
+rows_add : (tables : List TableDef) (told : List (List ℕ)) (shared : List (Shared Tx)) (rows : List JobRow) (jobs : List Job) → AreRowsOf tables told rows jobs
     → AreRowsOf tables told (rows ++ map new_row shared) (jobs ++ map new_job (map (λ (one : Shared Tx). one.value) shared))
 rows_add tables told shared [] [] are = new_rows tables told shared
 rows_add tables told shared [] (job ∷ jobs) are = absurd are
@@ -81,9 +81,9 @@ module _ (kept : Kept) (node : IsNode kept) (actor : ℕ) where
     needs_is : (number : ℕ) (before : List Tx) (tx : Tx) → needs_none kept.app kept.ids kept.rows number before tx
         ≡ needs_no_job kept.app (ids_of (world_in kept).sealed ++ map (λ (t : Tx). t.id) before) number (world_in kept).jobs tx
     needs_is number before tx =
-        ap (λ b. is_some (early_by (b || list_any (bytes_eq tx.id) (map (λ (t : Tx). t.id) before)) kept.app number tx) || is_some (number_of tx (shown_all kept.rows)))
+        ap (λ b. is_some (early_by (b || list_any (bytes_eq tx.id) (map (λ (t : Tx). t.id) before)) kept.app number tx) || is_some (number_of_job tx (shown_all kept.rows)))
         (is_known kept.ids (world_in kept).sealed 0 [] tx.id first_places ∙ ap (list_any (bytes_eq tx.id)) (append-nil (ids_of (world_in kept).sealed)))
-        ∙ ap (λ b. is_some (early_by b kept.app number tx) || is_some (number_of tx (shown_all kept.rows))) (sym (list_any-append (bytes_eq tx.id) (ids_of (world_in kept).sealed) (map (λ (t : Tx). t.id) before)))
+        ∙ ap (λ b. is_some (early_by b kept.app number tx) || is_some (number_of_job tx (shown_all kept.rows))) (sym (list_any-append (bytes_eq tx.id) (ids_of (world_in kept).sealed) (map (λ (t : Tx). t.id) before)))
         ∙ ap (λ b. is_some (early kept.app (ids_of (world_in kept).sealed ++ map (λ (t : Tx). t.id) before) number tx) || b) (has_job (tables_of kept.app) (told_in kept.work) tx kept.rows (world_in kept).jobs node.rows)
 
     module _ (zero_actor : actor ≡ 0) (shared noted : Shared Block) (same : shared.value ≡ noted.value) (next : noted.value.number ≡ length kept.results + 1) (journal' : List Entry)
@@ -106,7 +106,7 @@ module _ (kept : Kept) (node : IsNode kept) (actor : ℕ) where
           ∙ ap (λ known. with_jobs kept.app known noted.value.number noted.value.txs ((world_in kept).jobs ++ [])) (append-nil (ids_of (world_in kept).sealed))
           ∙ ap (with_jobs kept.app (ids_of (world_in kept).sealed) noted.value.number noted.value.txs) (append-nil (world_in kept).jobs)
 
-      pub deliver_kept : (working : Working) (fresh : List (Shared Tx)) (rows' : List Row) → working.block.value ≡ noted.value → work_of working.done ≡ no_work → IsWorkingOn (tables_of kept.app) working
+      pub deliver_kept : (working : Working) (fresh : List (Shared Tx)) (rows' : List JobRow) → working.block.value ≡ noted.value → work_of working.done ≡ no_work → IsWorkingOn (tables_of kept.app) working
           → map (λ (one : Shared Tx). one.value) fresh ≡ fresh_in kept.app kept.ids kept.rows noted.value.number noted.value.txs 0 noted.value.txs → rows' ≡ kept.rows ++ map new_row fresh
           → IsNode (record kept { work = Some working; rows = rows'; journal = journal' })
       deliver_kept working fresh rows' block_is begun fits are rows_are = record {
@@ -119,7 +119,7 @@ module _ (kept : Kept) (node : IsNode kept) (actor : ℕ) where
         working = fits;
         rows = subst (λ (w : World). AreRowsOf (tables_of kept.app) (ids_told working.done.outcomes.items) rows' w.jobs) (sym after_it)
             (subst (λ (told : List Told). AreRowsOf (tables_of kept.app) (ids_told told) rows' (with_jobs kept.app (ids_of (world_in kept).sealed) noted.value.number noted.value.txs (world_in kept).jobs)) (sym none_told)
-            (subst (λ (rs : List Row). AreRowsOf (tables_of kept.app) [] rs (with_jobs kept.app (ids_of (world_in kept).sealed) noted.value.number noted.value.txs (world_in kept).jobs)) (sym rows_are)
+            (subst (λ (rs : List JobRow). AreRowsOf (tables_of kept.app) [] rs (with_jobs kept.app (ids_of (world_in kept).sealed) noted.value.number noted.value.txs (world_in kept).jobs)) (sym rows_are)
             (subst (λ (jobs : List Job). AreRowsOf (tables_of kept.app) [] (kept.rows ++ map new_row fresh) jobs) (jobs_are fresh are)
             (rows_add (tables_of kept.app) [] fresh kept.rows (world_in kept).jobs
             (subst (λ (w : Option Working). AreRowsOf (tables_of kept.app) (told_in w) kept.rows (world_in kept).jobs) none node.rows)))));

@@ -4,7 +4,7 @@ use Rattle.std.proofs.lemmas.Bool.{and_parts, false≢true}
 use Rattle.std.proofs.lemmas.Option.{none-some, same_Some}
 use Rattle.std.specs.Option.{is_some}
 use Rattle.block_work.specs.Causes.{early_by}
-use Rattle.block_work.specs.Ids.{place_of}
+use Rattle.block_work.specs.Ids.{place_of_id}
 use Rattle.block_work.specs.declared.ids.IdIndex.{IdIndex}
 use Rattle.node_core.proofs.Claims.{HasNone, Numbered, numbered}
 use Rattle.node_core.proofs.Rowed.{number_of_rows, row_of}
@@ -15,13 +15,13 @@ use Rattle.node_core.specs.Rows.{row_at, shown_all}
 use Rattle.node_core.specs.declared.due.Due.TheVariants as stand
 use Rattle.node_core.specs.declared.due.Due.{Due}
 use Rattle.node_core.specs.declared.jobs.Record.{Record}
-use Rattle.node_core.specs.declared.jobs.Row.{Row}
+use Rattle.node_core.specs.declared.jobs.JobRow.{JobRow}
 use Rattle.node_core.specs.declared.jobs.Stage.TheVariants as stage
 use Rattle.node_core.specs.declared.jobs.Stage.{Stage}
 use Rattle.node_core.specs.declared.working.Working.{Working}
 use Rattle.node_model.specs.Events.{recorded_ran}
 use Rattle.node_model.specs.World as model
-use Rattle.node_model.specs.World.{Job, due, is_live, job_at, job_of, number_of, same_tx}
+use Rattle.node_model.specs.World.{Job, due, is_live, job_at, job_of, number_of_job, same_tx}
 use Rattle.node_model.specs.declared.outcome.Outcome.{Outcome}
 use Rattle.proc_syntax.specs.Declaring.{tables_of}
 use Rattle.proc_syntax.specs.declared.call.Tx.{Tx}
@@ -34,15 +34,15 @@ use Rattle.schedule_laws.proofs.Lists.{job_of-is, same_tx-exact}
 pub record IsEarly (app : App) (ids : IdIndex) (working : Working) (cause : Outcome) : Type 0 where
   pub tx : Tx
   pub next : due (shown_work working) ≡ Some tx
-  pub early : early_by (is_some (place_of ids tx.id)) app working.done.number tx ≡ Some cause
+  pub early : early_by (is_some (place_of_id ids tx.id)) app working.done.number tx ≡ Some cause
 
 -- it is decided by the job of a number
-pub record IsByJob (app : App) (ids : IdIndex) (working : Working) (rows : List Row) (number : ℕ) : Type 0 where
+pub record IsByJob (app : App) (ids : IdIndex) (working : Working) (rows : List JobRow) (number : ℕ) : Type 0 where
   pub tx : Tx
   pub next : due (shown_work working) ≡ Some tx
-  pub late : early_by (is_some (place_of ids tx.id)) app working.done.number tx ≡ None
-  pub numbered : number_of tx (shown_all rows) ≡ Some number
-  pub row : Row
+  pub late : early_by (is_some (place_of_id ids tx.id)) app working.done.number tx ≡ None
+  pub numbered : number_of_job tx (shown_all rows) ≡ Some number
+  pub row : JobRow
   pub stands : row_at rows number ≡ Some row
   pub recorded : Record
   pub done : row.stage ≡ stage.Done recorded
@@ -91,60 +91,60 @@ not_early_stage at (stage.Done recorded) = refl
 not_early_stage at stage.Taken = refl
 not_early_stage at stage.Dropped = refl
 
-not_early_row : (at : ℕ) (found : Option Row) → is_early (by_row at found) ≡ false
+not_early_row : (at : ℕ) (found : Option JobRow) → is_early (by_row at found) ≡ false
 not_early_row at None = refl
 not_early_row at (Some row) = not_early_stage at row.stage
 
-not_early : (rows : List Row) (found : Option ℕ) → is_early (by_number rows found) ≡ false
+not_early : (rows : List JobRow) (found : Option ℕ) → is_early (by_number rows found) ≡ false
 not_early rows None = refl
 not_early rows (Some at) = not_early_row at (row_at rows at)
 
 -- a row is that of a done job
-abbrev IsDoneRow : List Row → ℕ → Type 0
-IsDoneRow rows number = (row : Row) × (row_at rows number ≡ Some row) × ((recorded : Record) × (row.stage ≡ stage.Done recorded))
+abbrev IsDoneRow : List JobRow → ℕ → Type 0
+IsDoneRow rows number = (row : JobRow) × (row_at rows number ≡ Some row) × ((recorded : Record) × (row.stage ≡ stage.Done recorded))
 
-row_done : (rows : List Row) (number at : ℕ) (found : Option Row) → row_at rows at ≡ found → by_row at found ≡ stand.Done number → IsDoneRow rows number × (at ≡ number)
+row_done : (rows : List JobRow) (number at : ℕ) (found : Option JobRow) → row_at rows at ≡ found → by_row at found ≡ stand.Done number → IsDoneRow rows number × (at ≡ number)
 row_done rows number at None here is = absurd (false≢true (ap is_by_job is))
 row_done rows number at (Some row) here is =
     let done : IsDoneStage number at row.stage = stage_of number at row.stage is in
     ((row, ap (row_at rows) (sym done.2) ∙ here, (done.0, done.1)), done.2)
 
-number_done : (rows : List Row) (number : ℕ) (found : Option ℕ) → by_number rows found ≡ stand.Done number → IsDoneRow rows number × (found ≡ Some number)
+number_done : (rows : List JobRow) (number : ℕ) (found : Option ℕ) → by_number rows found ≡ stand.Done number → IsDoneRow rows number × (found ≡ Some number)
 number_done rows number None is = absurd (false≢true (ap is_by_job is))
 number_done rows number (Some at) is = let row = row_done rows number at (row_at rows at) refl is in (row.0, ap (λ n. Some n) row.1)
 
 -- ---- the two kinds
 
-pub early_of : (app : App) (ids : IdIndex) (working : Working) (rows : List Row) (cause : Outcome) → due_by app ids working rows ≡ stand.Early cause → IsEarly app ids working cause
+pub early_of : (app : App) (ids : IdIndex) (working : Working) (rows : List JobRow) (cause : Outcome) → due_by app ids working rows ≡ stand.Early cause → IsEarly app ids working cause
 early_of app ids working rows cause is = by (due (shown_work working)) refl is
   where
-    at_tx : (tx : Tx) → due (shown_work working) ≡ Some tx → (found : Option Outcome) → early_by (is_some (place_of ids tx.id)) app working.done.number tx ≡ found → or_job found (by_job tx rows) ≡ stand.Early cause
+    at_tx : (tx : Tx) → due (shown_work working) ≡ Some tx → (found : Option Outcome) → early_by (is_some (place_of_id ids tx.id)) app working.done.number tx ≡ found → or_job found (by_job tx rows) ≡ stand.Early cause
         → IsEarly app ids working cause
-    at_tx tx next None early is = absurd (false≢true (sym (not_early rows (number_of tx (shown_all rows))) ∙ ap is_early is))
+    at_tx tx next None early is = absurd (false≢true (sym (not_early rows (number_of_job tx (shown_all rows))) ∙ ap is_early is))
     at_tx tx next (Some found) early is = record { tx = tx; next = next; early = early ∙ ap (λ c. Some c) (ap (cause_in cause) is) }
 
     by : (found : Option Tx) → due (shown_work working) ≡ found → by_tx app ids working.done.number rows found ≡ stand.Early cause → IsEarly app ids working cause
     by None next is = absurd (false≢true (ap is_early is))
-    by (Some tx) next is = at_tx tx next (early_by (is_some (place_of ids tx.id)) app working.done.number tx) refl is
+    by (Some tx) next is = at_tx tx next (early_by (is_some (place_of_id ids tx.id)) app working.done.number tx) refl is
 
-pub by_job_of : (app : App) (ids : IdIndex) (working : Working) (rows : List Row) (number : ℕ) → due_by app ids working rows ≡ stand.Done number → IsByJob app ids working rows number
+pub by_job_of : (app : App) (ids : IdIndex) (working : Working) (rows : List JobRow) (number : ℕ) → due_by app ids working rows ≡ stand.Done number → IsByJob app ids working rows number
 by_job_of app ids working rows number is = by (due (shown_work working)) refl is
   where
-    at_tx : (tx : Tx) → due (shown_work working) ≡ Some tx → (found : Option Outcome) → early_by (is_some (place_of ids tx.id)) app working.done.number tx ≡ found → or_job found (by_job tx rows) ≡ stand.Done number
+    at_tx : (tx : Tx) → due (shown_work working) ≡ Some tx → (found : Option Outcome) → early_by (is_some (place_of_id ids tx.id)) app working.done.number tx ≡ found → or_job found (by_job tx rows) ≡ stand.Done number
         → IsByJob app ids working rows number
     at_tx tx next None late is =
-        let found = number_done rows number (number_of tx (shown_all rows)) is in
+        let found = number_done rows number (number_of_job tx (shown_all rows)) is in
         record { tx = tx; next = next; late = late; numbered = found.1; row = found.0.0; stands = found.0.1; recorded = found.0.2.0; done = found.0.2.1 }
     at_tx tx next (Some cause) late is = absurd (false≢true (ap is_by_job is))
 
     by : (found : Option Tx) → due (shown_work working) ≡ found → by_tx app ids working.done.number rows found ≡ stand.Done number → IsByJob app ids working rows number
     by None next is = absurd (false≢true (ap is_by_job is))
-    by (Some tx) next is = at_tx tx next (early_by (is_some (place_of ids tx.id)) app working.done.number tx) refl is
+    by (Some tx) next is = at_tx tx next (early_by (is_some (place_of_id ids tx.id)) app working.done.number tx) refl is
 
 -- ---- the job in the definitions
 
 -- a job is that of a transaction and of a row, by its number
-pub record IsJobOf (kept : Kept) (tx : Tx) (row : Row) (number : ℕ) (job : Job) : Type 0 where
+pub record IsJobOf (kept : Kept) (tx : Tx) (row : JobRow) (number : ℕ) (job : Job) : Type 0 where
   pub is : job_of tx (world_in kept).jobs ≡ Some job
   pub stands : job_at (world_in kept).jobs number ≡ Some job
   pub same : job.tx ≡ tx
@@ -154,7 +154,7 @@ module _ (kept : Kept) (node : IsNode kept) (working : Working) (number : ℕ) (
   pub its_job : (job : Job) × IsJobOf kept found.tx found.row number job
   its_job = by (numbered found.tx (world_in kept).jobs)
     where
-      counted : number_of found.tx (world_in kept).jobs ≡ Some number
+      counted : number_of_job found.tx (world_in kept).jobs ≡ Some number
       counted = sym (number_of_rows (tables_of kept.app) (told_in kept.work) found.tx kept.rows (world_in kept).jobs node.rows) ∙ found.numbered
 
       at : (job : Job) → job_of found.tx (world_in kept).jobs ≡ Some job → job_at (world_in kept).jobs number ≡ Some job → (job : Job) × IsJobOf kept found.tx found.row number job
@@ -165,7 +165,7 @@ module _ (kept : Kept) (node : IsNode kept) (working : Working) (number : ℕ) (
               is = is;
               stands = stands;
               same = same_tx-exact job.tx found.tx (and_parts (is_live job.status) (same_tx job.tx found.tx) (job_of-is found.tx (world_in kept).jobs job is)).1;
-              rowed = subst (λ (row : Row). IsRowOf (tables_of kept.app) (told_in kept.work) row job) (same_Some there.0 found.row (sym there.1 ∙ found.stands)) there.2;
+              rowed = subst (λ (row : JobRow). IsRowOf (tables_of kept.app) (told_in kept.work) row job) (same_Some there.0 found.row (sym there.1 ∙ found.stands)) there.2;
             },
           )
 

@@ -12,7 +12,7 @@ use Rattle.node_core.specs.InHand.{AreAllReads, InHand, IsReady, IsRecordOf, job
 use Rattle.node_core.specs.Kept.{AreRowsOf, IsNode, IsStageOf, Kept, record_of, told_in, world_in}
 use Rattle.node_core.specs.Rows.{put_row, status_of}
 use Rattle.node_core.specs.declared.jobs.Record.{Record}
-use Rattle.node_core.specs.declared.jobs.Row.{Row}
+use Rattle.node_core.specs.declared.jobs.JobRow.{JobRow}
 use Rattle.node_model.specs.Decide.{run_at}
 use Rattle.block_work.specs.Causes.{RunFits}
 use Rattle.node_model.specs.Events.{dropped, ended, finished, next_read, released, settled_in}
@@ -51,7 +51,7 @@ module _ (kept : Kept) (node : IsNode kept) (work : InHand) (held : IsHeld (core
       by false = refl
 
   module _ (noted : journal' ≡ kept.journal ++ record { actor = work.actor; event = Release work.job } ∷ []) where
-    pub release_kept : (rows' : List Row) → rows' ≡ put_row kept.rows work.job (stage_given_back settled) → IsNode (record kept { rows = rows'; journal = journal' })
+    pub release_kept : (rows' : List JobRow) → rows' ≡ put_row kept.rows work.job (stage_given_back settled) → IsNode (record kept { rows = rows'; journal = journal' })
     release_kept rows' are =
         quiet kept node work.actor (ToRelease work.job) Released (Release work.job) (job_in work, held.holds) refl journal' noted refl refl rows'
         (subst (λ rs. AreRowsOf (tables_of kept.app) (told_in kept.work) rs (change_job (released (world_in kept).sealed) (world_in kept).jobs work.job)) (sym are)
@@ -127,7 +127,7 @@ module _ (kept : Kept) (node : IsNode kept) (work : InHand) (held : IsHeld (core
         by false = refl
 
     module _ (noted : journal' ≡ kept.journal ++ record { actor = work.actor; event = Finish work.job } ∷ []) where
-      pub finish_kept : (rows' : List Row) → rows' ≡ put_row kept.rows work.job (stage_at_end settled recorded) → IsNode (record kept { rows = rows'; journal = journal' })
+      pub finish_kept : (rows' : List JobRow) → rows' ≡ put_row kept.rows work.job (stage_at_end settled recorded) → IsNode (record kept { rows = rows'; journal = journal' })
       finish_kept rows' are =
           quiet kept node work.actor (ToFinish work.job) (finished_as (finished_of settled)) (Finish work.job) may told journal' noted refl refl rows'
           (subst (λ rs. AreRowsOf (tables_of kept.app) (told_in kept.work) rs (change_job (finished kept.app (world_in kept).sealed) (world_in kept).jobs work.job)) (sym are)

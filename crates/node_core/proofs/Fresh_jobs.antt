@@ -9,7 +9,7 @@ use Rattle.std.specs.Option.{is_some}
 use Rattle.std.specs.Str.{bytes_eq}
 use Rattle.block_work.specs.declared.ids.IdIndex.{IdIndex}
 use Rattle.node_core.specs.Fresh.{fresh_in, needs_none}
-use Rattle.node_core.specs.declared.jobs.Row.{Row}
+use Rattle.node_core.specs.declared.jobs.JobRow.{JobRow}
 use Rattle.node_model.specs.Decide.{early}
 use Rattle.node_model.specs.Events.{needs_no_job, with_jobs}
 use Rattle.node_model.specs.World.{Job, is_for, job_of, new_job}
@@ -114,7 +114,7 @@ module _ (app : App) (ids : List (List ℕ)) (number : ℕ) (jobs : List Job) wh
           ap (with_jobs app (ids ++ ids_in (before ++ tx ∷ [])) number rest) more_is ∙ adds ∙ ap (λ (ms : List Tx). jobs ++ map new_job ms) (append_assoc made (tx ∷ []) (fresh_of (before ++ tx ∷ []) rest))
 
   -- by what a node keeps
-  pub fresh_is : (index : IdIndex) (rows : List Row) → ((before : List Tx) (tx : Tx) → needs_none app index rows number before tx ≡ needs_no_job app (ids ++ ids_in before) number jobs tx)
+  pub fresh_is : (index : IdIndex) (rows : List JobRow) → ((before : List Tx) (tx : Tx) → needs_none app index rows number before tx ≡ needs_no_job app (ids ++ ids_in before) number jobs tx)
       → (all before rest : List Tx) → all ≡ before ++ rest → fresh_in app index rows number all (length before) rest ≡ fresh_of before rest
   fresh_is index rows same all before [] is = refl
   fresh_is index rows same all before (tx ∷ rest) is =

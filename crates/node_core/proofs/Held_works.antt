@@ -13,7 +13,7 @@ use Rattle.node_core.specs.Core.{IsHeld}
 use Rattle.node_core.specs.InHand.{InHand, IsNextRead, job_in, run_on, so_far}
 use Rattle.node_core.specs.Kept.{IsNode, IsRowOf, Kept, told_in, world_in}
 use Rattle.node_core.specs.Rows.{count_held, one_held, put_row, row_at, status_of}
-use Rattle.node_core.specs.declared.jobs.Row.{Row}
+use Rattle.node_core.specs.declared.jobs.JobRow.{JobRow}
 use Rattle.node_core.specs.declared.jobs.Stage.{Stage}
 use Rattle.node_model.specs.Decide.{run_at}
 use Rattle.node_model.specs.Events.{next_read}
@@ -40,7 +40,7 @@ module _ (kept : Kept) (node : IsNode kept) where
   history_fits = store_fits kept.app kept.tables kept.history kept.results node.sound
 
   module _ (work : InHand) (held : IsHeld (core_of kept) work) where
-    there : (row : Row) × (row_at kept.rows work.job ≡ Some row) × IsRowOf (tables_of kept.app) (told_in kept.work) row (job_in work)
+    there : (row : JobRow) × (row_at kept.rows work.job ≡ Some row) × IsRowOf (tables_of kept.app) (told_in kept.work) row (job_in work)
     there = row_of (tables_of kept.app) (told_in kept.work) kept.rows (world_in kept).jobs work.job (job_in work) held.holds.stands node.rows
 
     row_held : is_held (status_of there.0.stage) ≡ true
@@ -48,22 +48,22 @@ module _ (kept : Kept) (node : IsNode kept) where
 
     -- the table has its job as a held one
     pub held_there : IsSomeAnd (row_at kept.rows work.job) (λ row. is_held (status_of row.stage) ≡ true)
-    held_there = subst (λ (found : Option Row). IsSomeAnd found (λ row. is_held (status_of row.stage) ≡ true)) (sym there.1) row_held
+    held_there = subst (λ (found : Option JobRow). IsSomeAnd found (λ row. is_held (status_of row.stage) ≡ true)) (sym there.1) row_held
 
     -- so there is room for one entry more
     pub has_spare : (len capacity : ℕ) → len + count_held kept.rows ≤ capacity → len < capacity
     has_spare len capacity room =
         let one : one_held there.0.stage ≡ 1 = ap (λ b. cond b 1 0) row_held in
-        let change = change_of kept.rows work.job there.0.stage there.0.stage (ap (option_map (λ (row : Row). row.stage)) there.1) in
+        let change = change_of kept.rows work.job there.0.stage there.0.stage (ap (option_map (λ (row : JobRow). row.stage)) there.1) in
         let least = change.room in omega (arith, one, least, room)
 
     -- and for all others, when it is held no more
-    pub room_after : (now : Stage) → is_held (status_of now) ≡ false → (rows' : List Row) (len len' capacity capacity' : ℕ) → rows' ≡ put_row kept.rows work.job now → len + count_held kept.rows ≤ capacity → len' ≡ len + 1 → capacity' ≡ capacity
+    pub room_after : (now : Stage) → is_held (status_of now) ≡ false → (rows' : List JobRow) (len len' capacity capacity' : ℕ) → rows' ≡ put_row kept.rows work.job now → len + count_held kept.rows ≤ capacity → len' ≡ len + 1 → capacity' ≡ capacity
         → len' + count_held rows' ≤ capacity'
     room_after now free rows' len len' capacity capacity' are room longer same =
         let one : one_held there.0.stage ≡ 1 = ap (λ b. cond b 1 0) row_held in
         let none : one_held now ≡ 0 = ap (λ b. cond b 1 0) free in
-        let change = change_of kept.rows work.job there.0.stage now (ap (option_map (λ (row : Row). row.stage)) there.1) in
+        let change = change_of kept.rows work.job there.0.stage now (ap (option_map (λ (row : JobRow). row.stage)) there.1) in
         let count = change.count in
         let counted : count_held rows' ≡ count_held (put_row kept.rows work.job now) = ap count_held are in
         omega (arith, one, none, count, counted, room, longer, same)

@@ -4,7 +4,7 @@ use Rattle.block_work.specs.Chain.{HoldsChain}
 use Rattle.block_work.specs.Ids.{HasFirstPlaces}
 use Rattle.node_core.specs.Core.{Core, Steps, entries_for}
 use Rattle.node_core.specs.Kept.{AreRowsOf, IsNode, Kept, number_of_work, outcomes_of, told_in, world_in}
-use Rattle.node_core.specs.declared.jobs.Row.{Row}
+use Rattle.node_core.specs.declared.jobs.JobRow.{JobRow}
 use Rattle.node_model.specs.Events.{after}
 use Rattle.node_model.specs.Journals.{IsLegal, world}
 use Rattle.node_model.specs.Steps.{Answer, Ask, May, Reply, reply}
@@ -57,7 +57,7 @@ module _ (kept : Kept) (node : IsNode kept) where
         (legal_more kept.app empty kept.journal (record { actor = actor; event = event }) node.legal (record { ask = ask; may = may; told = ap (λ (r : Reply). r.1) told }))
 
     -- a step of which only the jobs and the journal change
-    pub quiet : later.sealed ≡ (world_in kept).sealed → later.work ≡ (world_in kept).work → (rows' : List Row) → AreRowsOf (tables_of kept.app) (told_in kept.work) rows' later.jobs
+    pub quiet : later.sealed ≡ (world_in kept).sealed → later.work ≡ (world_in kept).work → (rows' : List JobRow) → AreRowsOf (tables_of kept.app) (told_in kept.work) rows' later.jobs
         → IsNode (record kept { rows = rows'; journal = journal' })
     quiet same_sealed same_work rows' are = record {
       legal = legal_noted;

@@ -7,7 +7,7 @@ use Rattle.std.specs.List.{flat_map}
 use Rattle.std.specs.Option.{option_and_then, option_map, option_or}
 use Rattle.std.specs.Prelude.{IfSome}
 use Rattle.std.specs.Str.{bytes_eq}
-use Rattle.block_work.specs.Ids.{first_among, first_in, place_of}
+use Rattle.block_work.specs.Ids.{first_among, first_in, place_of_id}
 use Rattle.node_core.proofs.Journal.{facts}
 use Rattle.node_core.proofs.Settled.{length_from, number_next}
 use Rattle.node_core.specs.Finding.{item_at, outcome_by, outcomes_at, told_at}
@@ -15,7 +15,7 @@ use Rattle.node_core.specs.Kept.{IsNode, Kept, number_of_work, outcomes_of, show
 use Rattle.node_core.specs.Looking.{first_outcome, told_in_work, told_of}
 use Rattle.node_core.specs.declared.working.Working.{Working}
 use Rattle.node_model.specs.Fold.{block_result, no_digest, results_from, results_of}
-use Rattle.node_model.specs.History.{Sealed}
+use Rattle.node_model.specs.History.{SealedBlock}
 use Rattle.node_model.specs.declared.result.BlockResult.{BlockResult}
 use Rattle.node_model.specs.declared.result.Told.{Told}
 use Rattle.proc_syntax.specs.Declaring.{tables_of}
@@ -26,8 +26,8 @@ use Rattle.schedule_laws.specs.Facts.{AreCounted}
 abbrev tells : List ℕ → Told → Bool
 tells id = λ (one : Told). bytes_eq id one.id
 
-abbrev all_told : List Sealed → List Told
-all_told sealed = flat_map (λ (block : Sealed). block.outcomes) sealed
+abbrev all_told : List SealedBlock → List Told
+all_told sealed = flat_map (λ (block : SealedBlock). block.outcomes) sealed
 
 abbrev at : ℕ → ℕ → Option Place
 at number pos = Some (record { block = number; pos = pos })
@@ -75,7 +75,7 @@ look_among number first (told ∷ rest) id = by (bytes_eq id told.id) refl (look
 -- ---- in a chain
 
 -- the first with an id, where the first block has a number
-record Found (number : ℕ) (blocks : List BlockResult) (sealed : List Sealed) (id : List ℕ) : Type 0 where
+record Found (number : ℕ) (blocks : List BlockResult) (sealed : List SealedBlock) (id : List ℕ) : Type 0 where
   pub index : ℕ
   pub place : ℕ
   pub block : BlockResult
@@ -85,10 +85,10 @@ record Found (number : ℕ) (blocks : List BlockResult) (sealed : List Sealed) (
   pub block_there : slice_get blocks index ≡ Some block
   pub there : slice_get block.outcomes place ≡ Some told
 
-abbrev IsNowhere : List Sealed → List ℕ → Type 0
+abbrev IsNowhere : List SealedBlock → List ℕ → Type 0
 IsNowhere sealed id = (first_in sealed id ≡ None) × (find (tells id) (all_told sealed) ≡ None)
 
-look_in : (tables : List TableDef) (previous : List ℕ) (number : ℕ) (sealed : List Sealed) (id : List ℕ) → AreCounted number sealed → IsNowhere sealed id ⊎ Found number (results_from tables previous sealed) sealed id
+look_in : (tables : List TableDef) (previous : List ℕ) (number : ℕ) (sealed : List SealedBlock) (id : List ℕ) → AreCounted number sealed → IsNowhere sealed id ⊎ Found number (results_from tables previous sealed) sealed id
 look_in tables previous number [] id counted = inl (refl, refl)
 look_in tables previous number (block ∷ rest) id counted =
     by (look_among block.number 1 block.outcomes id) (look_in tables (block_result tables previous block).digest (number + 1) rest id counted.1)
@@ -100,7 +100,7 @@ look_in tables previous number (block ∷ rest) id counted =
     told_or found = option_or found (find (tells id) (all_told rest))
 
     parts : find (tells id) (all_told (block ∷ rest)) ≡ told_or (find (tells id) block.outcomes)
-    parts = ap (find (tells id)) (flat_map-cons (λ (block : Sealed). block.outcomes) block rest) ∙ find-append (tells id) block.outcomes (all_told rest)
+    parts = ap (find (tells id)) (flat_map-cons (λ (block : SealedBlock). block.outcomes) block rest) ∙ find-append (tells id) block.outcomes (all_told rest)
 
     by : IsAbsent block.number 1 block.outcomes id ⊎ Stands block.number 1 block.outcomes id
         → IsNowhere rest id ⊎ Found (number + 1) (results_from tables (block_result tables previous block).digest rest) rest id
@@ -138,7 +138,7 @@ pub none_in : (X : Type 0) (position : ℕ) → item_at {X = X} [] position ≡ 
 none_in X zero = refl
 none_in X (suc place) = refl
 
-module _ (tables : List TableDef) (sealed : List Sealed) (work : Option Working) (id : List ℕ) (counted : AreCounted 1 sealed) (next : IfSome work (λ working. working.done.number ≡ length sealed + 1)) where
+module _ (tables : List TableDef) (sealed : List SealedBlock) (work : Option Working) (id : List ℕ) (counted : AreCounted 1 sealed) (next : IfSome work (λ working. working.done.number ≡ length sealed + 1)) where
   abbrev blocks : List BlockResult
   blocks = results_of tables sealed
 
@@ -206,7 +206,7 @@ module _ (kept : Kept) (node : IsNode kept) where
 
   pub outcome_is : (id : List ℕ) → outcome_by kept.ids kept.results kept.work id ≡ first_outcome id (told_of (world_in kept))
   outcome_is id = ap (option_map (λ (one : Told). one.outcome)) (
-      ap (λ (results : List BlockResult). option_and_then (told_at results kept.work) (place_of kept.ids id)) node.holds.results
+      ap (λ (results : List BlockResult). option_and_then (told_at results kept.work) (place_of_id kept.ids id)) node.holds.results
       ∙ ap (told_of_place (tables_of kept.app) (world_in kept).sealed kept.work id (facts kept node).counted next_is) (node.ids id)
       ∙ first_told (tables_of kept.app) (world_in kept).sealed kept.work id (facts kept node).counted next_is
       ∙ sym (find-append (tells id) (all_told (world_in kept).sealed) (outcomes_of kept.work))

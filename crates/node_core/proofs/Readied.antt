@@ -12,7 +12,7 @@ use Rattle.node_core.specs.Deciding.{CanBeAdded, IsDecided, IsDone, outcome_by}
 use Rattle.node_core.specs.Kept.{shown_work}
 use Rattle.node_core.specs.Rows.{row_at}
 use Rattle.node_core.specs.declared.jobs.Record.{Record}
-use Rattle.node_core.specs.declared.jobs.Row.{Row}
+use Rattle.node_core.specs.declared.jobs.JobRow.{JobRow}
 use Rattle.node_core.specs.declared.jobs.Stage.TheVariants as stage
 use Rattle.node_core.specs.declared.jobs.Stage.{Stage}
 use Rattle.node_core.specs.declared.working.Working.{Working}
@@ -42,23 +42,23 @@ record_in other (stage.Done recorded) = recorded
 record_in other stage.Taken = other
 record_in other stage.Dropped = other
 
-module _ (tables : List TableDef) (rows : List Row) (number : ℕ) (done : IsDone tables rows number) where
-  pub done_there : option_map (λ (row : Row). row.stage) (row_at rows number) ≡ Some (stage.Done done.recorded)
-  done_there = ap (option_map (λ (row : Row). row.stage)) done.stands ∙ ap (λ (now : Stage). Some now) done.done
+module _ (tables : List TableDef) (rows : List JobRow) (number : ℕ) (done : IsDone tables rows number) where
+  pub done_there : option_map (λ (row : JobRow). row.stage) (row_at rows number) ≡ Some (stage.Done done.recorded)
+  done_there = ap (option_map (λ (row : JobRow). row.stage)) done.stands ∙ ap (λ (now : Stage). Some now) done.done
 
-  pub recorded_is : (recorded : Record) → option_map (λ (row : Row). row.stage) (row_at rows number) ≡ Some (stage.Done recorded) → recorded ≡ done.recorded
+  pub recorded_is : (recorded : Record) → option_map (λ (row : JobRow). row.stage) (row_at rows number) ≡ Some (stage.Done recorded) → recorded ≡ done.recorded
   recorded_is recorded there = ap (record_in done.recorded) (same_Some (stage.Done recorded) (stage.Done done.recorded) (sym there ∙ done_there))
 
-  pub row_is : (row : Row) → row_at rows number ≡ Some row → row ≡ done.row
+  pub row_is : (row : JobRow) → row_at rows number ≡ Some row → row ≡ done.row
   row_is row there = same_Some row done.row (sym there ∙ done.stands)
 
   -- the outcome by its run, where that is read from the table
-  pub judged_as : (history : List Stamped) (work : BlockInWork) (row : Row) (recorded : Record) (height : ℕ) → row_at rows number ≡ Some row → row.stage ≡ stage.Done recorded → height ≡ row.tx.value.height
+  pub judged_as : (history : List Stamped) (work : BlockInWork) (row : JobRow) (recorded : Record) (height : ℕ) → row_at rows number ≡ Some row → row.stage ≡ stage.Done recorded → height ≡ row.tx.value.height
       → or_committed (by_run tables (writes_between height (work.number - 1) history) work.committed.items recorded.ran) ≡ outcome_by tables history work rows done
   judged_as history work row recorded height there stands at =
-      ap (λ h. or_committed (by_run tables (writes_between h (work.number - 1) history) work.committed.items recorded.ran)) (at ∙ ap (λ (r : Row). r.tx.value.height) (row_is row there))
+      ap (λ h. or_committed (by_run tables (writes_between h (work.number - 1) history) work.committed.items recorded.ran)) (at ∙ ap (λ (r : JobRow). r.tx.value.height) (row_is row there))
       ∙ ap (λ (one : Record). or_committed (by_run tables (writes_between done.row.tx.value.height (work.number - 1) history) work.committed.items one.ran))
-      (recorded_is recorded (ap (option_map (λ (r : Row). r.stage)) there ∙ ap (λ (now : Stage). Some now) stands))
+      (recorded_is recorded (ap (option_map (λ (r : JobRow). r.stage)) there ∙ ap (λ (now : Stage). Some now) stands))
 
 -- ---- the room is taken and the id noted
 
@@ -82,10 +82,10 @@ module _ (old made : Working) (before after : IdIndex) (id : List ℕ) (same : I
 
 -- ---- by what is recorded of a done job
 
-module _ (tables : List TableDef) (history : List Stamped) (rows : List Row) (number : ℕ) (old made : Working) (verdict : Verdict) (same : IsSameWork old.done made.done) (consistent : IsConsistent tables made.done)
+module _ (tables : List TableDef) (history : List Stamped) (rows : List JobRow) (number : ℕ) (old made : Working) (verdict : Verdict) (same : IsSameWork old.done made.done) (consistent : IsConsistent tables made.done)
     (judged : (done : IsDone tables rows number) → outcome_of verdict ≡ outcome_by tables history old.done rows done)
     (sound : (done : IsDone tables rows number) → IsVerdictOn tables old.done.committed.items done.recorded.ran verdict) (recorded : Record)
-    (there : option_map (λ (row : Row). row.stage) (row_at rows number) ≡ Some (stage.Done recorded)) where
+    (there : option_map (λ (row : JobRow). row.stage) (row_at rows number) ≡ Some (stage.Done recorded)) where
   pub can_add : IsDone tables rows number → CanBeAdded tables made.done recorded.ran verdict
   can_add done = subst (λ (one : Record). CanBeAdded tables made.done one.ran verdict) (sym (recorded_is tables rows number done recorded there)) (record {
     consistent = consistent;

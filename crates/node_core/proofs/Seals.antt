@@ -11,7 +11,7 @@ use Rattle.std.specs.Str.{bytes_eq}
 use Rattle.block_work.proofs.Places.{is_known, places_sealed}
 use Rattle.block_work.specs.Block.{sealed_of}
 use Rattle.block_work.specs.Chain.{HoldsChain, StoreFits}
-use Rattle.block_work.specs.Ids.{HasFirstPlaces, place_of}
+use Rattle.block_work.specs.Ids.{HasFirstPlaces, place_of_id}
 use Rattle.node_core.proofs.Journal.{core_of, facts, legal_noted, stays, world_noted}
 use Rattle.node_core.proofs.Rowed.{status_is}
 use Rattle.node_core.proofs.Settled.{height_is, number_next}
@@ -22,17 +22,17 @@ use Rattle.node_core.specs.Over.{CanJoin, drop_among, drop_settled, not_sealed}
 use Rattle.node_core.specs.Rows.{at_stage, is_open}
 use Rattle.node_core.specs.declared.answers.Sealed as answers
 use Rattle.node_core.specs.declared.answers.Sealed.TheVariants as sealed
-use Rattle.node_core.specs.declared.jobs.Row.{Row}
+use Rattle.node_core.specs.declared.jobs.JobRow.{JobRow}
 use Rattle.node_core.specs.declared.jobs.Stage.TheVariants as stage
 use Rattle.node_core.specs.declared.jobs.Stage.{Stage}
 use Rattle.node_core.specs.declared.working.Working.{Working}
 use Rattle.node_model.specs.Events.{after, drop_over, dropped, is_over, is_settled, with_sealed}
 use Rattle.node_model.specs.Fold as fold
-use Rattle.node_model.specs.Fold.{last_digest, no_digest, results_of}
-use Rattle.node_model.specs.History.{Sealed, ids_of, ids_told}
+use Rattle.node_model.specs.Fold.{chain_digest, no_digest, results_of}
+use Rattle.node_model.specs.History.{SealedBlock, ids_of, ids_told}
 use Rattle.node_model.specs.Journals.{world}
 use Rattle.node_model.specs.Steps.{Digest, Reply, Shared, ToSeal, reply, seals, seals_due}
-use Rattle.node_model.specs.World.{BlockInWork, Job, Status, World, decided, due, is_done, is_waiting}
+use Rattle.node_model.specs.World.{BlockInWork, Job, JobStatus, World, decided, due, is_done, is_waiting}
 use Rattle.node_model.specs.declared.journal.Entry.{Entry}
 use Rattle.node_model.specs.declared.journal.Event.TheVariants.{Seal}
 use Rattle.node_model.specs.declared.result.BlockResult.{BlockResult}
@@ -124,10 +124,10 @@ module _ (kept : Kept) (node : IsNode kept) (working : Working) (here : kept.wor
       }
 
   -- the block as it is sealed, and the chain with it
-  abbrev block : Sealed
+  abbrev block : SealedBlock
   block = fold.sealed_as working.block.value (shown_work working).done
 
-  abbrev grown : List Sealed
+  abbrev grown : List SealedBlock
   grown = (world_in kept).sealed ++ block ∷ []
 
   block_is : sealed_of working.done ≡ block
@@ -142,11 +142,11 @@ module _ (kept : Kept) (node : IsNode kept) (working : Working) (here : kept.wor
   places_after = places_sealed kept.ids (world_in kept).sealed block 0 (subst (λ n. HasFirstPlaces kept.ids (world_in kept).sealed n working.done.outcomes.items) fits.number places)
 
   -- the ids that have a place are those that are settled
-  settled_now : (id : List ℕ) → is_some (place_of kept.ids id) ≡ is_settled id grown
+  settled_now : (id : List ℕ) → is_some (place_of_id kept.ids id) ≡ is_settled id grown
   settled_now id = is_known kept.ids grown 0 [] id places_after ∙ ap (list_any (bytes_eq id)) (append-nil (ids_of grown)) ∙ sym (settled-known id grown)
 
   -- and those of the block are among them
-  told_settled : (id : List ℕ) → list_any (bytes_eq id) (ids_told working.done.outcomes.items) ≡ true → is_some (place_of kept.ids id) ≡ true
+  told_settled : (id : List ℕ) → list_any (bytes_eq id) (ids_told working.done.outcomes.items) ≡ true → is_some (place_of_id kept.ids id) ≡ true
   told_settled id told =
       is_known kept.ids (world_in kept).sealed working.done.number working.done.outcomes.items id places
       ∙ list_any-append (bytes_eq id) (ids_of (world_in kept).sealed) (ids_told working.done.outcomes.items)
@@ -155,28 +155,28 @@ module _ (kept : Kept) (node : IsNode kept) (working : Working) (here : kept.wor
 
   -- ---- jobs
 
-  row_after : (row : Row) (job : Job) → IsRowOf (tables_of kept.app) (ids_told working.done.outcomes.items) row job → IsRowOf (tables_of kept.app) [] (drop_settled kept.ids row) (drop_over grown job)
+  row_after : (row : JobRow) (job : Job) → IsRowOf (tables_of kept.app) (ids_told working.done.outcomes.items) row job → IsRowOf (tables_of kept.app) [] (drop_settled kept.ids row) (drop_over grown job)
   row_after row job is =
       subst (λ b. IsRowOf (tables_of kept.app) [] (drop_settled kept.ids row) (cond b (dropped job) job)) same_test
-      (by (is_open row.stage && is_some (place_of kept.ids row.tx.value.id)) refl)
+      (by (is_open row.stage && is_some (place_of_id kept.ids row.tx.value.id)) refl)
     where
-      same_test : (is_open row.stage && is_some (place_of kept.ids row.tx.value.id)) ≡ is_over grown job
+      same_test : (is_open row.stage && is_some (place_of_id kept.ids row.tx.value.id)) ≡ is_over grown job
       same_test =
-          ap (λ (s : Status). (is_waiting s || is_done s) && is_some (place_of kept.ids row.tx.value.id)) (status_is (tables_of kept.app) (ids_told working.done.outcomes.items) row.stage job is.stage)
-          ∙ ap (λ (t : Tx). (is_waiting job.status || is_done job.status) && is_some (place_of kept.ids t.id)) is.tx
+          ap (λ (s : JobStatus). (is_waiting s || is_done s) && is_some (place_of_id kept.ids row.tx.value.id)) (status_is (tables_of kept.app) (ids_told working.done.outcomes.items) row.stage job is.stage)
+          ∙ ap (λ (t : Tx). (is_waiting job.status || is_done job.status) && is_some (place_of_id kept.ids t.id)) is.tx
           ∙ ap (λ b. (is_waiting job.status || is_done job.status) && b) (settled_now job.tx.id)
 
-      settles : list_any (bytes_eq job.tx.id) (ids_told working.done.outcomes.items) ≡ true → is_some (place_of kept.ids row.tx.value.id) ≡ true
-      settles told = ap (λ (t : Tx). is_some (place_of kept.ids t.id)) is.tx ∙ told_settled job.tx.id told
+      settles : list_any (bytes_eq job.tx.id) (ids_told working.done.outcomes.items) ≡ true → is_some (place_of_id kept.ids row.tx.value.id) ≡ true
+      settles told = ap (λ (t : Tx). is_some (place_of_id kept.ids t.id)) is.tx ∙ told_settled job.tx.id told
 
-      by : (b : Bool) → (is_open row.stage && is_some (place_of kept.ids row.tx.value.id)) ≡ b → IsRowOf (tables_of kept.app) [] (cond b (at_stage stage.Dropped row) row) (cond b (dropped job) job)
+      by : (b : Bool) → (is_open row.stage && is_some (place_of_id kept.ids row.tx.value.id)) ≡ b → IsRowOf (tables_of kept.app) [] (cond b (at_stage stage.Dropped row) row) (cond b (dropped job) job)
       by true over = record { tx = is.tx; stage = refl }
       by false over = record {
         tx = is.tx;
-        stage = keeps_stage (tables_of kept.app) (ids_told working.done.outcomes.items) row.stage job (is_some (place_of kept.ids row.tx.value.id)) is.stage settles over;
+        stage = keeps_stage (tables_of kept.app) (ids_told working.done.outcomes.items) row.stage job (is_some (place_of_id kept.ids row.tx.value.id)) is.stage settles over;
       }
 
-  rows_after : (rows : List Row) (jobs : List Job) → AreRowsOf (tables_of kept.app) (ids_told working.done.outcomes.items) rows jobs
+  rows_after : (rows : List JobRow) (jobs : List Job) → AreRowsOf (tables_of kept.app) (ids_told working.done.outcomes.items) rows jobs
       → AreRowsOf (tables_of kept.app) [] (map (drop_settled kept.ids) rows) (map (drop_over grown) jobs)
   rows_after [] [] are = tt
   rows_after [] (job ∷ jobs) are = absurd are
@@ -188,13 +188,13 @@ module _ (kept : Kept) (node : IsNode kept) (working : Working) (here : kept.wor
   module _ (all : due (shown_work working) ≡ None) (actor number : ℕ) (zero_actor : actor ≡ 0) (numbered : number ≡ working.done.number) (journal' : List Entry)
       (noted : journal' ≡ kept.journal ++ record { actor = actor; event = Seal number } ∷ []) where
     abbrev answer_as : ℕ → Reply
-    answer_as n = (Digest n (last_digest (tables_of kept.app) grown), Some (Seal n))
+    answer_as n = (Digest n (chain_digest (tables_of kept.app) grown), Some (Seal n))
 
     told : reply kept.app (world_in kept) ToSeal ≡ answer_as number
     told = ap (seals kept.app (world_in kept)) inside ∙ ap (seals_due kept.app (world_in kept) (shown_work working)) all ∙ ap answer_as (sym (numbered ∙ fits.number))
 
     after_it : world kept.app journal' ≡ after kept.app (world_in kept) (record { actor = actor; event = Seal number })
-    after_it = world_noted kept node actor ToSeal (Digest number (last_digest (tables_of kept.app) grown)) (Seal number) zero_actor told journal' noted
+    after_it = world_noted kept node actor ToSeal (Digest number (chain_digest (tables_of kept.app) grown)) (Seal number) zero_actor told journal' noted
 
     sealed_now : (world kept.app journal').sealed ≡ grown
     sealed_now = ap (λ (w : World). w.sealed) after_it ∙ ap (with_sealed (world_in kept).sealed) inside
@@ -203,23 +203,23 @@ module _ (kept : Kept) (node : IsNode kept) (working : Working) (here : kept.wor
     jobs_now = ap (λ (w : World). w.jobs) after_it ∙ ap (λ (work : Option BlockInWork). map (drop_over (with_sealed (world_in kept).sealed work)) (world_in kept).jobs) inside
 
     module _ (app' : App) (tables' : List TableDef) (history' : List Stamped) (results' : List BlockResult) (same_app : app' ≡ kept.app) (sound : StoreFits app' tables' history' results')
-        (grows : (chain : List Sealed) → HoldsChain (tables_of kept.app) chain kept.history kept.results → HoldsChain (tables_of kept.app) (chain ++ sealed_of working.done ∷ []) history' results') where
+        (grows : (chain : List SealedBlock) → HoldsChain (tables_of kept.app) chain kept.history kept.results → HoldsChain (tables_of kept.app) (chain ++ sealed_of working.done ∷ []) history' results') where
       holds_after : HoldsChain (tables_of kept.app) grown history' results'
-      holds_after = subst (λ (b : Sealed). HoldsChain (tables_of kept.app) ((world_in kept).sealed ++ b ∷ []) history' results') block_is (grows (world_in kept).sealed node.holds)
+      holds_after = subst (λ (b : SealedBlock). HoldsChain (tables_of kept.app) ((world_in kept).sealed ++ b ∷ []) history' results') block_is (grows (world_in kept).sealed node.holds)
 
-      abbrev kept_with : App → List Row → Kept
+      abbrev kept_with : App → List JobRow → Kept
       kept_with app rows = record { app = app; tables = tables'; history = history'; results = results'; ids = kept.ids; work = None; rows = rows; journal = journal' }
 
-      seal_kept : (rows' : List Row) → rows' ≡ map (drop_settled kept.ids) kept.rows → IsNode (kept_with app' rows')
+      seal_kept : (rows' : List JobRow) → rows' ≡ map (drop_settled kept.ids) kept.rows → IsNode (kept_with app' rows')
       seal_kept rows' are = subst (λ (app : App). StoreFits app tables' history' results' → IsNode (kept_with app rows')) (sym same_app) (λ fits_so. record {
-        legal = legal_noted kept node actor ToSeal (Digest number (last_digest (tables_of kept.app) grown)) (Seal number) zero_actor told journal' noted;
+        legal = legal_noted kept node actor ToSeal (Digest number (chain_digest (tables_of kept.app) grown)) (Seal number) zero_actor told journal' noted;
         sound = fits_so;
-        holds = subst (λ (chain : List Sealed). HoldsChain (tables_of kept.app) chain history' results') (sym sealed_now) holds_after;
-        ids = subst (λ (chain : List Sealed). HasFirstPlaces kept.ids chain 0 []) (sym sealed_now) places_after;
+        holds = subst (λ (chain : List SealedBlock). HoldsChain (tables_of kept.app) chain history' results') (sym sealed_now) holds_after;
+        ids = subst (λ (chain : List SealedBlock). HasFirstPlaces kept.ids chain 0 []) (sym sealed_now) places_after;
         work = sym (ap (λ (w : World). w.work) after_it);
         working = tt;
         rows = subst (λ (jobs : List Job). AreRowsOf (tables_of kept.app) [] rows' jobs) (sym jobs_now)
-            (subst (λ (rows : List Row). AreRowsOf (tables_of kept.app) [] rows (map (drop_over grown) (world_in kept).jobs)) (sym are)
+            (subst (λ (rows : List JobRow). AreRowsOf (tables_of kept.app) [] rows (map (drop_over grown) (world_in kept).jobs)) (sym are)
             (rows_after kept.rows (world_in kept).jobs (subst (λ (w : Option Working). AreRowsOf (tables_of kept.app) (told_in w) kept.rows (world_in kept).jobs) here node.rows)));
       }) sound
 
@@ -230,25 +230,25 @@ module _ (kept : Kept) (node : IsNode kept) (working : Working) (here : kept.wor
   told_ids = ids_told working.done.outcomes.items
 
   -- an id that is not settled is known where it is one of the block in work
-  known_if : (id : List ℕ) → is_settled id (world_in kept).sealed ≡ false → list_any (bytes_eq id) told_ids ≡ is_some (place_of kept.ids id)
+  known_if : (id : List ℕ) → is_settled id (world_in kept).sealed ≡ false → list_any (bytes_eq id) told_ids ≡ is_some (place_of_id kept.ids id)
   known_if id unsettled =
       sym (is_known kept.ids (world_in kept).sealed working.done.number working.done.outcomes.items id (places kept node working here)
       ∙ list_any-append (bytes_eq id) (ids_of (world_in kept).sealed) told_ids
       ∙ ap (λ b. b || list_any (bytes_eq id) told_ids) (sym (settled-known id (world_in kept).sealed) ∙ unsettled))
 
-  row_dropped : (row : Row) (job : Job) → IsRowOf (tables_of kept.app) told_ids row job → JobFits kept.app (world_in kept).sealed job → drop_among told_ids row ≡ drop_settled kept.ids row
+  row_dropped : (row : JobRow) (job : Job) → IsRowOf (tables_of kept.app) told_ids row job → JobFits kept.app (world_in kept).sealed job → drop_among told_ids row ≡ drop_settled kept.ids row
   row_dropped row job is fits_so = by (is_open row.stage) refl
     where
       open_is : is_open row.stage ≡ (is_waiting job.status || is_done job.status)
-      open_is = ap (λ (s : Status). is_waiting s || is_done s) (status_is (tables_of kept.app) told_ids row.stage job is.stage)
+      open_is = ap (λ (s : JobStatus). is_waiting s || is_done s) (status_is (tables_of kept.app) told_ids row.stage job is.stage)
 
       by : (b : Bool) → is_open row.stage ≡ b
-          → cond (b && list_any (bytes_eq row.tx.value.id) told_ids) (at_stage stage.Dropped row) row ≡ cond (b && is_some (place_of kept.ids row.tx.value.id)) (at_stage stage.Dropped row) row
+          → cond (b && list_any (bytes_eq row.tx.value.id) told_ids) (at_stage stage.Dropped row) row ≡ cond (b && is_some (place_of_id kept.ids row.tx.value.id)) (at_stage stage.Dropped row) row
       by false is_so = refl
       by true is_so = ap (λ b. cond b (at_stage stage.Dropped row) row)
           (known_if row.tx.value.id (ap (λ (t : Tx). is_settled t.id (world_in kept).sealed) is.tx ∙ fits_so.unsettled (sym open_is ∙ is_so)))
 
-  rows_dropped : (rows : List Row) (jobs : List Job) → AreRowsOf (tables_of kept.app) told_ids rows jobs → EachJob (JobFits kept.app (world_in kept).sealed) jobs
+  rows_dropped : (rows : List JobRow) (jobs : List Job) → AreRowsOf (tables_of kept.app) told_ids rows jobs → EachJob (JobFits kept.app (world_in kept).sealed) jobs
       → map (drop_among told_ids) rows ≡ map (drop_settled kept.ids) rows
   rows_dropped [] [] are each = refl
   rows_dropped [] (job ∷ jobs) are each = absurd are
@@ -290,7 +290,7 @@ can_join kept node height none =
 module _ (kept : Kept) (node : IsNode kept) (height : ℕ) (none : not_sealed height kept.work ≡ None) (actor number : ℕ) (zero_actor : actor ≡ 0)
     (numbered : IfSome kept.work (λ working. number ≡ working.done.number)) (journal' : List Entry) (noted : journal' ≡ kept.journal ++ record { actor = actor; event = Seal number } ∷ [])
     (app' : App) (tables' : List TableDef) (history' : List Stamped) (results' : List BlockResult) (same_app : app' ≡ kept.app) (sound : StoreFits app' tables' history' results')
-    (grows : IfSome kept.work (λ working. (chain : List Sealed) → HoldsChain (tables_of kept.app) chain kept.history kept.results
+    (grows : IfSome kept.work (λ working. (chain : List SealedBlock) → HoldsChain (tables_of kept.app) chain kept.history kept.results
     → HoldsChain (tables_of kept.app) (chain ++ sealed_of working.done ∷ []) history' results')) where
   in_work : (working : Working) × (kept.work ≡ Some working) × (due (shown_work working) ≡ None)
   in_work = whole kept node height none
@@ -298,11 +298,11 @@ module _ (kept : Kept) (node : IsNode kept) (height : ℕ) (none : not_sealed he
   numbered_so : number ≡ in_work.0.done.number
   numbered_so = subst (λ (w : Option Working). IfSome w (λ working. number ≡ working.done.number)) in_work.1 numbered
 
-  grows_so : (chain : List Sealed) → HoldsChain (tables_of kept.app) chain kept.history kept.results → HoldsChain (tables_of kept.app) (chain ++ sealed_of in_work.0.done ∷ []) history' results'
-  grows_so = subst (λ (w : Option Working). IfSome w (λ working. (chain : List Sealed) → HoldsChain (tables_of kept.app) chain kept.history kept.results
+  grows_so : (chain : List SealedBlock) → HoldsChain (tables_of kept.app) chain kept.history kept.results → HoldsChain (tables_of kept.app) (chain ++ sealed_of in_work.0.done ∷ []) history' results'
+  grows_so = subst (λ (w : Option Working). IfSome w (λ working. (chain : List SealedBlock) → HoldsChain (tables_of kept.app) chain kept.history kept.results
       → HoldsChain (tables_of kept.app) (chain ++ sealed_of working.done ∷ []) history' results')) in_work.1 grows
 
-  pub sealed_kept : (work' : Option Working) (rows' : List Row) → work' ≡ None → rows' ≡ map (drop_settled kept.ids) kept.rows
+  pub sealed_kept : (work' : Option Working) (rows' : List JobRow) → work' ≡ None → rows' ≡ map (drop_settled kept.ids) kept.rows
       → IsNode (record { app = app'; tables = tables'; history = history'; results = results'; ids = kept.ids; work = work'; rows = rows'; journal = journal' })
   sealed_kept work' rows' empty are =
       subst (λ (w : Option Working). IsNode (record { app = app'; tables = tables'; history = history'; results = results'; ids = kept.ids; work = w; rows = rows'; journal = journal' })) (sym empty)

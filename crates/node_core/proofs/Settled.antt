@@ -6,13 +6,13 @@ use Rattle.std.specs.List.{list_any}
 use Rattle.std.specs.Option.{option_map, option_or}
 use Rattle.std.specs.Prelude.{nat_le}
 use Rattle.std.specs.Str.{bytes_eq}
-use Rattle.block_work.specs.Ids.{first_among, first_in, place_of}
+use Rattle.block_work.specs.Ids.{first_among, first_in, place_of_id}
 use Rattle.node_core.proofs.Journal.{facts}
 use Rattle.node_core.specs.Kept.{IsNode, IsWorkingOn, Kept, number_of_work, outcomes_of, shown_work, up_to, world_in}
 use Rattle.node_core.specs.declared.working.Working.{Working}
 use Rattle.node_model.specs.Events.{has_told, settled_in}
 use Rattle.node_model.specs.Fold.{block_result, no_digest, results_from}
-use Rattle.node_model.specs.History.{Sealed, ids_told}
+use Rattle.node_model.specs.History.{SealedBlock, ids_told}
 use Rattle.node_model.specs.declared.result.Told.{Told}
 use Rattle.proc_syntax.specs.Declaring.{tables_of}
 use Rattle.rel_base.specs.declared.access.Place.{Place}
@@ -21,7 +21,7 @@ use Rattle.schedule_laws.specs.Facts.{AreCounted}
 
 -- ---- how many are sealed
 
-pub length_from : (tables : List TableDef) (previous : List ℕ) (chain : List Sealed) → length (results_from tables previous chain) ≡ length chain
+pub length_from : (tables : List TableDef) (previous : List ℕ) (chain : List SealedBlock) → length (results_from tables previous chain) ≡ length chain
 length_from tables previous [] = refl
 length_from tables previous (block ∷ rest) = ap suc (length_from tables (block_result tables previous block).digest rest)
 
@@ -42,12 +42,12 @@ among_is number pos (told ∷ rest) id = by (bytes_eq id told.id) (among_is numb
     by true more = refl
     by false more = more
 
-first_is : (id : List ℕ) (sealed : List Sealed) → block_of (first_in sealed id) ≡ settled_in id sealed
+first_is : (id : List ℕ) (sealed : List SealedBlock) → block_of (first_in sealed id) ≡ settled_in id sealed
 first_is id [] = refl
 first_is id (block ∷ rest) = by (first_among block.number 1 block.outcomes id) (has_told id block) (among_is block.number 1 block.outcomes id) (first_is id rest)
   where
     by : (found : Option Place) (b : Bool) → block_of found ≡ cond b (Some block.number) None → block_of (first_in rest id) ≡ settled_in id rest
-        → block_of (option_or found (first_in rest id)) ≡ option_map (λ (block : Sealed). block.number) (cond b (Some block) (find (has_told id) rest))
+        → block_of (option_or found (first_in rest id)) ≡ option_map (λ (block : SealedBlock). block.number) (cond b (Some block) (find (has_told id) rest))
     by None true is more = absurd (none-some block.number is)
     by None false is more = more
     by (Some place) true is more = is
@@ -64,7 +64,7 @@ among_below number pos high (told ∷ rest) id low = by (bytes_eq id told.id) (a
     by true more = low
     by false more = more
 
-first_below : (number high : ℕ) (sealed : List Sealed) (id : List ℕ) → AreCounted number sealed → number + length sealed ≤ high → IsBelow high (first_in sealed id)
+first_below : (number high : ℕ) (sealed : List SealedBlock) (id : List ℕ) → AreCounted number sealed → number + length sealed ≤ high → IsBelow high (first_in sealed id)
 first_below number high [] id counted low = tt
 first_below number high (block ∷ rest) id counted low =
     let at = counted.0 in
@@ -100,7 +100,7 @@ number_next kept node working here =
     let fits : IsWorkingOn (tables_of kept.app) working = subst (λ (w : Option Working). IfSome w (IsWorkingOn (tables_of kept.app))) here node.working in
     fits.number ∙ ((facts kept node).work_fits (shown_work working) inside).next
 
-pub settled_is : (kept : Kept) (node : IsNode kept) (height : ℕ) (id : List ℕ) → height ≡ length kept.results → up_to height (place_of kept.ids id) ≡ settled_in id (world_in kept).sealed
+pub settled_is : (kept : Kept) (node : IsNode kept) (height : ℕ) (id : List ℕ) → height ≡ length kept.results → up_to height (place_of_id kept.ids id) ≡ settled_in id (world_in kept).sealed
 settled_is kept node height id at =
     let so : height ≡ length (world_in kept).sealed = at ∙ height_is kept node in
     ap (up_to height) (node.ids id)

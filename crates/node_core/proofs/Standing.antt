@@ -10,31 +10,31 @@ use Rattle.node_core.specs.Rows.{count_held, new_row, put_at, put_row}
 use Rattle.node_core.specs.Waiting.{BoundsHold}
 use Rattle.node_core.specs.declared.bounds.WaitBounds.{WaitBounds}
 use Rattle.node_core.specs.declared.index.JobIndex.{JobIndex}
-use Rattle.node_core.specs.declared.jobs.Row.{Row}
+use Rattle.node_core.specs.declared.jobs.JobRow.{JobRow}
 use Rattle.node_core.specs.declared.jobs.Stage.{Stage}
 use Rattle.node_model.specs.Steps.{Shared}
 use Rattle.proc_syntax.specs.declared.call.Tx.{Tx}
 
 -- ---- ids stay
 
-ids_put_at : (rows : List Row) (place : ℕ) (now : Stage) → ids_of (put_at rows place now) ≡ ids_of rows
+ids_put_at : (rows : List JobRow) (place : ℕ) (now : Stage) → ids_of (put_at rows place now) ≡ ids_of rows
 ids_put_at [] place now = refl
 ids_put_at (row ∷ rows) zero now = refl
 ids_put_at (row ∷ rows) (suc place) now = ap (λ ids. row.tx.value.id ∷ ids) (ids_put_at rows place now)
 
-ids_put : (rows : List Row) (number : ℕ) (now : Stage) → ids_of (put_row rows number now) ≡ ids_of rows
+ids_put : (rows : List JobRow) (number : ℕ) (now : Stage) → ids_of (put_row rows number now) ≡ ids_of rows
 ids_put rows zero now = refl
 ids_put rows (suc place) now = ids_put_at rows place now
 
 -- ---- the table
 
 -- the index is another one of the same jobs
-pub table_same : (rows now : List Row) (held : ℕ) (bounds : WaitBounds) (index new : JobIndex) → IsTable rows held bounds index → now ≡ rows → SameJobs index new → IsTable now held bounds new
+pub table_same : (rows now : List JobRow) (held : ℕ) (bounds : WaitBounds) (index new : JobIndex) → IsTable rows held bounds index → now ≡ rows → SameJobs index new → IsTable now held bounds new
 table_same rows now held bounds index new was is same =
     subst (λ all. IsTable all held bounds new) (sym is) (record { count = was.count; waits = was.waits; by_id = same (ids_of rows) was.by_id })
 
 -- jobs come behind
-pub table_more : (rows before now : List Row) (held : ℕ) (bounds : WaitBounds) (index mid new : JobIndex) (txs : List (Shared Tx)) → IsTable rows held bounds index → before ≡ rows
+pub table_more : (rows before now : List JobRow) (held : ℕ) (bounds : WaitBounds) (index mid new : JobIndex) (txs : List (Shared Tx)) → IsTable rows held bounds index → before ≡ rows
     → now ≡ before ++ map new_row txs → SameJobs index mid → (Indexes mid (ids_of before) → Indexes new (ids_of now))
     → IsTable now held bounds new
 table_more rows before now held bounds index mid new txs was is are same noted =
@@ -46,7 +46,7 @@ table_more rows before now held bounds index mid new txs was is are same noted =
     }
 
 -- a job has another stage
-pub table_put : (rows after : List Row) (held more : ℕ) (bounds new : WaitBounds) (index : JobIndex) (number : ℕ) (now : Stage) → IsTable rows held bounds index
+pub table_put : (rows after : List JobRow) (held more : ℕ) (bounds new : WaitBounds) (index : JobIndex) (number : ℕ) (now : Stage) → IsTable rows held bounds index
     → after ≡ put_row rows number now → more ≡ count_held (put_row rows number now) → (BoundsHold bounds rows → BoundsHold new after) → IsTable after more new index
 table_put rows after held more bounds new index number now was is counted keeps =
     subst (λ all. IsTable all more new index) (sym is) (record {
@@ -56,7 +56,7 @@ table_put rows after held more bounds new index number now was is counted keeps 
     })
 
 -- a seal drops jobs
-pub table_dropped : (ids : List (List ℕ)) (rows after : List Row) (held : ℕ) (bounds : WaitBounds) (index : JobIndex) → IsTable rows held bounds index → after ≡ map (drop_among ids) rows → IsTable after held bounds index
+pub table_dropped : (ids : List (List ℕ)) (rows after : List JobRow) (held : ℕ) (bounds : WaitBounds) (index : JobIndex) → IsTable rows held bounds index → after ≡ map (drop_among ids) rows → IsTable after held bounds index
 table_dropped ids rows after held bounds index was is = record {
   count = was.count ∙ sym (ap count_held is ∙ count_dropped ids rows);
   waits = subst (BoundsHold bounds) (sym is) (bounds_dropped ids bounds rows was.waits);

@@ -10,25 +10,25 @@ use Rattle.node_core.proofs.Newest.{newest_equal, newest_within, olders_at, olde
 use Rattle.node_core.specs.ById.{Indexes, behind_first, ids_of, newest, newest_of}
 use Rattle.node_core.specs.Rows.{row_is_for, status_of}
 use Rattle.node_core.specs.declared.index.JobIndex.{JobIndex}
-use Rattle.node_core.specs.declared.jobs.Row.{Row}
+use Rattle.node_core.specs.declared.jobs.JobRow.{JobRow}
 use Rattle.node_model.specs.World.{is_live}
 use Rattle.rel_base.specs.Value.{key_eq}
 use Rattle.proc_syntax.specs.declared.call.Tx.{Tx}
 
 -- ---- rows and their ids
 
-pub here_of : (rows : List Row) (place : ℕ) (row other : Row) → place < length rows → row ≡ slice_index_or rows place other → slice_get rows place ≡ Some row
+pub here_of : (rows : List JobRow) (place : ℕ) (row other : JobRow) → place < length rows → row ≡ slice_index_or rows place other → slice_get rows place ≡ Some row
 here_of [] place row other within is = absurd (omega (arith, within))
 here_of (first ∷ rows) zero row other within is = ap Some (sym is)
 here_of (first ∷ rows) (suc place) row other within is = here_of rows place row other (omega (arith, within)) is
 
-ids_front : (n : ℕ) (rows : List Row) → take n (ids_of rows) ≡ ids_of (take n rows)
+ids_front : (n : ℕ) (rows : List JobRow) → take n (ids_of rows) ≡ ids_of (take n rows)
 ids_front zero rows = refl
 ids_front (suc n) [] = refl
 ids_front (suc n) (row ∷ rows) = ap (λ ids. row.tx.value.id ∷ ids) (ids_front n rows)
 
 -- a job of a transaction has its id
-for_has_id : (tx : Tx) (row : Row) → bytes_eq tx.id row.tx.value.id ≡ false → row_is_for tx row ≡ false
+for_has_id : (tx : Tx) (row : JobRow) → bytes_eq tx.id row.tx.value.id ≡ false → row_is_for tx row ≡ false
 for_has_id tx row differs =
     let one = row.tx.value in
     by (bytes_eq one.id tx.id) refl (is_live (status_of row.stage)) ((one.height == tx.height) && (bytes_eq one.procedure tx.procedure && key_eq one.args tx.args))
@@ -47,7 +47,7 @@ for_has_id tx row differs =
 -- ---- the first job of a transaction
 
 -- no job behind the newest of its id is that of a transaction
-pub up_to_newest : (tx : Tx) (number : ℕ) (rows : List Row) → position_from (row_is_for tx) number (take (newest tx.id (ids_of rows)) rows) ≡ position_from (row_is_for tx) number rows
+pub up_to_newest : (tx : Tx) (number : ℕ) (rows : List JobRow) → position_from (row_is_for tx) number (take (newest tx.id (ids_of rows)) rows) ≡ position_from (row_is_for tx) number rows
 up_to_newest tx number [] = refl
 up_to_newest tx number (row ∷ rows) = by (bytes_eq tx.id row.tx.value.id) refl (newest tx.id (ids_of rows)) (up_to_newest tx (number + 1) rows)
   where
@@ -58,11 +58,11 @@ up_to_newest tx number (row ∷ rows) = by (bytes_eq tx.id row.tx.value.id) refl
     by false same zero rest = rest ∙ sym (ap (λ b. cond b (Some number) (position_from (row_is_for tx) (number + 1) rows)) (for_has_id tx row same))
 
 -- one row more
-position_more : (test : Row → Bool) (number : ℕ) (rows : List Row) (place : ℕ) (row : Row) → slice_get rows place ≡ Some row
+position_more : (test : JobRow → Bool) (number : ℕ) (rows : List JobRow) (place : ℕ) (row : JobRow) → slice_get rows place ≡ Some row
     → position_from test number (take (suc place) rows) ≡ option_or (position_from test number (take place rows)) (cond (test row) (Some (number + place)) None)
 position_more test number [] place row here = absurd (none-some row here)
 position_more test number (first ∷ rows) zero row here =
-    ap (λ (r : Row). cond (test r) (Some number) None) (same_Some first row here) ∙ ap (λ n. cond (test row) (Some n) None) (let same : number ≡ number + 0 = omega arith in same)
+    ap (λ (r : JobRow). cond (test r) (Some number) None) (same_Some first row here) ∙ ap (λ n. cond (test row) (Some n) None) (let same : number ≡ number + 0 = omega arith in same)
 position_more test number (first ∷ rows) (suc place) row here =
     ap (cond (test first) (Some number)) (position_more test (number + 1) rows place row here) ∙ by (test first)
   where
@@ -74,7 +74,7 @@ position_more test number (first ∷ rows) (suc place) row here =
 -- ---- a walk
 
 -- a walk is at a job of the id, or at an end; before it stands the first job of the transaction, or else it was found
-pub record Walks (tx : Tx) (rows : List Row) (number : ℕ) (found : Option ℕ) : Type 0 where
+pub record Walks (tx : Tx) (rows : List JobRow) (number : ℕ) (found : Option ℕ) : Type 0 where
   pub within : number ≤ length rows
   pub own : (place : ℕ) → number ≡ suc place → slice_get (ids_of rows) place ≡ Some tx.id
   pub first : option_or (position_from (row_is_for tx) 1 (take number rows)) found ≡ position_from (row_is_for tx) 1 rows
@@ -83,11 +83,11 @@ or_none : (found : Option ℕ) → option_or found None ≡ found
 or_none None = refl
 or_none (Some number) = refl
 
-pub walk_begins : (tx : Tx) (rows : List Row) (index : JobIndex) (number : ℕ) → Indexes index (ids_of rows) → number ≡ newest_of index tx.id → Walks tx rows number None
+pub walk_begins : (tx : Tx) (rows : List JobRow) (index : JobIndex) (number : ℕ) → Indexes index (ids_of rows) → number ≡ newest_of index tx.id → Walks tx rows number None
 walk_begins tx rows index number indexed is =
     let same : newest tx.id (ids_of rows) ≡ number = sym (is ∙ indexed.newest tx.id) in
     subst (λ n. Walks tx rows n None) same (record {
-      within = let long : length (ids_of rows) ≡ length rows = length-map rows (λ (row : Row). row.tx.value.id) in omega (arith, long, newest_within tx.id (ids_of rows));
+      within = let long : length (ids_of rows) ≡ length rows = length-map rows (λ (row : JobRow). row.tx.value.id) in omega (arith, long, newest_within tx.id (ids_of rows));
       own = λ place here. newest_equal tx.id (ids_of rows) place here;
       first = or_none (position_from (row_is_for tx) 1 (take (newest tx.id (ids_of rows)) rows)) ∙ up_to_newest tx 1 rows;
     })
@@ -104,28 +104,28 @@ of_front (suc n) (first ∷ ids) zero id here = here
 of_front (suc n) (first ∷ ids) (suc place) id here = of_front n ids place id here
 
 -- the link of a job of an id
-pub link_is : (id : List ℕ) (rows : List Row) (index : JobIndex) (place older : ℕ) → Indexes index (ids_of rows) → slice_get (ids_of rows) place ≡ Some id → slice_get index.older.items place ≡ Some older
+pub link_is : (id : List ℕ) (rows : List JobRow) (index : JobIndex) (place older : ℕ) → Indexes index (ids_of rows) → slice_get (ids_of rows) place ≡ Some id → slice_get index.older.items place ≡ Some older
     → older ≡ newest id (take place (ids_of rows))
 link_is id rows index place older indexed own link =
     same_Some older (newest id (take place (ids_of rows))) (sym link ∙ ap (λ numbers. slice_get numbers place) indexed.older ∙ olders_at [] (ids_of rows) place id own)
 
 -- the link of a job at which a walk stands
-pub link_of : (tx : Tx) (rows : List Row) (index : JobIndex) (place : ℕ) (found : Option ℕ) (older : ℕ) → Indexes index (ids_of rows) → Walks tx rows (suc place) found
+pub link_of : (tx : Tx) (rows : List JobRow) (index : JobIndex) (place : ℕ) (found : Option ℕ) (older : ℕ) → Indexes index (ids_of rows) → Walks tx rows (suc place) found
     → slice_get index.older.items place ≡ Some older → older ≡ newest tx.id (take place (ids_of rows))
 link_of tx rows index place found older indexed walk link =
     link_is tx.id rows index place older indexed (walk.own place refl) link
 
-pub link_below : (tx : Tx) (rows : List Row) (index : JobIndex) (place : ℕ) (found : Option ℕ) (older : ℕ) → Indexes index (ids_of rows) → Walks tx rows (suc place) found
+pub link_below : (tx : Tx) (rows : List JobRow) (index : JobIndex) (place : ℕ) (found : Option ℕ) (older : ℕ) → Indexes index (ids_of rows) → Walks tx rows (suc place) found
     → slice_get index.older.items place ≡ Some older → older ≤ place
 link_below tx rows index place found older indexed walk link =
     let is : older ≡ newest tx.id (take place (ids_of rows)) = link_of tx rows index place found older indexed walk link in
     omega (arith, is, newest_within tx.id (take place (ids_of rows)), front_within place (ids_of rows))
 
 -- a walk goes on
-pub walk_on : (tx : Tx) (rows : List Row) (index : JobIndex) (place : ℕ) (row : Row) (found : Option ℕ) (older : ℕ) → Indexes index (ids_of rows) → Walks tx rows (suc place) found
+pub walk_on : (tx : Tx) (rows : List JobRow) (index : JobIndex) (place : ℕ) (row : JobRow) (found : Option ℕ) (older : ℕ) → Indexes index (ids_of rows) → Walks tx rows (suc place) found
     → slice_get rows place ≡ Some row → slice_get index.older.items place ≡ Some older → Walks tx rows older (cond (row_is_for tx row) (Some (1 + place)) found)
 walk_on tx rows index place row found older indexed walk here link =
-    let test : Row → Bool = row_is_for tx in
+    let test : JobRow → Bool = row_is_for tx in
     let is : older ≡ newest tx.id (take place (ids_of rows)) = link_of tx rows index place found older indexed walk link in
     let below : older ≤ place = link_below tx rows index place found older indexed walk link in
     let same : newest tx.id (ids_of (take place rows)) ≡ older = sym (is ∙ ap (newest tx.id) (ids_front place rows)) in
@@ -144,9 +144,9 @@ walk_on tx rows index place row found older indexed walk here link =
     by None false = refl
     by (Some number) b = refl
 
-pub walk_ends : (tx : Tx) (rows : List Row) (found : Option ℕ) → Walks tx rows 0 found → found ≡ position_from (row_is_for tx) 1 rows
+pub walk_ends : (tx : Tx) (rows : List JobRow) (found : Option ℕ) → Walks tx rows 0 found → found ≡ position_from (row_is_for tx) 1 rows
 walk_ends tx rows found walk = walk.first
 
 -- all jobs have a link
-pub links_all : (rows : List Row) (index : JobIndex) → Indexes index (ids_of rows) → length index.older.items ≡ length rows
-links_all rows index indexed = ap length indexed.older ∙ olders_length [] (ids_of rows) ∙ length-map rows (λ (row : Row). row.tx.value.id)
+pub links_all : (rows : List JobRow) (index : JobIndex) → Indexes index (ids_of rows) → length index.older.items ≡ length rows
+links_all rows index indexed = ap length indexed.older ∙ olders_length [] (ids_of rows) ∙ length-map rows (λ (row : JobRow). row.tx.value.id)

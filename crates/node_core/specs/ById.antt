@@ -1,6 +1,6 @@
 -- Jobs by the ids of their transactions: the number of the newest job with each id, and for each job the number of the one before it with the same id.
 use Rattle.node_core.specs.declared.index.JobIndex.{JobIndex}
-use Rattle.node_core.specs.declared.jobs.Row.{Row}
+use Rattle.node_core.specs.declared.jobs.JobRow.{JobRow}
 use Rattle.node_model.specs.Steps.{Shared}
 use Rattle.proc_syntax.specs.declared.call.Tx.{Tx}
 use Rattle.std.specs.BTreeMap.{get}
@@ -12,7 +12,7 @@ use Rattle.std.specs.Str.{bytes_eq}
 -- ---- by the definition
 
 -- the ids of the transactions of some rows
-abbrev pub ids_of : List Row → List (List ℕ)
+abbrev pub ids_of : List JobRow → List (List ℕ)
 ids_of rows = map (λ row. row.tx.value.id) rows
 
 -- the ids of some transactions

@@ -8,7 +8,7 @@ use Rattle.block_work.specs.declared.verdict.Verdict.{Verdict}
 use Rattle.node_core.specs.Kept.{shown_work}
 use Rattle.node_core.specs.Rows.{row_at}
 use Rattle.node_core.specs.declared.jobs.Record.{Record}
-use Rattle.node_core.specs.declared.jobs.Row.{Row}
+use Rattle.node_core.specs.declared.jobs.JobRow.{JobRow}
 use Rattle.node_core.specs.declared.jobs.Stage.TheVariants.{Done}
 use Rattle.node_core.specs.declared.working.Working.{Working}
 use Rattle.node_model.specs.Decide.{by_run, or_committed}
@@ -27,15 +27,15 @@ pub record CanBeAdded (tables : List TableDef) (work : BlockInWork) (ran : Ran) 
   pub sound : IsVerdictOn tables work.committed.items ran verdict
 
 -- the job of a number is done, and what is recorded of its run can be judged
-pub record IsDone (tables : List TableDef) (rows : List Row) (number : ℕ) : Type 0 where
-  pub row : Row
+pub record IsDone (tables : List TableDef) (rows : List JobRow) (number : ℕ) : Type 0 where
+  pub row : JobRow
   pub recorded : Record
   pub stands : row_at rows number ≡ Some row
   pub done : row.stage ≡ Done recorded
   pub fits : RunFits tables recorded.ran
 
 -- the outcome of a transaction of a block in work by what is recorded of its job's run, on a history
-abbrev pub outcome_by : {number : ℕ} → (tables : List TableDef) → List Stamped → BlockInWork → (rows : List Row) → IsDone tables rows number → Outcome
+abbrev pub outcome_by : {number : ℕ} → (tables : List TableDef) → List Stamped → BlockInWork → (rows : List JobRow) → IsDone tables rows number → Outcome
 outcome_by tables history work rows done =
     or_committed (by_run tables (writes_between done.row.tx.value.height (work.number - 1) history) work.committed.items done.recorded.ran)
 

@@ -1,5 +1,5 @@
 -- The outcome of an id, by what a node keeps.
-use Rattle.block_work.specs.Ids.{place_of}
+use Rattle.block_work.specs.Ids.{place_of_id}
 use Rattle.block_work.specs.declared.ids.IdIndex.{IdIndex}
 use Rattle.node_core.specs.Kept.{outcomes_of}
 use Rattle.node_core.specs.declared.working.Working.{Working}
@@ -26,4 +26,4 @@ told_at blocks work place = item_at (outcomes_at (item_at blocks place.block) wo
 
 -- the outcome at the place that an index has for an id
 abbrev pub outcome_by : IdIndex → List BlockResult → Option Working → List ℕ → Option Outcome
-outcome_by ids blocks work id = option_map (λ (one : Told). one.outcome) (option_and_then (told_at blocks work) (place_of ids id))
+outcome_by ids blocks work id = option_map (λ (one : Told). one.outcome) (option_and_then (told_at blocks work) (place_of_id ids id))

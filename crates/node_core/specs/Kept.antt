@@ -5,7 +5,7 @@ use Rattle.block_work.specs.Chain.{HoldsChain, StoreFits}
 use Rattle.block_work.specs.Ids.{HasFirstPlaces}
 use Rattle.block_work.specs.declared.ids.IdIndex.{IdIndex}
 use Rattle.node_core.specs.declared.jobs.Record as code
-use Rattle.node_core.specs.declared.jobs.Row.{Row}
+use Rattle.node_core.specs.declared.jobs.JobRow.{JobRow}
 use Rattle.node_core.specs.declared.jobs.Stage.TheVariants as stage
 use Rattle.node_core.specs.declared.jobs.Stage.{Stage}
 use Rattle.node_core.specs.declared.working.Working.{Working}
@@ -40,12 +40,12 @@ IsStageOf tables told (stage.Done recorded) job = (job.status ≡ model.Done) ×
 IsStageOf tables told stage.Taken job = (job.status ≡ model.Done) × (list_any (bytes_eq job.tx.id) told ≡ true)
 IsStageOf tables told stage.Dropped job = job.status ≡ model.Dropped
 
-pub record IsRowOf (tables : List TableDef) (told : List (List ℕ)) (row : Row) (job : Job) : Type 0 where
+pub record IsRowOf (tables : List TableDef) (told : List (List ℕ)) (row : JobRow) (job : Job) : Type 0 where
   pub tx : row.tx.value ≡ job.tx
   pub stage : IsStageOf tables told row.stage job
 
 -- rows are those of jobs, in order
-abbrev pub AreRowsOf : List TableDef → List (List ℕ) → List Row → List Job → Type 0
+abbrev pub AreRowsOf : List TableDef → List (List ℕ) → List JobRow → List Job → Type 0
 AreRowsOf tables told [] [] = Unit {0}
 AreRowsOf tables told [] (job ∷ jobs) = ⊥
 AreRowsOf tables told (row ∷ rows) [] = ⊥
@@ -91,7 +91,7 @@ pub record Kept : Type 0 where
   pub results : List BlockResult
   pub ids : IdIndex
   pub work : Option Working
-  pub rows : List Row
+  pub rows : List JobRow
   pub journal : List Entry
 
 abbrev pub world_in : Kept → World

@@ -3,7 +3,7 @@ use Rattle.node_core.specs.Core.{Core, results_in, world_of}
 use Rattle.node_core.specs.declared.answers.Looked.TheVariants as looked
 use Rattle.node_core.specs.declared.answers.Looked.{Looked}
 use Rattle.node_model.specs.Fold.{all_rows}
-use Rattle.node_model.specs.History.{Sealed, snapshot}
+use Rattle.node_model.specs.History.{SealedBlock, snapshot}
 use Rattle.node_model.specs.Journals.{delivered}
 use Rattle.node_model.specs.World.{BlockInWork, World}
 use Rattle.node_model.specs.declared.outcome.Outcome.{Outcome}
@@ -31,7 +31,7 @@ told_in_work (Some work) = work.done.outcomes
 
 -- all that was decided, in order
 abbrev pub told_of : World → List Told
-told_of w = flat_map (λ (block : Sealed). block.outcomes) w.sealed ++ told_in_work w.work
+told_of w = flat_map (λ (block : SealedBlock). block.outcomes) w.sealed ++ told_in_work w.work
 
 -- the outcome of the first decided transaction with an id
 abbrev pub first_outcome : List ℕ → List Told → Option Outcome

@@ -1,12 +1,12 @@
 -- The seal of the block in work, by what a node keeps.
 use Rattle.block_work.specs.Block.{IsConsistent}
-use Rattle.block_work.specs.Ids.{place_of}
+use Rattle.block_work.specs.Ids.{place_of_id}
 use Rattle.block_work.specs.declared.ids.IdIndex.{IdIndex}
 use Rattle.node_core.specs.Kept.{shown_work}
 use Rattle.node_core.specs.Rows.{at_stage, is_open}
 use Rattle.node_core.specs.declared.answers.Sealed.TheVariants as sealed
 use Rattle.node_core.specs.declared.answers.Sealed.{Sealed}
-use Rattle.node_core.specs.declared.jobs.Row.{Row}
+use Rattle.node_core.specs.declared.jobs.JobRow.{JobRow}
 use Rattle.node_core.specs.declared.jobs.Stage.TheVariants as stage
 use Rattle.node_core.specs.declared.working.Working.{Working}
 use Rattle.node_model.specs.World.{decided, due}
@@ -29,13 +29,13 @@ pub record CanJoin (tables : List TableDef) (height : ℕ) (working : Working) :
   pub consistent : IsConsistent tables working.done
 
 -- a job that waits or is done is dropped
-abbrev pub drop_open : Row → Row
+abbrev pub drop_open : JobRow → JobRow
 drop_open row = cond (is_open row.stage) (at_stage stage.Dropped row) row
 
 -- and where its id is among some
-abbrev pub drop_among : List (List ℕ) → Row → Row
+abbrev pub drop_among : List (List ℕ) → JobRow → JobRow
 drop_among ids row = cond (is_open row.stage && list_any (bytes_eq row.tx.value.id) ids) (at_stage stage.Dropped row) row
 
 -- and where its id is settled: it has a place
-abbrev pub drop_settled : IdIndex → Row → Row
-drop_settled ids row = cond (is_open row.stage && is_some (place_of ids row.tx.value.id)) (at_stage stage.Dropped row) row
+abbrev pub drop_settled : IdIndex → JobRow → JobRow
+drop_settled ids row = cond (is_open row.stage && is_some (place_of_id ids row.tx.value.id)) (at_stage stage.Dropped row) row

@@ -2,7 +2,7 @@
 
 ghost use Rattle.std.specs.Prelude.{◌≡◌, ◌<◌, ◌≤◌, ◌+◌, ◌++◌, ◌∷◌, IfOk, IsSome, List, OnErr, OnOk, Some, [], length, vec_capacity, vec_len};
 ghost use Rattle.std.specs.Option.{option_map};
-ghost use Rattle.block_work.specs.Block.{HasRoom, IsConsistent, IsSameWork, work_of, work_with};
+ghost use Rattle.block_work.specs.Block.{HasRoomForOne, IsConsistent, IsSameWork, work_of, work_with};
 ghost use Rattle.block_work.specs.Causes.{IsCause, IsVerdictOn, outcome_of};
 ghost use Rattle.block_work.specs.Chain.{StoreFits};
 ghost use Rattle.block_work.specs.Ids.{AddsPlace, SamePlaces};
@@ -21,7 +21,7 @@ ghost use Rattle.rel_base.specs.declared.schema.TableDef.{TableDef};
 use crate::answers::Decided;
 use crate::claiming::due_tx;
 use crate::due::{Due, due_by};
-use crate::jobs::{Jobs, Row, Stage};
+use crate::jobs::{JobRow, Jobs, Stage};
 use crate::node::NodeCore;
 use crate::room::make_room;
 use crate::working::Working;
@@ -49,7 +49,7 @@ fn make_ready(alloc: Global, ids: &mut IdIndex, working: &mut Working) -> Result
     ensures same { IsSameWork working.old.done working.new.done }
     ensures consistent { (tables : List TableDef) → IsConsistent tables working.old.done → IsConsistent tables working.new.done }
     ensures id { IfOk result (λ id. option_map (λ tx. tx.id) (due (shown_work working.old)) ≡ Some id) }
-    ensures room { OnOk result (HasRoom working.new.done) }
+    ensures room { OnOk result (HasRoomForOne working.new.done) }
     ensures added { IfOk result (λ id. AddsPlace ids.old ids.new id
         (record { block = working.old.done.number; pos = length working.old.done.outcomes.items + 1 })) }
     ensures same_places { OnErr result (SamePlaces ids.old ids.new) }
@@ -95,7 +95,7 @@ fn abort_due(
 // Adds what was decided of a transaction by its run. Takes no memory.
 fn add_decided(work: &mut BlockInWork, id: Id, ran: Ran, verdict: Verdict)
     requires few { length work.old.outcomes.items < 1024 }
-    requires room { HasRoom work.old }
+    requires room { HasRoomForOne work.old }
     requires sound { (tables : List TableDef) × CanBeAdded tables work.old ran verdict }
     ensures number { work.new.number ≡ work.old.number }
     ensures time { work.new.time ≡ work.old.time }
@@ -127,7 +127,7 @@ fn judge_job<V: Versions>(
 {
     match jobs.get(number) {
         Some(
-            Row {
+            JobRow {
                 tx,
                 stage: Stage::Done(recorded),
             },

@@ -6,7 +6,7 @@ ghost use Rattle.std.specs.Str.{bytes_eq};
 ghost use Rattle.block_work.specs.Causes.{early_by};
 ghost use Rattle.node_core.specs.Fresh.{HasIds, fresh_in};
 ghost use Rattle.node_core.specs.Rows.{shown_all};
-ghost use Rattle.node_model.specs.World.{number_of};
+ghost use Rattle.node_model.specs.World.{number_of_job};
 
 use crate::answers::Delivered;
 use crate::arriving::share_tx;
@@ -71,7 +71,7 @@ fn repeats(alloc: Global, before: &mut BTreeSet<Id>, tx: &Tx) -> Result<bool, No
 
 // Whether a transaction of the block of a number, whose id is known or not, has a cause that is known without a run, or a job.
 fn needs_none(app: &Checked, jobs: &Jobs, number: u64, known: bool, tx: &Tx) -> bool
-    ensures { result ≡ (is_some (early_by known app.now.app number tx.now) || is_some (number_of tx.now (shown_all jobs.now))) }
+    ensures { result ≡ (is_some (early_by known app.now.app number tx.now) || is_some (number_of_job tx.now (shown_all jobs.now))) }
 {
     early_cause(app, known, number, tx).is_some() || jobs.find(tx).is_some()
 }

@@ -2,13 +2,13 @@
 
 ghost use Rattle.std.specs.Prelude.{◌≡◌, ◌<◌, ◌≤◌, ◌+◌, ◌%◌, ◌^◌, ◌++◌, ◌∷◌, IsSome, IsSomeAnd, OnErr, OnOk, Some, [], length, map, slice_get, true};
 ghost use Rattle.std.specs.Option.{option_copied, option_map};
-ghost use Rattle.node_model.specs.World.{eligible, is_held, is_waiting, number_of};
+ghost use Rattle.node_model.specs.World.{eligible, is_held, is_waiting, number_of_job};
 
 use crate::bounds::WaitBounds;
 use crate::dropping::drop_all;
 use crate::index::{JobIndex, hold_all};
+use crate::job_rows::{change_stage, is_waiting, one_held, push_row, push_rows};
 use crate::lookup::find_number;
-use crate::rows::{change_stage, is_waiting, one_held, push_row, push_rows};
 use proc_syntax::Tx;
 use proc_syntax::run::Ran;
 use rel_base::NoMemory;
@@ -41,7 +41,7 @@ pub enum Stage {
 
 /// A job: its transaction, and how far it is.
 #[derive(Drop)]
-pub struct Row {
+pub struct JobRow {
     pub tx: Arc<Tx>,
     pub stage: Stage,
 }
@@ -49,7 +49,7 @@ pub struct Row {
 /// The jobs of a node, numbered from 1 in the order in which they came about. Contracts see the list of their rows.
 #[derive(Drop)]
 pub struct Jobs {
-    rows: Vec<Row>,
+    rows: Vec<JobRow>,
     held: usize,
     // Where a claim looks for a job.
     bounds: WaitBounds,
@@ -58,9 +58,9 @@ pub struct Jobs {
 
 impl Model for Jobs {
     ghost use Rattle.std.specs.Prelude.{◌≡◌, List};
-    ghost use Rattle.node_core.specs.declared.jobs.Row.{Row};
+    ghost use Rattle.node_core.specs.declared.jobs.JobRow.{JobRow};
 
-    ghost Value = { List Row };
+    ghost Value = { List JobRow };
 
     ghost use Rattle.node_core.specs.JobTable.{IsTable};
 
@@ -103,7 +103,7 @@ impl Jobs {
 
     /// The number of a transaction's job that is not dropped.
     pub fn find(&self, tx: &Tx) -> Option<u64>
-        ensures { result ≡ number_of tx.now (shown_all self.now) }
+        ensures { result ≡ number_of_job tx.now (shown_all self.now) }
     {
         find_number(self.rows.as_slice(), &self.index, tx)
     }
@@ -122,7 +122,7 @@ impl Jobs {
     }
 
     /// The job of a number.
-    pub fn get(&self, number: u64) -> Option<&Row>
+    pub fn get(&self, number: u64) -> Option<&JobRow>
         ensures { option_copied result ≡ row_at self.now number }
     {
         match number.checked_sub(1) {

@@ -2,7 +2,7 @@
 
 ghost use Rattle.std.specs.Prelude.{◌≡◌, ◌||◌, cond, length};
 ghost use Rattle.std.specs.Option.{is_some};
-ghost use Rattle.block_work.specs.Ids.{place_of};
+ghost use Rattle.block_work.specs.Ids.{place_of_id};
 ghost use Rattle.node_core.specs.Kept.{up_to};
 ghost use Rattle.node_core.specs.Known.{arrival, is_in_block};
 ghost use Rattle.node_core.specs.Rows.{shown_all};
@@ -17,7 +17,7 @@ use rel_base::Id;
 
 /// The number of the block in which an id first stands, where that is not above a height.
 pub fn settled_in(ids: &IdIndex, height: u64, id: &Id) -> Option<u64>
-    ensures { result ≡ up_to height (place_of ids.now id.now) }
+    ensures { result ≡ up_to height (place_of_id ids.now id.now) }
 {
     match ids.find(id) {
         None => None,

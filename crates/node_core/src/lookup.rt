@@ -7,8 +7,8 @@ ghost use Rattle.node_core.specs.Rows.{row_is_for};
 ghost use Rattle.node_model.specs.World.{same_tx};
 
 use crate::index::JobIndex;
-use crate::jobs::Row;
-use crate::rows::is_live;
+use crate::job_rows::is_live;
+use crate::jobs::JobRow;
 use proc_syntax::Tx;
 
 /// Whether two transactions are the same in all parts.
@@ -22,14 +22,14 @@ pub fn same_tx(one: &Tx, two: &Tx) -> bool
 }
 
 // Whether a job is that of a transaction.
-fn is_for(row: &Row, tx: &Tx) -> bool
+fn is_for(row: &JobRow, tx: &Tx) -> bool
     ensures { result ≡ row_is_for tx.now row.now }
 {
     is_live(&row.stage) && same_tx(&row.tx, tx)
 }
 
 // The number of the job at a place, where it is that of a transaction, and else what was found.
-fn found_at(row: &Row, place: usize, tx: &Tx, found: Option<u64>) -> Option<u64>
+fn found_at(row: &JobRow, place: usize, tx: &Tx, found: Option<u64>) -> Option<u64>
     requires { place < 2 ^ 63 }
     ensures { result ≡ cond (row_is_for tx.now row.now) (Some (place + 1)) found }
 {
@@ -40,7 +40,7 @@ fn found_at(row: &Row, place: usize, tx: &Tx, found: Option<u64>) -> Option<u64>
 }
 
 /// The number of a transaction's job, by a walk over the jobs of its id, from the newest back.
-pub fn find_number(rows: &[Row], index: &JobIndex, tx: &Tx) -> Option<u64>
+pub fn find_number(rows: &[JobRow], index: &JobIndex, tx: &Tx) -> Option<u64>
     requires { Indexes index.now (ids_of rows.now) }
     ensures { result ≡ position_from (row_is_for tx.now) 1 rows.now }
 {

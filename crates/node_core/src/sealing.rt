@@ -5,7 +5,7 @@ ghost use Rattle.std.specs.Option.{IsSomeAnd};
 ghost use Rattle.block_work.specs.Block.{sealed_of};
 ghost use Rattle.block_work.specs.Chain.{HoldsChain, StoreFits};
 ghost use Rattle.node_core.specs.Over.{CanJoin, not_sealed};
-ghost use Rattle.node_model.specs.History.{Sealed as SealedBlock};
+ghost use Rattle.node_model.specs.History.{SealedBlock};
 ghost use Rattle.proc_syntax.specs.Declaring.{tables_of};
 
 use crate::answers::Sealed;

@@ -1,7 +1,7 @@
 -- The outcome of a transaction: the first cause that applies, in the order of the definitions below, or committed.
 -- (The flow is that of Nathan and others, PVLDB 12(11), 2019; the causes and their order are this project's own.)
 use Rattle.node_model.specs.Danger.{danger}
-use Rattle.node_model.specs.History.{Sealed, history_of, ids_of, ids_told, snapshot, time_at}
+use Rattle.node_model.specs.History.{SealedBlock, history_of, ids_of, ids_told, snapshot, time_at}
 use Rattle.node_model.specs.declared.danger.Danger.{Danger}
 use Rattle.node_model.specs.declared.outcome.Outcome.{Outcome}
 use Rattle.node_model.specs.declared.outcome.Outcome.TheVariants as outcome
@@ -96,11 +96,11 @@ abbrev pub danger_outcome : Option Danger → Option Outcome
 danger_outcome found = option_map outcome.Danger found
 
 -- the run of a transaction: on the tables of its height, at the time of that height's block
-abbrev pub run_at : App → List Sealed → Tx → Ran
+abbrev pub run_at : App → List SealedBlock → Tx → Ran
 run_at app chain tx = run app tx (time_at tx.height chain) (snapshot tx.height chain)
 
 -- the writes that were committed after a transaction's height, before the block of a number
-abbrev pub writes_since : List Sealed → ℕ → Tx → List Stamped
+abbrev pub writes_since : List SealedBlock → ℕ → Tx → List Stamped
 writes_since chain number tx = writes_between tx.height (number - 1) (history_of chain)
 
 -- the causes that its run shows
@@ -121,10 +121,10 @@ or_committed (Some cause) = cause
 
 -- the outcome of a transaction of the block of a number, on the results of the blocks before, on the outcomes and the
 -- committed transactions of its block so far, and by a run
-abbrev pub decide_by : App → List Sealed → ℕ → List Told → List Committed → Tx → Ran → Outcome
+abbrev pub decide_by : App → List SealedBlock → ℕ → List Told → List Committed → Tx → Ran → Outcome
 decide_by app chain number outcomes committed tx ran = or_committed (option_or (early app (ids_of chain ++ ids_told outcomes) number tx)
     (by_run (tables_of app) (writes_since chain number tx) committed ran))
 
 -- by its run on the tables of its height
-abbrev pub decide : App → List Sealed → ℕ → List Told → List Committed → Tx → Outcome
+abbrev pub decide : App → List SealedBlock → ℕ → List Told → List Committed → Tx → Outcome
 decide app chain number outcomes committed tx = decide_by app chain number outcomes committed tx (run_at app chain tx)

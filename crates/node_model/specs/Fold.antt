@@ -1,7 +1,7 @@
 -- The fold of a chain of blocks: each transaction is decided on what the ones before it made.
 use Rattle.node_model.specs.BlockCode.{digest_of}
 use Rattle.node_model.specs.Decide.{decide_by, run_at}
-use Rattle.node_model.specs.History.{Sealed, placed_of, snapshot}
+use Rattle.node_model.specs.History.{SealedBlock, placed_of, snapshot}
 use Rattle.node_model.specs.Order.{serial_order}
 use Rattle.node_model.specs.declared.outcome.Outcome.{Outcome}
 use Rattle.node_model.specs.declared.outcome.Outcome.TheVariants as outcome
@@ -35,35 +35,35 @@ join_committed committed pos ran outcome.Committed = committed ++ record { pos =
 join_committed committed pos ran _ = committed
 
 -- the next transaction of the block of a number is decided, by a run
-abbrev pub work_by : App → List Sealed → ℕ → Work → Tx → Ran → Work
+abbrev pub work_by : App → List SealedBlock → ℕ → Work → Tx → Ran → Work
 work_by app chain number work tx ran = let found : Outcome = decide_by app chain number work.outcomes work.committed tx ran in record {
   outcomes = work.outcomes ++ record { id = tx.id; outcome = found } ∷ [];
   committed = join_committed work.committed (length work.outcomes + 1) ran found;
 }
 
 -- by its run on the tables of its height
-abbrev pub work_on : App → List Sealed → ℕ → Work → Tx → Work
+abbrev pub work_on : App → List SealedBlock → ℕ → Work → Tx → Work
 work_on app chain number work tx = work_by app chain number work tx (run_at app chain tx)
 
 -- the transactions of a block are decided in order
-abbrev pub work_through : App → List Sealed → ℕ → Work → List Tx → Work
+abbrev pub work_through : App → List SealedBlock → ℕ → Work → List Tx → Work
 work_through app chain number work [] = work
 work_through app chain number work (tx ∷ rest) = work_through app chain number (work_on app chain number work tx) rest
 
-abbrev pub sealed_as : Block → Work → Sealed
+abbrev pub sealed_as : Block → Work → SealedBlock
 sealed_as block work = record { number = block.number; time = block.time; outcomes = work.outcomes; committed = work.committed }
 
 -- a block on the results of the blocks before
-abbrev pub seal : App → List Sealed → Block → Sealed
+abbrev pub seal : App → List SealedBlock → Block → SealedBlock
 seal app chain block = sealed_as block (work_through app chain block.number no_work block.txs)
 
 -- blocks in order, on the results of those before
-abbrev pub fold_from : App → List Sealed → List Block → List Sealed
+abbrev pub fold_from : App → List SealedBlock → List Block → List SealedBlock
 fold_from app chain [] = chain
 fold_from app chain (block ∷ rest) = fold_from app (chain ++ seal app chain block ∷ []) rest
 
 -- the results of a chain of blocks
-abbrev pub fold : App → List Block → List Sealed
+abbrev pub fold : App → List Block → List SealedBlock
 fold app blocks = fold_from app [] blocks
 
 -- ---- what a node reports
@@ -73,7 +73,7 @@ abbrev pub no_digest : List ℕ
 no_digest = replicate 32 0
 
 -- what is told of a block, with a digest
-abbrev pub result_with : List TableDef → Sealed → List ℕ → BlockResult
+abbrev pub result_with : List TableDef → SealedBlock → List ℕ → BlockResult
 result_with tables block digest = record {
   number = block.number;
   time = block.time;
@@ -84,16 +84,16 @@ result_with tables block digest = record {
 }
 
 -- the result of a block, where the block before has a digest; the block's own digest has no part in its code
-abbrev pub block_result : List TableDef → List ℕ → Sealed → BlockResult
+abbrev pub block_result : List TableDef → List ℕ → SealedBlock → BlockResult
 block_result tables previous block = result_with tables block (digest_of previous (result_with tables block no_digest))
 
 -- the results of blocks, each with the digest of the one before
-abbrev pub results_from : List TableDef → List ℕ → List Sealed → List BlockResult
+abbrev pub results_from : List TableDef → List ℕ → List SealedBlock → List BlockResult
 results_from tables previous [] = []
 results_from tables previous (block ∷ rest) = block_result tables previous block ∷ results_from tables (block_result tables previous block).digest rest
 
 -- the results of a chain of blocks
-abbrev pub results_of : List TableDef → List Sealed → List BlockResult
+abbrev pub results_of : List TableDef → List SealedBlock → List BlockResult
 results_of tables chain = results_from tables no_digest chain
 
 -- the digest of the last of some results, where the block before them has one
@@ -102,8 +102,8 @@ digest_after previous [] = previous
 digest_after previous (block ∷ rest) = digest_after block.digest rest
 
 -- the digest of the last block of a chain, or the one before the first block
-abbrev pub last_digest : List TableDef → List Sealed → List ℕ
-last_digest tables chain = digest_after no_digest (results_of tables chain)
+abbrev pub chain_digest : List TableDef → List SealedBlock → List ℕ
+chain_digest tables chain = digest_after no_digest (results_of tables chain)
 
 -- the rows of a table in key order
 abbrev pub table_rows : Tables → ℕ → TableRows

@@ -6,7 +6,7 @@ use Rattle.rel_base.specs.Tables.{Stamped, Tables, tables_at}
 use Rattle.rel_base.specs.declared.access.Placed.{Placed}
 
 -- a block that was decided: its outcomes in order, and its committed transactions with their reads and writes
-pub record Sealed : Type 0 where
+pub record SealedBlock : Type 0 where
   pub number : ℕ
   pub time : ℤ
   pub outcomes : List Told
@@ -18,11 +18,11 @@ placed_of [] = []
 placed_of (done ∷ rest) = map (λ write. record { pos = done.pos; write = write }) done.writes ++ placed_of rest
 
 -- the writes of a block, each with the block's number
-abbrev pub stamped_of : Sealed → List Stamped
+abbrev pub stamped_of : SealedBlock → List Stamped
 stamped_of block = map (λ placed. (block.number, placed)) (placed_of block.committed)
 
 -- all committed writes of a chain, in order of their blocks
-abbrev pub history_of : List Sealed → List Stamped
+abbrev pub history_of : List SealedBlock → List Stamped
 history_of [] = []
 history_of (block ∷ rest) = stamped_of block ++ history_of rest
 
@@ -31,15 +31,15 @@ abbrev pub ids_told : List Told → List (List ℕ)
 ids_told outcomes = map (λ told. told.id) outcomes
 
 -- the ids that stand in a chain
-abbrev pub ids_of : List Sealed → List (List ℕ)
+abbrev pub ids_of : List SealedBlock → List (List ℕ)
 ids_of [] = []
 ids_of (block ∷ rest) = ids_told block.outcomes ++ ids_of rest
 
 -- the tables after the block of a height
-abbrev pub snapshot : ℕ → List Sealed → Tables
+abbrev pub snapshot : ℕ → List SealedBlock → Tables
 snapshot height chain = tables_at height (history_of chain)
 
 -- the time of the block of a height: 0 at height 0, before the first block
-abbrev pub time_at : ℕ → List Sealed → ℤ
+abbrev pub time_at : ℕ → List SealedBlock → ℤ
 time_at height [] = pos 0
 time_at height (block ∷ rest) = cond (block.number == height) block.time (time_at height rest)

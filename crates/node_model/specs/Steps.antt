@@ -2,9 +2,9 @@
 -- (The events and their answers are this project's own; the flow is that of Nathan and others, PVLDB 12(11), 2019.)
 use Rattle.node_model.specs.Decide.{early}
 use Rattle.node_model.specs.Events.{after, hit_since, is_settled, next_read, settled_in, with_sealed}
-use Rattle.node_model.specs.Fold.{last_digest}
+use Rattle.node_model.specs.Fold.{chain_digest}
 use Rattle.node_model.specs.History.{ids_of, ids_told}
-use Rattle.node_model.specs.World.{BlockInWork, Holds, Job, World, decided, due, eligible, holder_of, is_done, is_held_by, is_waiting, job_at, job_of, number_of}
+use Rattle.node_model.specs.World.{BlockInWork, Holds, Job, World, decided, due, eligible, holder_of, is_done, is_held_by, is_waiting, job_at, job_of, number_of_job}
 use Rattle.node_model.specs.declared.journal.Event.TheVariants.{Arrive, Claim, Commit, Deliver, Finish, Read, Release, Seal}
 use Rattle.node_model.specs.declared.journal.Event.{Event}
 use Rattle.node_model.specs.declared.journal.Pick.TheVariants.{Nth, Due}
@@ -98,7 +98,7 @@ early_cause app w work tx = early app (ids_of w.sealed ++ ids_told work.done.out
 -- the number of a transaction's job, where that waits
 abbrev pub waiting_number : Tx → List Job → Option Job → Option ℕ
 waiting_number tx jobs None = None
-waiting_number tx jobs (Some job) = cond (is_waiting job.status) (number_of tx jobs) None
+waiting_number tx jobs (Some job) = cond (is_waiting job.status) (number_of_job tx jobs) None
 
 -- the number of the job of the first undecided transaction, where that has no early cause and its job waits
 abbrev pub due_number : App → World → BlockInWork → Option Tx → Option ℕ
@@ -164,7 +164,7 @@ commits app w (Some work) = commits_due app w work (due work)
 
 abbrev pub seals_due : App → World → BlockInWork → Option Tx → Reply
 seals_due app w work (Some tx) = (NotAll (decided work + 1), None)
-seals_due app w work None = (Digest work.block.number (last_digest (tables_of app) (with_sealed w.sealed (Some work))), Some (Seal work.block.number))
+seals_due app w work None = (Digest work.block.number (chain_digest (tables_of app) (with_sealed w.sealed (Some work))), Some (Seal work.block.number))
 
 abbrev pub seals : App → World → Option BlockInWork → Reply
 seals app w None = (NoBlock (length w.sealed), None)

@@ -2,7 +2,7 @@
 -- (Transactions that run before their block is known, and blocks whose transactions are decided one after another, are of Nathan and
 -- others, PVLDB 12(11), 2019; jobs and their records are this project's own.)
 use Rattle.node_model.specs.Fold.{Work}
-use Rattle.node_model.specs.History.{Sealed}
+use Rattle.node_model.specs.History.{SealedBlock}
 use Rattle.node_model.specs.declared.journal.Entry.{Entry}
 use Rattle.proc_syntax.specs.declared.call.Block.{Block}
 use Rattle.proc_syntax.specs.declared.call.Tx.{Tx}
@@ -16,11 +16,11 @@ use Rattle.std.specs.Str.{bytes_eq}
 -- ---- jobs
 
 -- a job waits, is held by an actor, is done, or is dropped
-pub data Status : Type 0 where
-  Waiting : Status
-  Held : ℕ → Status
-  Done : Status
-  Dropped : Status
+pub data JobStatus : Type 0 where
+  Waiting : JobStatus
+  Held : ℕ → JobStatus
+  Done : JobStatus
+  Dropped : JobStatus
 
 -- What is recorded of a job's run: the reads that it made so far, with their rows, and once it is done its writes and its end; and
 -- whether it was cut short, after a read that is late.
@@ -31,42 +31,42 @@ pub record Record : Type 0 where
 -- the transaction whose run is the job
 pub record Job : Type 0 where
   pub tx : Tx
-  pub status : Status
+  pub status : JobStatus
   pub recorded : Record
 
-abbrev pub is_waiting : Status → Bool
+abbrev pub is_waiting : JobStatus → Bool
 is_waiting Waiting = true
 is_waiting (Held actor) = false
 is_waiting Done = false
 is_waiting Dropped = false
 
-abbrev pub is_held : Status → Bool
+abbrev pub is_held : JobStatus → Bool
 is_held Waiting = false
 is_held (Held actor) = true
 is_held Done = false
 is_held Dropped = false
 
-abbrev pub is_done : Status → Bool
+abbrev pub is_done : JobStatus → Bool
 is_done Waiting = false
 is_done (Held actor) = false
 is_done Done = true
 is_done Dropped = false
 
 -- a job that is not dropped
-abbrev pub is_live : Status → Bool
+abbrev pub is_live : JobStatus → Bool
 is_live Waiting = true
 is_live (Held actor) = true
 is_live Done = true
 is_live Dropped = false
 
 -- the actor that holds a job
-abbrev pub holder_of : Status → Option ℕ
+abbrev pub holder_of : JobStatus → Option ℕ
 holder_of Waiting = None
 holder_of (Held actor) = Some actor
 holder_of Done = None
 holder_of Dropped = None
 
-abbrev pub is_held_by : ℕ → Status → Bool
+abbrev pub is_held_by : ℕ → JobStatus → Bool
 is_held_by actor Waiting = false
 is_held_by actor (Held holder) = holder == actor
 is_held_by actor Done = false
@@ -110,8 +110,8 @@ change_job change jobs (suc place) = change_place change jobs place
 abbrev pub job_of : Tx → List Job → Option Job
 job_of tx jobs = find (is_for tx) jobs
 
-abbrev pub number_of : Tx → List Job → Option ℕ
-number_of tx jobs = position_from (is_for tx) 1 jobs
+abbrev pub number_of_job : Tx → List Job → Option ℕ
+number_of_job tx jobs = position_from (is_for tx) 1 jobs
 
 -- a job waits, and the tables of its height are there
 abbrev pub is_eligible : ℕ → Job → Bool
@@ -129,7 +129,7 @@ pub record BlockInWork : Type 0 where
   pub done : Work
 
 pub record World : Type 0 where
-  pub sealed : List Sealed
+  pub sealed : List SealedBlock
   pub work : Option BlockInWork
   pub jobs : List Job
   pub journal : List Entry

@@ -13,13 +13,13 @@ use Rattle.block_work.specs.declared.block.BlockInWork.{BlockInWork}
 use Rattle.block_work.specs.declared.ids.IdIndex.{IdIndex}
 use Rattle.node_model.specs.Decide.{by_run, or_committed, run_at, writes_since}
 use Rattle.node_model.specs.Fold.{Work, work_on}
-use Rattle.node_model.specs.History.{Sealed, history_of, ids_of, ids_told, time_at}
+use Rattle.node_model.specs.History.{SealedBlock, history_of, ids_of, ids_told, time_at}
 use Rattle.node_model.specs.declared.outcome.Outcome.TheVariants as outcome
 use Rattle.node_model.specs.declared.outcome.Outcome.{Outcome}
 use Rattle.node_model.specs.declared.result.Told.{Told}
 use Rattle.plain_node.specs.Deciding.{IsDecision, with_decided}
-use Rattle.plain_node.specs.declared.decide.Decided.TheVariants.{Aborts, Commits}
-use Rattle.plain_node.specs.declared.decide.Decided.{Decided}
+use Rattle.plain_node.specs.declared.decide.TxDecision.TheVariants.{Aborts, Commits}
+use Rattle.plain_node.specs.declared.decide.TxDecision.{TxDecision}
 use Rattle.proc_syntax.specs.Declaring.{tables_of}
 use Rattle.proc_syntax.specs.Run.{no_run, run}
 use Rattle.proc_syntax.specs.declared.call.Tx.{Tx}
@@ -37,7 +37,7 @@ same_abort work id ran other cause is = λ i. record {
 }
 
 -- where a cause is known without a run, it decides
-pub early_decides : (app : App) (sealed : List Sealed) (number : ℕ) (work : Work) (tx : Tx) (known : Bool) (cause : Outcome) → Some cause ≡ early_by known app number tx → IsCause cause
+pub early_decides : (app : App) (sealed : List SealedBlock) (number : ℕ) (work : Work) (tx : Tx) (known : Bool) (cause : Outcome) → Some cause ≡ early_by known app number tx → IsCause cause
     → known ≡ list_any (bytes_eq tx.id) (ids_of sealed ++ ids_told work.outcomes) → work_with work tx.id no_run cause ≡ work_on app sealed number work tx
 early_decides app sealed number work tx known cause is aborts stands =
     same_abort work tx.id no_run (run_at app sealed tx) cause aborts
@@ -45,7 +45,7 @@ early_decides app sealed number work tx known cause is aborts stands =
     (is ∙ ap (λ known. early_by known app number tx) stands)
 
 -- else its run does
-pub run_decides : (app : App) (sealed : List Sealed) (number : ℕ) (work : Work) (tx : Tx) (known : Bool) → None ≡ early_by known app number tx
+pub run_decides : (app : App) (sealed : List SealedBlock) (number : ℕ) (work : Work) (tx : Tx) (known : Bool) → None ≡ early_by known app number tx
     → known ≡ list_any (bytes_eq tx.id) (ids_of sealed ++ ids_told work.outcomes)
     → work_with work tx.id (run_at app sealed tx) (or_committed (by_run (tables_of app) (writes_since sealed number tx) work.committed (run_at app sealed tx))) ≡ work_on app sealed number work tx
 run_decides app sealed number work tx known none stands =
@@ -53,7 +53,7 @@ run_decides app sealed number work tx known none stands =
     (none ∙ ap (λ known. early_by known app number tx) stands)
 
 -- what a verdict on a run comes to is what the definition decides
-module _ (app : App) (sealed : List Sealed) (history : List Stamped) (number : ℕ) (work : Work) (tx : Tx) (ran : Ran) (own : ran ≡ run_at app sealed tx) (writes : history ≡ history_of sealed) where
+module _ (app : App) (sealed : List SealedBlock) (history : List Stamped) (number : ℕ) (work : Work) (tx : Tx) (ran : Ran) (own : ran ≡ run_at app sealed tx) (writes : history ≡ history_of sealed) where
   pub commit_judged : (found : Outcome) → found ≡ or_committed (by_run (tables_of app) (writes_between tx.height (number - 1) history) work.committed ran)
       → work_with work tx.id ran found
       ≡ work_with work tx.id (run_at app sealed tx) (or_committed (by_run (tables_of app) (writes_since sealed number tx) work.committed (run_at app sealed tx)))
@@ -69,7 +69,7 @@ module _ (app : App) (sealed : List Sealed) (history : List Stamped) (number : �
 -- ---- the block in work
 
 -- a decision stays one where the block in work gets room
-pub decision_stays : (tables : List TableDef) (old new : BlockInWork) (decided : Decided) → IsSameWork old new → IsConsistent tables new → IsDecision tables old decided → IsDecision tables new decided
+pub decision_stays : (tables : List TableDef) (old new : BlockInWork) (decided : TxDecision) → IsSameWork old new → IsConsistent tables new → IsDecision tables old decided → IsDecision tables new decided
 decision_stays tables old new (Commits ran edges) same consistent can = record {
   consistent = consistent;
   fits = can.fits;
@@ -81,22 +81,22 @@ same_work : (old new : BlockInWork) → IsSameWork old new → work_of new ≡ w
 same_work old new same = λ i. record { outcomes = same.outcomes i; committed = same.committed i }
 
 -- the outcome that was decided
-abbrev pub found_by : Decided → Outcome
+abbrev pub found_by : TxDecision → Outcome
 found_by (Commits ran edges) = outcome.Committed
 found_by (Aborts cause) = cause
 
-outcomes_with : (work : Work) (id : List ℕ) (decided : Decided) → (with_decided work id decided).outcomes ≡ work.outcomes ++ record { id = id; outcome = found_by decided } ∷ []
+outcomes_with : (work : Work) (id : List ℕ) (decided : TxDecision) → (with_decided work id decided).outcomes ≡ work.outcomes ++ record { id = id; outcome = found_by decided } ∷ []
 outcomes_with work id (Commits ran edges) = refl
 outcomes_with work id (Aborts cause) = refl
 
 -- with what was decided, the block in work has one outcome more
-pub one_more : (old reserved new : BlockInWork) (id : List ℕ) (decided : Decided) → IsSameWork old reserved → work_of new ≡ with_decided (work_of reserved) id decided
+pub one_more : (old reserved new : BlockInWork) (id : List ℕ) (decided : TxDecision) → IsSameWork old reserved → work_of new ≡ with_decided (work_of reserved) id decided
     → new.outcomes.items ≡ old.outcomes.items ++ record { id = id; outcome = found_by decided } ∷ []
 one_more old reserved new id decided same is =
     ap (λ (work : Work). work.outcomes) is ∙ outcomes_with (work_of reserved) id decided ∙ ap (λ outcomes. outcomes ++ record { id = id; outcome = found_by decided } ∷ []) same.outcomes
 
 -- and it is the block in work of the definition
-pub goes_on : (old reserved new : BlockInWork) (id own : List ℕ) (decided : Decided) (whole : Work) → IsSameWork old reserved → id ≡ own → work_of new ≡ with_decided (work_of reserved) id decided
+pub goes_on : (old reserved new : BlockInWork) (id own : List ℕ) (decided : TxDecision) (whole : Work) → IsSameWork old reserved → id ≡ own → work_of new ≡ with_decided (work_of reserved) id decided
     → with_decided (work_of old) own decided ≡ whole → work_of new ≡ whole
 goes_on old reserved new id own decided whole same named is decides = is ∙ (λ i. with_decided (same_work old reserved same i) (named i) decided) ∙ decides
 
@@ -116,10 +116,10 @@ module _ (old new : IdIndex) (number : ℕ) (outcomes outcomes' : List Told) (id
   pub next_added : (before : IdIndex) → AddsAmong before old number outcomes → AddsAmong before new number outcomes'
   next_added before added = subst (AddsAmong before new number) (sym more) (one_added before old new number outcomes told place added here of_told)
 
-  pub next_places : (sealed : List Sealed) → HasFirstPlaces old sealed number outcomes → HasFirstPlaces new sealed number outcomes'
+  pub next_places : (sealed : List SealedBlock) → HasFirstPlaces old sealed number outcomes → HasFirstPlaces new sealed number outcomes'
   next_places sealed has = subst (HasFirstPlaces new sealed number) (sym more) (places_more old new sealed number outcomes told place has here of_told)
 
 -- the run of a transaction on the tables of its height, at the time of the block of its height
-pub run_is : (app : App) (sealed : List Sealed) (history : List Stamped) (tx : Tx) (time : ℤ) (ran : Ran) → history ≡ history_of sealed → time ≡ time_at tx.height sealed
+pub run_is : (app : App) (sealed : List SealedBlock) (history : List Stamped) (tx : Tx) (time : ℤ) (ran : Ran) → history ≡ history_of sealed → time ≡ time_at tx.height sealed
     → ran ≡ run app tx time (tables_at tx.height history) → ran ≡ run_at app sealed tx
 run_is app sealed history tx time ran writes then is = is ∙ (λ i. run app tx (then i) (tables_at tx.height (writes i)))

@@ -6,7 +6,7 @@ use Rattle.block_work.specs.Ids.{HasFirstPlaces}
 use Rattle.block_work.specs.declared.block.BlockInWork.{BlockInWork}
 use Rattle.block_work.specs.declared.ids.IdIndex.{IdIndex}
 use Rattle.node_model.specs.Fold.{Work, fold, no_work, seal, work_on, work_through}
-use Rattle.node_model.specs.History.{Sealed}
+use Rattle.node_model.specs.History.{SealedBlock}
 use Rattle.node_model.specs.declared.result.BlockResult.{BlockResult}
 use Rattle.plain_node.specs.Holding.{HoldsFold}
 use Rattle.proc_syntax.specs.Declaring.{tables_of}
@@ -29,12 +29,12 @@ holds_next app blocks block history ids results chain places =
     }
 
 -- a block in work, all of whose transactions are decided, is the block of the definition
-pub sealed_is : (app : App) (sealed : List Sealed) (block : Block) (work : BlockInWork) → work.number ≡ block.number → work.time ≡ block.time
+pub sealed_is : (app : App) (sealed : List SealedBlock) (block : Block) (work : BlockInWork) → work.number ≡ block.number → work.time ≡ block.time
     → work_of work ≡ work_through app sealed block.number no_work block.txs → sealed_of work ≡ seal app sealed block
 sealed_is app sealed block work number time done = λ i. record { number = number i; time = time i; outcomes = (done i).outcomes; committed = (done i).committed }
 
 -- one transaction more is done, and one less is left
-pub step_on : (app : App) (sealed : List Sealed) (number : ℕ) (left rest : List Tx) (tx : Tx) (old new whole : Work) → left ≡ tx ∷ rest → new ≡ work_on app sealed number old tx
+pub step_on : (app : App) (sealed : List SealedBlock) (number : ℕ) (left rest : List Tx) (tx : Tx) (old new whole : Work) → left ≡ tx ∷ rest → new ≡ work_on app sealed number old tx
     → work_through app sealed number old left ≡ whole → work_through app sealed number new rest ≡ whole
 step_on app sealed number left rest tx old new whole first done is =
     subst (λ work. work_through app sealed number work rest ≡ whole) (sym done) (subst (λ txs. work_through app sealed number old txs ≡ whole) first is)

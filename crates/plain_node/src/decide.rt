@@ -3,12 +3,12 @@
 ghost use Rattle.std.specs.Prelude.{◌≡◌, ◌<◌, ◌++◌, IfOk, List, length};
 ghost use Rattle.std.specs.List.{list_any};
 ghost use Rattle.std.specs.Str.{bytes_eq};
-ghost use Rattle.block_work.specs.Block.{HasRoom, IsConsistent, work_of, work_with};
+ghost use Rattle.block_work.specs.Block.{HasRoomForOne, IsConsistent, work_of, work_with};
 ghost use Rattle.block_work.specs.Causes.{RunFits};
 ghost use Rattle.block_work.specs.Chain.{HoldsChain, StoreFits};
 ghost use Rattle.node_model.specs.Decide.{by_run, or_committed, run_at, writes_since};
 ghost use Rattle.node_model.specs.Fold.{work_on};
-ghost use Rattle.node_model.specs.History.{Sealed, ids_of, ids_told};
+ghost use Rattle.node_model.specs.History.{SealedBlock, ids_of, ids_told};
 ghost use Rattle.plain_node.specs.Deciding.{IsDecision, with_decided};
 ghost use Rattle.proc_syntax.specs.Declaring.{tables_of};
 ghost use Rattle.proc_syntax.specs.Run.{run};
@@ -28,7 +28,7 @@ use std::alloc::Global;
 
 /// What is decided of a transaction: that it commits, with its run and its edges, or that it is aborted for a cause.
 #[derive(Drop)]
-pub enum Decided {
+pub enum TxDecision {
     Commits { ran: Ran, edges: Edges },
     Aborts(Outcome),
 }
@@ -53,7 +53,7 @@ fn run_at_time<V: Versions>(
 // The run of a transaction, at the time of the block of its height.
 fn run_tx<V: Versions>(alloc: Global, chain: &Chain<V>, tx: &Tx) -> Result<Ran, NoMemory>
     requires store { StoreFits chain.now.app.value.app (V.tables chain.now.versions) (V.history chain.now.versions) chain.now.blocks }
-    ensures run { IfOk result (λ ran. (sealed : List Sealed) → HoldsChain (tables_of chain.now.app.value.app) sealed (V.history chain.now.versions) chain.now.blocks
+    ensures run { IfOk result (λ ran. (sealed : List SealedBlock) → HoldsChain (tables_of chain.now.app.value.app) sealed (V.history chain.now.versions) chain.now.blocks
         → ran ≡ run_at chain.now.app.value.app sealed tx.now) }
     ensures fits { IfOk result (λ ran. RunFits (tables_of chain.now.app.value.app) ran) }
 {
@@ -68,20 +68,20 @@ fn decide_run<V: Versions>(
     chain: &Chain<V>,
     work: &BlockInWork,
     tx: &Tx,
-) -> Result<Decided, NoMemory>
+) -> Result<TxDecision, NoMemory>
     requires store { StoreFits chain.now.app.value.app (V.tables chain.now.versions) (V.history chain.now.versions) chain.now.blocks }
     requires number { 0 < work.now.number }
     requires few { length work.now.outcomes.items < 1024 }
     requires consistent { IsConsistent (tables_of chain.now.app.value.app) work.now }
-    ensures work { IfOk result (λ decided. (sealed : List Sealed) → HoldsChain (tables_of chain.now.app.value.app) sealed (V.history chain.now.versions) chain.now.blocks
+    ensures work { IfOk result (λ decided. (sealed : List SealedBlock) → HoldsChain (tables_of chain.now.app.value.app) sealed (V.history chain.now.versions) chain.now.blocks
         → with_decided (work_of work.now) tx.now.id decided ≡ work_with (work_of work.now) tx.now.id (run_at chain.now.app.value.app sealed tx.now)
         (or_committed (by_run (tables_of chain.now.app.value.app) (writes_since sealed work.now.number tx.now) work.now.committed.items (run_at chain.now.app.value.app sealed tx.now)))) }
     ensures decision { IfOk result (λ decided. IsDecision (tables_of chain.now.app.value.app) work.now decided) }
 {
     let ran = run_tx(alloc, chain, tx)?;
     match chain.judge(work, &ran, tx.height)? {
-        Verdict::Aborts(cause) => Ok(Decided::Aborts(cause)),
-        Verdict::Commits(edges) => Ok(Decided::Commits { ran, edges }),
+        Verdict::Aborts(cause) => Ok(TxDecision::Aborts(cause)),
+        Verdict::Commits(edges) => Ok(TxDecision::Commits { ran, edges }),
     }
 }
 
@@ -92,26 +92,26 @@ pub fn decide<V: Versions>(
     known: bool,
     work: &BlockInWork,
     tx: &Tx,
-) -> Result<Decided, NoMemory>
+) -> Result<TxDecision, NoMemory>
     requires store { StoreFits chain.now.app.value.app (V.tables chain.now.versions) (V.history chain.now.versions) chain.now.blocks }
     requires number { 0 < work.now.number }
     requires few { length work.now.outcomes.items < 1024 }
     requires consistent { IsConsistent (tables_of chain.now.app.value.app) work.now }
-    ensures work { IfOk result (λ decided. (sealed : List Sealed) → HoldsChain (tables_of chain.now.app.value.app) sealed (V.history chain.now.versions) chain.now.blocks
+    ensures work { IfOk result (λ decided. (sealed : List SealedBlock) → HoldsChain (tables_of chain.now.app.value.app) sealed (V.history chain.now.versions) chain.now.blocks
         → known ≡ list_any (bytes_eq tx.now.id) (ids_of sealed ++ ids_told work.now.outcomes.items)
         → with_decided (work_of work.now) tx.now.id decided ≡ work_on chain.now.app.value.app sealed work.now.number (work_of work.now) tx.now) }
     ensures decision { IfOk result (λ decided. IsDecision (tables_of chain.now.app.value.app) work.now decided) }
 {
     match early_cause(&chain.app, known, work.number, tx) {
-        Some(cause) => Ok(Decided::Aborts(cause)),
+        Some(cause) => Ok(TxDecision::Aborts(cause)),
         None => decide_run(alloc, chain, work, tx),
     }
 }
 
 /// Adds what is decided of a transaction. Takes no memory.
-pub fn add(work: &mut BlockInWork, id: Id, decided: Decided)
+pub fn add(work: &mut BlockInWork, id: Id, decided: TxDecision)
     requires few { length work.old.outcomes.items < 1024 }
-    requires room { HasRoom work.old }
+    requires room { HasRoomForOne work.old }
     requires decision { (tables : List TableDef) × IsDecision tables work.old decided }
     ensures number { work.new.number ≡ work.old.number }
     ensures time { work.new.time ≡ work.old.time }
@@ -119,7 +119,7 @@ pub fn add(work: &mut BlockInWork, id: Id, decided: Decided)
     ensures consistent { (tables : List TableDef) → IsConsistent tables work.old → IsDecision tables work.old decided → IsConsistent tables work.new }
 {
     match decided {
-        Decided::Commits { ran, edges } => work.commit(id, ran, &edges),
-        Decided::Aborts(cause) => work.abort(id, cause),
+        TxDecision::Commits { ran, edges } => work.commit(id, ran, &edges),
+        TxDecision::Aborts(cause) => work.abort(id, cause),
     }
 }

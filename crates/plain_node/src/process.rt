@@ -6,7 +6,7 @@ ghost use Rattle.block_work.specs.Chain.{HoldsChain, StoreFits};
 ghost use Rattle.block_work.specs.Ids.{AddsAmong, AreUpTo, HasFirstPlaces};
 ghost use Rattle.block_work.specs.declared.ids.IdIndex.{IdIndex as Index};
 ghost use Rattle.node_model.specs.Fold.{seal, work_on, work_through};
-ghost use Rattle.node_model.specs.History.{Sealed};
+ghost use Rattle.node_model.specs.History.{SealedBlock};
 ghost use Rattle.proc_syntax.specs.Declaring.{tables_of};
 
 use crate::decide::{add, decide};
@@ -34,7 +34,7 @@ fn decide_next<V: Versions>(
     ensures count { OnOk result (length work.new.outcomes.items ≡ length work.old.outcomes.items + 1) }
     ensures same { OnErr result (work.new.outcomes.items ≡ work.old.outcomes.items) }
     ensures added { (before : Index) → AddsAmong before ids.old work.old.number work.old.outcomes.items → AddsAmong before ids.new work.old.number work.new.outcomes.items }
-    ensures work { OnOk result ((sealed : List Sealed) → HoldsChain (tables_of chain.now.app.value.app) sealed (V.history chain.now.versions) chain.now.blocks
+    ensures work { OnOk result ((sealed : List SealedBlock) → HoldsChain (tables_of chain.now.app.value.app) sealed (V.history chain.now.versions) chain.now.blocks
         → HasFirstPlaces ids.old sealed work.old.number work.old.outcomes.items
         → (work_of work.new ≡ work_on chain.now.app.value.app sealed work.old.number (work_of work.old) tx.now) × HasFirstPlaces ids.new sealed work.old.number work.new.outcomes.items) }
 {
@@ -70,7 +70,7 @@ fn decide_all<V: Versions>(
     ensures consistent { IsConsistent (tables_of chain.now.app.value.app) work.new }
     ensures few { length work.new.outcomes.items ≤ 1024 }
     ensures added { AddsAmong ids.old ids.new work.old.number work.new.outcomes.items }
-    ensures work { OnOk result ((sealed : List Sealed) → HoldsChain (tables_of chain.now.app.value.app) sealed (V.history chain.now.versions) chain.now.blocks
+    ensures work { OnOk result ((sealed : List SealedBlock) → HoldsChain (tables_of chain.now.app.value.app) sealed (V.history chain.now.versions) chain.now.blocks
         → HasFirstPlaces ids.old sealed work.old.number []
         → (work_of work.new ≡ work_through chain.now.app.value.app sealed work.old.number (work_of work.old) txs.now) × HasFirstPlaces ids.new sealed work.old.number work.new.outcomes.items) }
 {
@@ -94,7 +94,7 @@ pub fn add_block<V: Versions>(
     ensures store { StoreFits chain.new.app.value.app (V.tables chain.new.versions) (V.history chain.new.versions) chain.new.blocks }
     ensures count { OnOk result (length chain.new.blocks ≡ length chain.old.blocks + 1) }
     ensures upto { OnOk result (AreUpTo (length chain.old.blocks) ids.old → AreUpTo (length chain.new.blocks) ids.new) }
-    ensures holds { OnOk result ((sealed : List Sealed) → HoldsChain (tables_of chain.old.app.value.app) sealed (V.history chain.old.versions) chain.old.blocks → HasFirstPlaces ids.old sealed 0 []
+    ensures holds { OnOk result ((sealed : List SealedBlock) → HoldsChain (tables_of chain.old.app.value.app) sealed (V.history chain.old.versions) chain.old.blocks → HasFirstPlaces ids.old sealed 0 []
         → HoldsChain (tables_of chain.old.app.value.app) (sealed ++ seal chain.old.app.value.app sealed block.now ∷ []) (V.history chain.new.versions) chain.new.blocks
         × HasFirstPlaces ids.new (sealed ++ seal chain.old.app.value.app sealed block.now ∷ []) 0 []) }
     ensures same_history { OnErr result (V.history chain.new.versions ≡ V.history chain.old.versions) }

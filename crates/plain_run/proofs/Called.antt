@@ -13,7 +13,7 @@ use Rattle.proc_syntax.specs.declared.tree.Stmt.{Stmt, fold-roll-Stmt, roll-Stmt
 use Rattle.proc_syntax.specs.declared.tree.Stmt.TheOpen as opened
 use Rattle.proc_syntax.specs.declared.tree.Stmt.TheVariants as stmt
 use Rattle.proc_syntax.specs.Declaring.{tables_of}
-use Rattle.proc_syntax.specs.Meaning.{State, Outcome, Going, act, act_step, block, do_for, do_if, in_turn_if}
+use Rattle.proc_syntax.specs.Meaning.{State, Progress, Going, act, act_step, block, do_for, do_if, in_turn_if}
 use Rattle.proc_syntax.specs.Run.{called, no_run, procedure_named, ran, run, start, takes}
 use Rattle.proc_eval.specs.declared.halt.Halt.{Halt}
 use Rattle.plain_run.specs.State.{Ends, Chooses}
@@ -34,7 +34,7 @@ run_is app tx time S tables procedure values declared found taken given =
 module _ (tables : List TableDef) (S : Tables) (name table column : Named) (low high : Option Expr) (body : List Stmt) where
   act_for : act tables S (stmt.For name table column low high body) ≡ do_for tables S name.name table.name column.name low high (block tables S body)
   unfolding roll-Stmt denote.Hole.Carrier.roll
-  act_for = fold-roll-Stmt (State → Outcome) (act_step tables S) (opened.For name table column low high body)
+  act_for = fold-roll-Stmt (State → Progress) (act_step tables S) (opened.For name table column low high body)
 
   -- a `for` ends as its statement does
   pub for_ends : (s : Stmt) (slice : List Stmt) (st reached : State) (result : Result (Unit {0}) Halt) → s ≡ stmt.For name table column low high body → slice ≡ body
@@ -46,14 +46,14 @@ module _ (tables : List TableDef) (S : Tables) (name table column : Named) (low 
 
 module _ (tables : List TableDef) (S : Tables) (test : Expr) (body : List Stmt) where
   -- what the block behind `else` does, where there is one
-  abbrev otherwise : Option (List Stmt) → State → Outcome
+  abbrev otherwise : Option (List Stmt) → State → Progress
   otherwise None = in_turn_if None
   otherwise (Some stmts) = in_turn_if (Some (map (act tables S) stmts))
 
   act_if : (other : Option (List Stmt)) → act tables S (stmt.If test body other) ≡ do_if tables test (block tables S body) (otherwise other)
   unfolding roll-Stmt denote.Hole.Carrier.roll
-  act_if None = fold-roll-Stmt (State → Outcome) (act_step tables S) (opened.If test body None)
-  act_if (Some stmts) = fold-roll-Stmt (State → Outcome) (act_step tables S) (opened.If test body (Some stmts))
+  act_if None = fold-roll-Stmt (State → Progress) (act_step tables S) (opened.If test body None)
+  act_if (Some stmts) = fold-roll-Stmt (State → Progress) (act_step tables S) (opened.If test body (Some stmts))
 
   -- an `if` ends as its outcome does
   if_ends : (other : Option (List Stmt)) (s : Stmt) (st reached : State) (result : Result (Unit {0}) Halt) → s ≡ stmt.If test body other

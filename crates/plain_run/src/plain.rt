@@ -2,7 +2,7 @@
 
 ghost use Rattle.std.specs.Prelude.{◌≡◌};
 ghost use Rattle.proc_syntax.specs.Meaning.{act, block, visit, do_for};
-ghost use Rattle.plain_run.specs.State.{state, Ends, IsReady, Keeps};
+ghost use Rattle.plain_run.specs.State.{state, Ends, IsReady, KeepsRowsBefore};
 
 use crate::ask::ask;
 use crate::exec::{bind_row, find_table, span_between};
@@ -23,7 +23,7 @@ pub fn run_block<S: Snapshot>(
 ) -> Result<(), Halt>
     requires { IsReady scene.now.tables.now (S.declared scene.now.snapshot.now) (S.tables scene.now.snapshot.now) }
     ensures ends { Ends result (state run.new) (block scene.now.tables.now (S.tables scene.now.snapshot.now) stmts.now (state run.old)) }
-    ensures found { Keeps scene.now.tables.now (S.tables scene.now.snapshot.now) run.old.own run.new.own }
+    ensures found { KeepsRowsBefore scene.now.tables.now (S.tables scene.now.snapshot.now) run.old.own run.new.own }
 {
     for stmt in stmts {
         if !run.tick() {
@@ -40,7 +40,7 @@ pub fn run_block<S: Snapshot>(
 fn run_stmt<S: Snapshot>(scene: &Scene<'_, S>, stmt: &Stmt, run: &mut Run) -> Result<(), Halt>
     requires { IsReady scene.now.tables.now (S.declared scene.now.snapshot.now) (S.tables scene.now.snapshot.now) }
     ensures ends { Ends result (state run.new) (act scene.now.tables.now (S.tables scene.now.snapshot.now) stmt.now (state run.old)) }
-    ensures found { Keeps scene.now.tables.now (S.tables scene.now.snapshot.now) run.old.own run.new.own }
+    ensures found { KeepsRowsBefore scene.now.tables.now (S.tables scene.now.snapshot.now) run.old.own run.new.own }
 {
     match stmt {
         Stmt::Let { name, value } => scene.run_set(&name.name, value, run),
@@ -94,7 +94,7 @@ fn run_rows<S: Snapshot>(
 ) -> Result<(), Halt>
     requires { IsReady scene.now.tables.now (S.declared scene.now.snapshot.now) (S.tables scene.now.snapshot.now) }
     ensures ends { Ends result (state run.new) (visit table name.now (block scene.now.tables.now (S.tables scene.now.snapshot.now) body.now) rows.now (state run.old)) }
-    ensures found { Keeps scene.now.tables.now (S.tables scene.now.snapshot.now) run.old.own run.new.own }
+    ensures found { KeepsRowsBefore scene.now.tables.now (S.tables scene.now.snapshot.now) run.old.own run.new.own }
 {
     for row in rows {
         if !run.tick() {
@@ -119,7 +119,7 @@ fn run_for<S: Snapshot>(
 ) -> Result<(), Halt>
     requires { IsReady scene.now.tables.now (S.declared scene.now.snapshot.now) (S.tables scene.now.snapshot.now) }
     ensures ends { Ends result (state run.new) (do_for scene.now.tables.now (S.tables scene.now.snapshot.now) name.now table.now span.now.column.now.name span.now.low.now span.now.high.now (block scene.now.tables.now (S.tables scene.now.snapshot.now) body.now) (state run.old)) }
-    ensures found { Keeps scene.now.tables.now (S.tables scene.now.snapshot.now) run.old.own run.new.own }
+    ensures found { KeepsRowsBefore scene.now.tables.now (S.tables scene.now.snapshot.now) run.old.own run.new.own }
 {
     let (number, def) = find_table(scene.tables, table)?;
     let low = eval_end(

@@ -5,7 +5,7 @@ ghost use Rattle.rel_base.specs.Schema.{KeyFits};
 ghost use Rattle.proc_syntax.specs.Meaning.{key_for, insert_at, update_at, delete_at, wrote, do_insert, do_update, do_delete};
 ghost use Rattle.proc_syntax.specs.Values.{found};
 ghost use Rattle.proc_eval.specs.Gives.{Gives};
-ghost use Rattle.plain_run.specs.State.{state, Ends, IsReady, Keeps, KeepsAt};
+ghost use Rattle.plain_run.specs.State.{state, Ends, IsReady, KeepsRowsBefore, KeepsAt};
 
 use crate::ask::{KeyRows, ask_key};
 use crate::exec::{find_table, point_read};
@@ -104,7 +104,7 @@ impl<S: Snapshot> Scene<'_, S> {
     pub fn run_insert(&self, table: &Name, values: &[Expr], run: &mut Run) -> Result<(), Halt>
         requires { IsReady self.now.tables.now (S.declared self.now.snapshot.now) (S.tables self.now.snapshot.now) }
         ensures ends { Ends result (state run.new) (do_insert self.now.tables.now (S.tables self.now.snapshot.now) table.now values.now (state run.old)) }
-        ensures found { Keeps self.now.tables.now (S.tables self.now.snapshot.now) run.old.own run.new.own }
+        ensures found { KeepsRowsBefore self.now.tables.now (S.tables self.now.snapshot.now) run.old.own run.new.own }
     {
         let (table, def) = find_table(self.tables, table)?;
         let row = eval_row(self.alloc, self.tables, run.variables.as_slice(), values)?;
@@ -128,7 +128,7 @@ impl<S: Snapshot> Scene<'_, S> {
     ) -> Result<(), Halt>
         requires { IsReady self.now.tables.now (S.declared self.now.snapshot.now) (S.tables self.now.snapshot.now) }
         ensures ends { Ends result (state run.new) (do_update self.now.tables.now (S.tables self.now.snapshot.now) table.now key.now changes.now (state run.old)) }
-        ensures found { Keeps self.now.tables.now (S.tables self.now.snapshot.now) run.old.own run.new.own }
+        ensures found { KeepsRowsBefore self.now.tables.now (S.tables self.now.snapshot.now) run.old.own run.new.own }
     {
         let (table, def) = find_table(self.tables, table)?;
         let key = eval_key(self.alloc, self.tables, run.variables.as_slice(), key)?;
@@ -150,7 +150,7 @@ impl<S: Snapshot> Scene<'_, S> {
     pub fn run_delete(&self, table: &Name, key: &[Expr], run: &mut Run) -> Result<(), Halt>
         requires { IsReady self.now.tables.now (S.declared self.now.snapshot.now) (S.tables self.now.snapshot.now) }
         ensures ends { Ends result (state run.new) (do_delete self.now.tables.now (S.tables self.now.snapshot.now) table.now key.now (state run.old)) }
-        ensures found { Keeps self.now.tables.now (S.tables self.now.snapshot.now) run.old.own run.new.own }
+        ensures found { KeepsRowsBefore self.now.tables.now (S.tables self.now.snapshot.now) run.old.own run.new.own }
     {
         let (table, def) = find_table(self.tables, table)?;
         let key = eval_key(self.alloc, self.tables, run.variables.as_slice(), key)?;

@@ -9,7 +9,7 @@ use Rattle.std.specs.Ordering.{nat_cmp}
 use Rattle.std.specs.Str.{bytes_eq}
 use Rattle.std.proofs.lemmas.Map.Text.{is_eq-slice_cmp}
 use Rattle.std.proofs.lemmas.Slice.Eq.{bytes_eq-Decides}
-use Rattle.proc_check.specs.Places.{HasPlaces, place_of}
+use Rattle.proc_check.specs.Places.{HasPlaces, place_of_variable}
 use Rattle.proc_check.specs.Scope.{look_up}
 use Rattle.proc_check.specs.declared.scope.Variable.{Variable}
 use Rattle.rel_base.proofs.Bytes.{bytes_same, equal_bytes}
@@ -107,30 +107,30 @@ noted_new old new before variable place absent updates counted has = λ name.
     ∙ by name (bytes_eq variable.name name) refl
     ∙ sym (one_more name 0 before variable)
   where
-    by : (name : List ℕ) (b : Bool) → bytes_eq variable.name name ≡ b → cond b (Some place) (place_of before name) ≡ option_or (place_of before name) (cond b (Some (0 + length before)) None)
+    by : (name : List ℕ) (b : Bool) → bytes_eq variable.name name ≡ b → cond b (Some place) (place_of_variable before name) ≡ option_or (place_of_variable before name) (cond b (Some (0 + length before)) None)
     by name true same =
-        let none : place_of before name ≡ None = subst (λ name. place_of before name ≡ None) (equal_bytes variable.name name same) (no_some (place_of before variable.name) (ap is_some (sym (has variable.name)) ∙ absent)) in
+        let none : place_of_variable before name ≡ None = subst (λ name. place_of_variable before name ≡ None) (equal_bytes variable.name name same) (no_some (place_of_variable before variable.name) (ap is_some (sym (has variable.name)) ∙ absent)) in
         let own : place ≡ 0 + length before = omega (arith, counted) in
         ap Some own ∙ sym (ap (λ found. option_or found (Some (0 + length before))) none)
-    by name false differs = sym (or_none (place_of before name))
+    by name false differs = sym (or_none (place_of_variable before name))
 
 -- one more variable, of whose name there is one before it
 pub noted_known : (old : BTreeMap (List ℕ) ℕ) (before : List Variable) (variable : Variable) → is_some (get (slice_cmp nat_cmp) old variable.name) ≡ true
     → HasPlaces old before → HasPlaces old (before ++ variable ∷ [])
 noted_known old before variable known has = λ name. has name ∙ by name (bytes_eq variable.name name) refl ∙ sym (one_more name 0 before variable)
   where
-    by : (name : List ℕ) (b : Bool) → bytes_eq variable.name name ≡ b → place_of before name ≡ option_or (place_of before name) (cond b (Some (0 + length before)) None)
+    by : (name : List ℕ) (b : Bool) → bytes_eq variable.name name ≡ b → place_of_variable before name ≡ option_or (place_of_variable before name) (cond b (Some (0 + length before)) None)
     by name true same =
-        known_or (place_of before name) (Some (0 + length before)) (subst (λ name. is_some (place_of before name) ≡ true) (equal_bytes variable.name name same) (ap is_some (sym (has variable.name)) ∙ known))
-    by name false differs = sym (or_none (place_of before name))
+        known_or (place_of_variable before name) (Some (0 + length before)) (subst (λ name. is_some (place_of_variable before name) ≡ true) (equal_bytes variable.name name same) (ap is_some (sym (has variable.name)) ∙ known))
+    by name false differs = sym (or_none (place_of_variable before name))
 
 -- ---- the last variable goes
 
 -- the place of its name is that of one before it, or else its own
 last_place : (old : BTreeMap (List ℕ) ℕ) (before : List Variable) (last : Variable) → HasPlaces old (before ++ last ∷ [])
-    → get (slice_cmp nat_cmp) old last.name ≡ option_or (place_of before last.name) (Some (0 + length before))
+    → get (slice_cmp nat_cmp) old last.name ≡ option_or (place_of_variable before last.name) (Some (0 + length before))
 last_place old before last has =
-    has last.name ∙ one_more last.name 0 before last ∙ ap (λ b. option_or (place_of before last.name) (cond b (Some (0 + length before)) None)) (bytes_same last.name)
+    has last.name ∙ one_more last.name 0 before last ∙ ap (λ b. option_or (place_of_variable before last.name) (cond b (Some (0 + length before)) None)) (bytes_same last.name)
 
 -- one whose place is its own
 pub forgot_first : (old new : BTreeMap (List ℕ) ℕ) (before : List Variable) (last : Variable) (place : ℕ) → get (slice_cmp nat_cmp) old last.name ≡ Some place
@@ -141,28 +141,28 @@ forgot_first old new before last place is updates counted has = λ name.
     ∙ ap (cond (bytes_eq last.name name) None) (has name ∙ one_more name 0 before last)
     ∙ by name (bytes_eq last.name name) refl
   where
-    none_before : (found : Option ℕ) → place_of before last.name ≡ found → option_or found (Some (0 + length before)) ≡ Some place → found ≡ None
+    none_before : (found : Option ℕ) → place_of_variable before last.name ≡ found → option_or found (Some (0 + length before)) ≡ Some place → found ≡ None
     none_before None here own = refl
     none_before (Some first) here own = let at = from_place last.name 0 before first here in let same : first ≡ place = some_is own in absurd (omega (arith, at.1, same, counted))
 
-    by : (name : List ℕ) (b : Bool) → bytes_eq last.name name ≡ b → cond b None (option_or (place_of before name) (cond b (Some (0 + length before)) None)) ≡ place_of before name
+    by : (name : List ℕ) (b : Bool) → bytes_eq last.name name ≡ b → cond b None (option_or (place_of_variable before name) (cond b (Some (0 + length before)) None)) ≡ place_of_variable before name
     by name true same =
-        subst (λ name. None ≡ place_of before name) (equal_bytes last.name name same) (sym (none_before (place_of before last.name) refl (sym (last_place old before last has) ∙ is)))
-    by name false differs = or_none (place_of before name)
+        subst (λ name. None ≡ place_of_variable before name) (equal_bytes last.name name same) (sym (none_before (place_of_variable before last.name) refl (sym (last_place old before last has) ∙ is)))
+    by name false differs = or_none (place_of_variable before name)
 
 -- one of whose name there is one before it
 pub forgot_later : (old : BTreeMap (List ℕ) ℕ) (before : List Variable) (last : Variable) → (get (slice_cmp nat_cmp) old last.name ≡ Some (length before) → ⊥)
     → HasPlaces old (before ++ last ∷ []) → HasPlaces old before
 forgot_later old before last other has = λ name. has name ∙ one_more name 0 before last ∙ by name (bytes_eq last.name name) refl
   where
-    some_before : (found : Option ℕ) → place_of before last.name ≡ found → option_or found (Some (0 + length before)) ≡ found
+    some_before : (found : Option ℕ) → place_of_variable before last.name ≡ found → option_or found (Some (0 + length before)) ≡ found
     some_before None here = let zero : 0 + length before ≡ length before = omega arith in absurd (other (last_place old before last has ∙ ap (λ found. option_or found (Some (0 + length before))) here ∙ ap Some zero))
     some_before (Some first) here = refl
 
-    by : (name : List ℕ) (b : Bool) → bytes_eq last.name name ≡ b → option_or (place_of before name) (cond b (Some (0 + length before)) None) ≡ place_of before name
+    by : (name : List ℕ) (b : Bool) → bytes_eq last.name name ≡ b → option_or (place_of_variable before name) (cond b (Some (0 + length before)) None) ≡ place_of_variable before name
     by name true same =
-        subst (λ name. option_or (place_of before name) (Some (0 + length before)) ≡ place_of before name) (equal_bytes last.name name same) (some_before (place_of before last.name) refl)
-    by name false differs = or_none (place_of before name)
+        subst (λ name. option_or (place_of_variable before name) (Some (0 + length before)) ≡ place_of_variable before name) (equal_bytes last.name name same) (some_before (place_of_variable before last.name) refl)
+    by name false differs = or_none (place_of_variable before name)
 
 -- a place that is another than its own
 pub not_own : {found : Option ℕ} {count : ℕ} (first place : ℕ) → count ≡ place → (first ≡ place → ⊥) → found ≡ Some first → found ≡ Some count → ⊥
@@ -170,7 +170,7 @@ not_own first place counted differs is own = differs (some_is (sym is ∙ own) �
 
 -- a map that has the places of some variables has one for the last of them
 pub has_last : (old : BTreeMap (List ℕ) ℕ) (before : List Variable) (last : Variable) → HasPlaces old (before ++ last ∷ []) → get (slice_cmp nat_cmp) old last.name ≡ None → ⊥
-has_last old before last has is = no_none (place_of before last.name) (sym (last_place old before last has) ∙ is)
+has_last old before last has is = no_none (place_of_variable before last.name) (sym (last_place old before last has) ∙ is)
   where
     no_none : (found : Option ℕ) → option_or found (Some (0 + length before)) ≡ None → ⊥
     no_none None is = cc

@@ -31,7 +31,7 @@ use Rattle.proc_syntax.specs.declared.tree.Stmt.{Stmt, Stmt-F, fold-Stmt, fold-r
 use Rattle.proc_syntax.specs.declared.tree.Stmt.TheOpen as stmt
 use Rattle.proc_syntax.specs.declared.tree.TableText.{TableText}
 use Rattle.proc_syntax.specs.Declaring.{declare}
-use Rattle.proc_syntax.specs.Meaning.{State, Outcome, Going, Stopped, then_do, step_then, with_value, with_some, bound, wrote, asked, point_of, span_of, end_has, row_fits, key_for, row_under, set_columns, insert_at, update_at, delete_at, get_at, visit, in_turn, in_turn_if, with_rows, act_step, act}
+use Rattle.proc_syntax.specs.Meaning.{State, Progress, Going, Stopped, then_do, step_then, with_value, with_some, bound, wrote, asked, point_of, span_of, end_has, row_fits, key_for, row_under, set_columns, insert_at, update_at, delete_at, get_at, visit, in_turn, in_turn_if, with_rows, act_step, act}
 use Rattle.rel_base.specs.OwnWrites.{merged}
 use Rattle.rel_base.proofs.Lists.{not_some}
 use Rattle.proc_syntax.specs.Scope.{table_named, column_in, value_of, values_of, end_of, changes_of}
@@ -174,43 +174,43 @@ module _ (tables : List TableText) (S : Tables) (fit : AllByRecursion (Stands (m
     pub agrees : Agrees declared scope st.variables
     pub own : AllByRecursion (OwnStands declared) (finite.entries st.own)
 
-  abbrev pub IsSafe : List Variable → Outcome → Type 0
+  abbrev pub IsSafe : List Variable → Progress → Type 0
   IsSafe scope (Going st) = Good scope st
   IsSafe scope (Stopped st why) = IsFault why
 
-  pub record Safe (scope : List Variable) (o : Outcome) : Type 0 where
+  pub record Safe (scope : List Variable) (o : Progress) : Type 0 where
     pub is : IsSafe scope o
 
-  then_safe : (scope after : List Variable) (o : Outcome) (f : State → Outcome) → Safe scope o → ((st : State) → Good scope st → Safe after (f st)) → Safe after (then_do o f)
+  then_safe : (scope after : List Variable) (o : Progress) (f : State → Progress) → Safe scope o → ((st : State) → Good scope st → Safe after (f st)) → Safe after (then_do o f)
   then_safe scope after (Going st) f s h = h st s.is
   then_safe scope after (Stopped st why) f s h = record { is = s.is }
 
   -- names that leave the scope take nothing away
-  less : (scope more : List Variable) (o : Outcome) → Safe (scope ++ more) o → Safe scope o
+  less : (scope more : List Variable) (o : Progress) → Safe (scope ++ more) o → Safe scope o
   less scope more (Going st) s = record { is = record { agrees = agrees_less declared scope more st.variables s.is.agrees; own = s.is.own } }
   less scope more (Stopped st why) s = record { is = s.is }
 
-  step_safe : (scope after : List Variable) (st : State) (f : State → Outcome) → Good scope st → ((st : State) → Good scope st → Safe after (f st)) → Safe after (step_then st f)
+  step_safe : (scope after : List Variable) (st : State) (f : State → Progress) → Good scope st → ((st : State) → Good scope st → Safe after (f st)) → Safe after (step_then st f)
   step_safe scope after st f good h =
       elim (nat_lt st.steps 100000) as (λ b. Safe after (cond b (f (record st { steps = st.steps + 1 })) (Stopped st (stop.Fault fault.Steps))))
       [ true ↦ h (record st { steps = st.steps + 1 }) (record { agrees = good.agrees; own = good.own }) | false ↦ record { is = tt } ]
 
-  value_safe : {A : Type 0} (P : A → Type 0) (scope : List Variable) (r : Result A Stop) (st : State) (f : A → Outcome) → Of P r → ((x : A) → P x → Safe scope (f x)) → Safe scope (with_value r st f)
+  value_safe : {A : Type 0} (P : A → Type 0) (scope : List Variable) (r : Result A Stop) (st : State) (f : A → Progress) → Of P r → ((x : A) → P x → Safe scope (f x)) → Safe scope (with_value r st f)
   value_safe P scope (Ok x) st f of_r h = h x of_r
   value_safe P scope (Err why) st f of_r h = record { is = of_r }
 
-  some_safe : {A : Type 0} (scope : List Variable) (o : Option A) (x : A) (st : State) (f : A → Outcome) → o ≡ Some x → Safe scope (f x) → Safe scope (with_some o st f)
+  some_safe : {A : Type 0} (scope : List Variable) (o : Option A) (x : A) (st : State) (f : A → Progress) → o ≡ Some x → Safe scope (f x) → Safe scope (with_some o st f)
   some_safe scope o x st f is s = subst (λ o. Safe scope (with_some o st f)) (sym is) s
 
-  branch_safe : (scope : List Variable) (v : Value) (st : State) (o p : Outcome) → has_kind kind.Bool v ≡ true → Safe scope o → Safe scope p → Safe scope (with_value (flag_of v) st (λ holds. cond holds o p))
+  branch_safe : (scope : List Variable) (v : Value) (st : State) (o p : Progress) → has_kind kind.Bool v ≡ true → Safe scope o → Safe scope p → Safe scope (with_value (flag_of v) st (λ holds. cond holds o p))
   branch_safe scope v st o p of_v so sp =
       bools (λ v. Safe scope (with_value (flag_of v) st (λ holds. cond holds o p))) (λ b. elim b as (λ b. Safe scope (cond b o p)) [ true ↦ so | false ↦ sp ]) v of_v
 
   -- a statement that brings nothing into scope, or a variable
-  quiet : (scope : List Variable) (brought : Option Variable) (o : Outcome) → ◌≡◌ {A = Result (Option Variable) Bad} (Ok None) (Ok brought) → Safe scope o → Safe (scope ++ option_to_list brought) o
+  quiet : (scope : List Variable) (brought : Option Variable) (o : Progress) → ◌≡◌ {A = Result (Option Variable) Bad} (Ok None) (Ok brought) → Safe scope o → Safe (scope ++ option_to_list brought) o
   quiet scope brought o is s = subst (λ b. Safe (scope ++ option_to_list b) o) (ok_is is) (subst (λ scope. Safe scope o) (sym (append-nil scope)) s)
 
-  brings : (scope : List Variable) (variable : Variable) (brought : Option Variable) (o : Outcome) → ◌≡◌ {A = Result (Option Variable) Bad} (Ok (Some variable)) (Ok brought) → Safe (scope ++ variable ∷ []) o → Safe (scope ++ option_to_list brought) o
+  brings : (scope : List Variable) (variable : Variable) (brought : Option Variable) (o : Progress) → ◌≡◌ {A = Result (Option Variable) Bad} (Ok (Some variable)) (Ok brought) → Safe (scope ++ variable ∷ []) o → Safe (scope ++ option_to_list brought) o
   brings scope variable brought o is s = subst (λ b. Safe (scope ++ option_to_list b) o) (ok_is is) s
 
   asked_good : (scope : List Variable) (st : State) (read : Read) (rows : List Seen) → Good scope st → Good scope (asked st read rows)
@@ -222,7 +222,7 @@ module _ (tables : List TableText) (S : Tables) (fit : AllByRecursion (Stands (m
   row_good scope name number row st none fits good =
       record { agrees = agrees_more declared scope st.variables (variable_of name (sort.Row number)) (Held number row) good.agrees none (refl, fits); own = good.own }
 
-  get_safe : (scope : List Variable) (name : Named) (number : ℕ) (found absent : State → Outcome) → look_up scope name.name ≡ None
+  get_safe : (scope : List Variable) (name : Named) (number : ℕ) (found absent : State → Progress) → look_up scope name.name ≡ None
       → ((st : State) → Good (scope ++ variable_of name (sort.Row number) ∷ []) st → Safe (scope ++ variable_of name (sort.Row number) ∷ []) (found st))
       → ((st : State) → Good scope st → Safe scope (absent st))
       → (rows : List (List Value)) → AllByRecursion (RowOf declared number) rows → (st : State) → Good scope st → Safe scope (get_at number name.name found absent rows st)
@@ -230,7 +230,7 @@ module _ (tables : List TableText) (S : Tables) (fit : AllByRecursion (Stands (m
   get_safe scope name number found absent none of_found of_absent (row ∷ rest) all st good =
       less scope (variable_of name (sort.Row number) ∷ []) (found (bound st name.name (Held number row))) (of_found (bound st name.name (Held number row)) (row_good scope name number row st none all.0 good))
 
-  visit_safe : (scope : List Variable) (name : Named) (number : ℕ) (body : State → Outcome) → look_up scope name.name ≡ None
+  visit_safe : (scope : List Variable) (name : Named) (number : ℕ) (body : State → Progress) → look_up scope name.name ≡ None
       → ((st : State) → Good (scope ++ variable_of name (sort.Row number) ∷ []) st → Safe (scope ++ variable_of name (sort.Row number) ∷ []) (body st))
       → (rows : List (List Value)) → AllByRecursion (RowOf declared number) rows → (st : State) → Good scope st → Safe scope (visit number name.name body rows st)
   visit_safe scope name number body none of_body [] all st good = record { is = good }
@@ -289,7 +289,7 @@ module _ (tables : List TableText) (S : Tables) (fit : AllByRecursion (Stands (m
   -- ---- statements
 
   -- what the walk says of a statement holds of what it does
-  abbrev pub Holds : Walk → (State → Outcome) → Type 0
+  abbrev pub Holds : Walk → (State → Progress) → Type 0
   Holds walk does = (scope : List Variable) (brought : Option Variable) → walk scope ≡ Ok brought → (st : State) → Good scope st → Safe (scope ++ option_to_list brought) (does st)
 
   abbrev HoldsOf : Stmt → Type 0
@@ -476,7 +476,7 @@ module _ (tables : List TableText) (S : Tables) (fit : AllByRecursion (Stands (m
       some_safe scope (point_of def walked.0 vs) (Point walked.0 vs) st _ (point_is def walked.0 vs fits)
       (delete_safe scope walked.0 k.known.text k.known.here st good vs _))))
 
-  holds_step : (d : Stmt-F (Such HoldsOf)) → Holds (stmt_step tables (map-Stmt Stmt Walk (walk_stmt tables) (stripped d))) (act_step declared S (map-Stmt Stmt (State → Outcome) (act declared S) (stripped d)))
+  holds_step : (d : Stmt-F (Such HoldsOf)) → Holds (stmt_step tables (map-Stmt Stmt Walk (walk_stmt tables) (stripped d))) (act_step declared S (map-Stmt Stmt (State → Progress) (act declared S) (stripped d)))
   holds_step (stmt.Let name e) = let_safe name e
   holds_step (stmt.Assign name e) = assign_safe name e
   holds_step (stmt.If test body None) = if_safe test body None
@@ -489,7 +489,7 @@ module _ (tables : List TableText) (S : Tables) (fit : AllByRecursion (Stands (m
   holds_step (stmt.Fail text) = λ scope brought ok st good. quiet scope brought _ ok (record { is = tt })
 
   stmt_holds : (s : Stmt) → HoldsOf s
-  stmt_holds = every_pair Walk (State → Outcome) (stmt_step tables) (act_step declared S) Holds holds_step
+  stmt_holds = every_pair Walk (State → Progress) (stmt_step tables) (act_step declared S) Holds holds_step
 
   -- a block of statements
   pub block_safe : (stmts : List Stmt) (scope : List Variable) → block (map (walk_stmt tables) stmts) scope ≡ Ok tt → (st : State) → Good scope st → Safe scope (in_turn (map (act declared S) stmts) st)

@@ -20,7 +20,7 @@ use Rattle.proc_syntax.specs.declared.tree.ProcDef.{ProcDef}
 use Rattle.proc_syntax.specs.declared.tree.TableText.{TableText}
 use Rattle.proc_syntax.specs.Call.{fault_at}
 use Rattle.proc_syntax.specs.Declaring.{declare, tables_of}
-use Rattle.proc_syntax.specs.Meaning.{Outcome, Going, Stopped, in_turn, act}
+use Rattle.proc_syntax.specs.Meaning.{Progress, Going, Stopped, in_turn, act}
 use Rattle.proc_syntax.specs.Run.{ran, ending_of, called, procedure_named, takes, arguments, start}
 use Rattle.proc_syntax.specs.Scope.{bind}
 use Rattle.proc_syntax.specs.Values.{has_kind, have_kinds}
@@ -102,7 +102,7 @@ end_typed (stop.Fault fault) h = tt
 end_typed stop.IllTyped h = h
 
 module _ (app : App) (S : Tables) (fit : AllByRecursion (Stands (map declare app.tables)) (finite.entries S)) where
-  ran_typed : (scope : List Variable) (o : Outcome) → Safe app.tables S fit scope o → IsTyped (ran (tables_of app) S o).ending
+  ran_typed : (scope : List Variable) (o : Progress) → Safe app.tables S fit scope o → IsTyped (ran (tables_of app) S o).ending
   ran_typed scope (Going st) s = tt
   ran_typed scope (Stopped st why) s = end_typed why s.is
 

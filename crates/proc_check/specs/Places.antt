@@ -8,9 +8,9 @@ use Rattle.std.specs.Str.{bytes_eq}
 use Rattle.proc_check.specs.declared.scope.Variable.{Variable}
 
 -- the place of the first variable of a name, where there is one
-abbrev pub place_of : List Variable → List ℕ → Option ℕ
-place_of variables name = position_from (λ variable. bytes_eq variable.name name) 0 variables
+abbrev pub place_of_variable : List Variable → List ℕ → Option ℕ
+place_of_variable variables name = position_from (λ variable. bytes_eq variable.name name) 0 variables
 
 -- a map has for each name the place of its first variable
 abbrev pub HasPlaces : BTreeMap (List ℕ) ℕ → List Variable → Type 0
-HasPlaces places variables = (name : List ℕ) → get (slice_cmp nat_cmp) places name ≡ place_of variables name
+HasPlaces places variables = (name : List ℕ) → get (slice_cmp nat_cmp) places name ≡ place_of_variable variables name

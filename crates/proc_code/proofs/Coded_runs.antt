@@ -11,7 +11,7 @@ use Rattle.proc_syntax.specs.declared.tree.App.{App}
 use Rattle.proc_syntax.specs.declared.tree.ColumnText.{ColumnText}
 use Rattle.proc_syntax.specs.declared.tree.ProcDef.{ProcDef}
 use Rattle.proc_syntax.specs.Declaring.{tables_of}
-use Rattle.proc_syntax.specs.Meaning.{Outcome, block}
+use Rattle.proc_syntax.specs.Meaning.{Progress, block}
 use Rattle.proc_syntax.specs.Run.{ran, no_run, start, takes, procedure_named, called}
 use Rattle.proc_syntax.specs.Steps.{Going, Stopped}
 use Rattle.proc_syntax.specs.Values.{have_kinds}
@@ -25,11 +25,11 @@ use Rattle.proc_code.proofs.Numbered.{all_met, all_front, all_back}
 use Rattle.proc_code.proofs.Slotted.{slotted_none, slotted_given}
 
 -- a run with its variables in slots comes to the same
-over_ran : (declared : List TableDef) (S : Tables) (o : Outcome) (slots : Slots) → ran declared S (over o slots) ≡ ran declared S o
+over_ran : (declared : List TableDef) (S : Tables) (o : Progress) (slots : Slots) → ran declared S (over o slots) ≡ ran declared S o
 over_ran declared S (Going st) slots = refl
 over_ran declared S (Stopped st why) slots = refl
 
-follows_ran : (names : Names) (declared : List TableDef) (S : Tables) (o : Outcome) (c : coded.Outcome) → Mirrors names o c → ran declared S c ≡ ran declared S o
+follows_ran : (names : Names) (declared : List TableDef) (S : Tables) (o : Progress) (c : coded.Progress) → Mirrors names o c → ran declared S c ≡ ran declared S o
 follows_ran names declared S o c k = ap (ran declared S) k.is ∙ over_ran declared S o k.slots
 
 kinds_are : (names : Names) (params : List ColumnText) → map (λ param. param.kind) (map (param_of names) params) ≡ map (λ param. param.kind) params

@@ -15,7 +15,7 @@ use Rattle.std.proofs.lemmas.List.Recursion.{is_position_or_len}
 use Rattle.std.proofs.lemmas.List.Sums.{prefix_len-le-length}
 use Rattle.std.proofs.lemmas.Map.Text.{is_eq-slice_cmp}
 use Rattle.std.proofs.lemmas.Slice.Eq.{bytes_eq-Decides}
-use Rattle.proc_code.specs.Numbers.{Names, AreNumbered, has_name, number_if, number_of, with_name, with_names}
+use Rattle.proc_code.specs.Numbers.{Names, AreNumbersOf, has_name, number_if, number_of_name, with_name, with_names}
 use Rattle.rel_base.proofs.Bytes.{bytes_same, equal_bytes}
 use Rattle.rel_base.proofs.Bits.{or_left, or_right}
 
@@ -110,9 +110,9 @@ with_both names (name ∷ first) second = with_both (with_name names name) first
 -- ---- names by a map
 
 -- a name that has a number
-pub there : (names : Names) (name : List ℕ) (number : ℕ) → number_if names name ≡ Some number → number ≡ number_of names name
+pub there : (names : Names) (name : List ℕ) (number : ℕ) → number_if names name ≡ Some number → number ≡ number_of_name names name
 there names name number is =
-    elim (has_name names name) as (λ b. cond b (Some (number_of names name)) None ≡ Some number → number ≡ number_of names name) [ true ↦ λ is. cc | false ↦ λ is. cc ] is
+    elim (has_name names name) as (λ b. cond b (Some (number_of_name names name)) None ≡ Some number → number ≡ number_of_name names name) [ true ↦ λ is. cc | false ↦ λ is. cc ] is
 
 all_pass_by : (names : Names) (name : List ℕ) → has_name names name ≡ false → at (λ other. bytes_eq other name) names ≡ length names
 all_pass_by [] name none = refl
@@ -120,12 +120,12 @@ all_pass_by (first ∷ names) name none =
     elim (bytes_eq first name) as (λ b. (b || has_name names name) ≡ false → cond b 0 (suc (at (λ other. bytes_eq other name) names)) ≡ length (first ∷ names))
     [ true ↦ λ none. cc | false ↦ λ none. let rest = all_pass_by names name none in omega (arith, rest) ] none
 
-pub last_number : (names : Names) (name : List ℕ) → has_name names name ≡ false → number_of names name ≡ length names
+pub last_number : (names : Names) (name : List ℕ) → has_name names name ≡ false → number_of_name names name ≡ length names
 last_number names name none = sym (at_place (λ other. bytes_eq other name) names) ∙ all_pass_by names name none
 
-pub not_there : (names : Names) (name : List ℕ) → number_if names name ≡ None → length names ≡ number_of names name
+pub not_there : (names : Names) (name : List ℕ) → number_if names name ≡ None → length names ≡ number_of_name names name
 not_there names name is =
-    elim (has_name names name) as (λ b. has_name names name ≡ b → cond b (Some (number_of names name)) None ≡ None → length names ≡ number_of names name)
+    elim (has_name names name) as (λ b. has_name names name ≡ b → cond b (Some (number_of_name names name)) None ≡ None → length names ≡ number_of_name names name)
     [ true ↦ λ there is. cc | false ↦ λ none is. sym (last_number names name none) ] refl is
 
 -- places in a list with one item more
@@ -146,7 +146,7 @@ module _ (names : Names) (new name : List ℕ) (none : has_name names new ≡ fa
   is_it other = bytes_eq other name
 
   by_cases : (h e : Bool) → has_name names name ≡ h → bytes_eq new name ≡ e
-      → cond (h || (e || false)) (Some (at is_it (names ++ new ∷ []))) None ≡ cond e (Some (length names)) (cond h (Some (number_of names name)) None)
+      → cond (h || (e || false)) (Some (at is_it (names ++ new ∷ []))) None ≡ cond e (Some (length names)) (cond h (Some (number_of_name names name)) None)
   by_cases true true is same = let here = subst (λ n. has_name names n ≡ true) (sym (equal_bytes new name same)) is in cc
   by_cases true false is differs = ap Some (same_place is_it names (new ∷ []) is ∙ at_place is_it names)
   by_cases false true is same = ap Some (last_place is_it names new is same)
@@ -154,12 +154,12 @@ module _ (names : Names) (new name : List ℕ) (none : has_name names new ≡ fa
 
   pub one_name_more : number_if (names ++ new ∷ []) name ≡ cond (bytes_eq new name) (Some (length names)) (number_if names name)
   one_name_more =
-      subst (λ b. cond b (Some (number_of (names ++ new ∷ []) name)) None ≡ cond (bytes_eq new name) (Some (length names)) (number_if names name)) (sym (list_any-append is_it names (new ∷ [])))
-      (subst (λ n. cond (has_name names name || (bytes_eq new name || false)) (Some n) None ≡ cond (bytes_eq new name) (Some (length names)) (cond (has_name names name) (Some (number_of names name)) None)) (at_place is_it (names ++ new ∷ []))
+      subst (λ b. cond b (Some (number_of_name (names ++ new ∷ []) name)) None ≡ cond (bytes_eq new name) (Some (length names)) (number_if names name)) (sym (list_any-append is_it names (new ∷ [])))
+      (subst (λ n. cond (has_name names name || (bytes_eq new name || false)) (Some n) None ≡ cond (bytes_eq new name) (Some (length names)) (cond (has_name names name) (Some (number_of_name names name)) None)) (at_place is_it (names ++ new ∷ []))
       (by_cases (has_name names name) (bytes_eq new name) refl refl))
 
 -- the map stays right where a new name gets the next number
-pub numbered_more : (names : Names) (new : List ℕ) (old after : BTreeMap (List ℕ) ℕ) → AreNumbered names old → has_name names new ≡ false → Updates (slice_cmp nat_cmp) old after new (Some (length names)) → AreNumbered (names ++ new ∷ []) after
+pub numbered_more : (names : Names) (new : List ℕ) (old after : BTreeMap (List ℕ) ℕ) → AreNumbersOf names old → has_name names new ≡ false → Updates (slice_cmp nat_cmp) old after new (Some (length names)) → AreNumbersOf (names ++ new ∷ []) after
 numbered_more names new old after numbered none updates = λ name.
     updates.0 name
     ∙ ap (λ b. cond b (Some (length names)) (get (slice_cmp nat_cmp) old name)) (is_eq-slice_cmp new name)
@@ -168,24 +168,24 @@ numbered_more names new old after numbered none updates = λ name.
 
 -- what a map has no number for was not met
 unnumbered : (names : Names) (name : List ℕ) → is_some (number_if names name) ≡ false → has_name names name ≡ false
-unnumbered names name is = elim (has_name names name) as (λ b. is_some (cond b (Some (number_of names name)) None) ≡ false → b ≡ false) [ true ↦ λ is. cc | false ↦ λ is. refl ] is
+unnumbered names name is = elim (has_name names name) as (λ b. is_some (cond b (Some (number_of_name names name)) None) ≡ false → b ≡ false) [ true ↦ λ is. cc | false ↦ λ is. refl ] is
 
 -- a name was put behind the others, and into the map under their number
-pub added : (names pushed : Names) (new key item : List ℕ) (number : ℕ) (old after : BTreeMap (List ℕ) ℕ) → AreNumbered names old → is_some (get (slice_cmp nat_cmp) old new) ≡ false
-    → key ≡ new → item ≡ new → number ≡ length names → pushed ≡ names ++ item ∷ [] → Updates (slice_cmp nat_cmp) old after key (Some number) → AreNumbered pushed after
+pub added : (names pushed : Names) (new key item : List ℕ) (number : ℕ) (old after : BTreeMap (List ℕ) ℕ) → AreNumbersOf names old → is_some (get (slice_cmp nat_cmp) old new) ≡ false
+    → key ≡ new → item ≡ new → number ≡ length names → pushed ≡ names ++ item ∷ [] → Updates (slice_cmp nat_cmp) old after key (Some number) → AreNumbersOf pushed after
 added names pushed new key item number old after numbered absent key_is item_is number_is pushed_is updates =
     let none : has_name names new ≡ false = unnumbered names new (ap is_some (sym (numbered new)) ∙ absent) in
     let named : Updates (slice_cmp nat_cmp) old after new (Some number) = subst (λ k. Updates (slice_cmp nat_cmp) old after k (Some number)) key_is updates in
     let counted : Updates (slice_cmp nat_cmp) old after new (Some (length names)) = subst (λ n. Updates (slice_cmp nat_cmp) old after new (Some n)) number_is named in
-    subst (λ these. AreNumbered these after) (sym (pushed_is ∙ ap (λ last. names ++ last ∷ []) item_is)) (numbered_more names new old after numbered none counted)
+    subst (λ these. AreNumbersOf these after) (sym (pushed_is ∙ ap (λ last. names ++ last ∷ []) item_is)) (numbered_more names new old after numbered none counted)
 
 not_empty : (names : Names) (item : List ℕ) → names ++ item ∷ [] ≡ [] → ⊥
 not_empty [] item e = cc
 not_empty (first ∷ names) item e = cc
 
 -- the name was taken off again, and the map did not change
-pub taken_off : (names pushed left : Names) (item : List ℕ) (popped : Option (List ℕ)) (old after : BTreeMap (List ℕ) ℕ) → AreNumbered names old → pushed ≡ names ++ item ∷ []
-    → MatchOption popped ((pushed ≡ []) × (left ≡ [])) (λ last. pushed ≡ left ++ last ∷ []) → IsUnchanged old after → AreNumbered left after
+pub taken_off : (names pushed left : Names) (item : List ℕ) (popped : Option (List ℕ)) (old after : BTreeMap (List ℕ) ℕ) → AreNumbersOf names old → pushed ≡ names ++ item ∷ []
+    → MatchOption popped ((pushed ≡ []) × (left ≡ [])) (λ last. pushed ≡ left ++ last ∷ []) → IsUnchanged old after → AreNumbersOf left after
 taken_off names pushed left item None old after numbered pushed_is popped unchanged = absurd (not_empty names item (sym pushed_is ∙ popped.0))
 taken_off names pushed left item (Some last) old after numbered pushed_is popped unchanged = λ name.
     ap (lookup (is_at (slice_cmp nat_cmp name))) unchanged ∙ numbered name ∙ ap (λ these. number_if these name) (same_from_push names left item last (sym pushed_is ∙ popped)).0

@@ -14,13 +14,13 @@ use Rattle.proc_syntax.specs.declared.tree.ColumnText.{ColumnText}
 use Rattle.proc_syntax.specs.Run.{arguments}
 use Rattle.proc_syntax.specs.Scope.{bind, binding_of}
 use Rattle.proc_code.specs.Coded.{Slots, in_slot, given}
-use Rattle.proc_code.specs.Numbers.{Names, has_name, number_of}
+use Rattle.proc_code.specs.Numbers.{Names, has_name, number_of_name}
 use Rattle.proc_code.specs.Resolved.{param_of}
 use Rattle.proc_code.proofs.Numbered.{other_bytes, at, at_place}
 
 pub record Slotted (names : Names) (variables : List Variable) (slots : Slots) : Type 0 where
   pub size : length slots ≡ length names
-  pub same : (name : List ℕ) → in_slot slots (number_of names name) ≡ binding_of variables name
+  pub same : (name : List ℕ) → in_slot slots (number_of_name names name) ≡ binding_of variables name
 
 -- ---- a slot is set
 
@@ -88,12 +88,12 @@ bound_name (v ∷ rest) n m binding =
 -- ---- both
 
 pub slotted_put : (names : Names) (variables : List Variable) (slots : Slots) (name : List ℕ) (binding : Binding) → has_name names name ≡ true → Slotted names variables slots
-    → Slotted names (bind variables name binding) (slice_set slots (number_of names name) (Some binding))
+    → Slotted names (bind variables name binding) (slice_set slots (number_of_name names name) (Some binding))
 slotted_put names variables slots name binding is s = record {
-  size = length-set slots (number_of names name) (Some binding) ∙ s.size;
+  size = length-set slots (number_of_name names name) (Some binding) ∙ s.size;
   same = λ m.
-      let places : in_slot (slice_set slots (number_of names name) (Some binding)) (number_of names m) ≡ cond (bytes_eq name m) (Some binding) (in_slot slots (number_of names m)) =
-      subst (λ at_m. in_slot (slice_set slots (number_of names name) (Some binding)) at_m ≡ cond (bytes_eq name m) (Some binding) (in_slot slots at_m)) (at_place (λ other. bytes_eq other m) names)
+      let places : in_slot (slice_set slots (number_of_name names name) (Some binding)) (number_of_name names m) ≡ cond (bytes_eq name m) (Some binding) (in_slot slots (number_of_name names m)) =
+      subst (λ at_m. in_slot (slice_set slots (number_of_name names name) (Some binding)) at_m ≡ cond (bytes_eq name m) (Some binding) (in_slot slots at_m)) (at_place (λ other. bytes_eq other m) names)
       (subst (λ at_name. in_slot (slice_set slots at_name (Some binding)) (slot_at names m) ≡ cond (bytes_eq name m) (Some binding) (in_slot slots (slot_at names m))) (at_place (λ other. bytes_eq other name) names)
       (set_slot names slots name m binding s.size is)) in
       places ∙ ap (λ found. cond (bytes_eq name m) (Some binding) found) (s.same m) ∙ sym (bound_name variables name m binding);
@@ -107,7 +107,7 @@ empty_slot (suc size) zero = refl
 empty_slot (suc size) (suc number) = empty_slot size number
 
 pub slotted_none : (names : Names) → Slotted names [] (replicate (length names) None)
-slotted_none names = record { size = length-replicate (length names) None; same = λ name. empty_slot (length names) (number_of names name) }
+slotted_none names = record { size = length-replicate (length names) None; same = λ name. empty_slot (length names) (number_of_name names name) }
 
 pub slotted_given : (names : Names) (params : List ColumnText) (values : List Value) (variables : List Variable) (slots : Slots)
     → AllByRecursion (λ name. has_name names name ≡ true) (map (λ param. param.name.name) params) → Slotted names variables slots

@@ -24,7 +24,7 @@ use Rattle.proc_syntax.specs.Values.{◌>>=◌, found, negation_of, not_of, appl
 use Rattle.proc_code.specs.declared.tree.Term.{Term, Term-F, fold-roll-Term, map-Term, roll-Term}
 use Rattle.proc_code.specs.declared.tree.Term.TheOpen as term
 use Rattle.proc_code.specs.Coded.{Slots, table_at, column_at, cell_of, worth_step, worth_of, worths_of, end_worth, sets_worth}
-use Rattle.proc_code.specs.Numbers.{Names, has_name, number_of, with_names, table_number, column_of_table, column_names, column_places}
+use Rattle.proc_code.specs.Numbers.{Names, has_name, number_of_name, with_names, table_number, column_of_table, column_names, column_places}
 use Rattle.proc_code.specs.Resolved.{term_step, term_of, setting_of}
 use Rattle.proc_code.proofs.Numbered.{find_name, met}
 use Rattle.proc_code.proofs.Slotted.{Slotted}
@@ -91,8 +91,8 @@ module _ (tables : List TableDef) (name : List ℕ) (table : ℕ) (row : List Va
   abbrev in_table : List (Option ℕ) → Option ℕ
   in_table places = option_and_then (λ column. column) (slice_get places table)
 
-  places_are : slice_get (map places_of known) (number_of known name) ≡ option_map places_of (cond (has_name known name) (Some name) None)
-  places_are = slice_get-map places_of known (number_of known name) ∙ ap (option_map places_of) (sym (find_at (λ other. bytes_eq other name) known) ∙ find_name known name)
+  places_are : slice_get (map places_of known) (number_of_name known name) ≡ option_map places_of (cond (has_name known name) (Some name) None)
+  places_are = slice_get-map places_of known (number_of_name known name) ∙ ap (option_map places_of) (sym (find_at (λ other. bytes_eq other name) known) ∙ find_name known name)
 
   by_place : (b : Bool) → has_name known name ≡ b → option_and_then (slice_get row) (option_and_then in_table (option_map places_of (cond b (Some name) None))) ≡ option_and_then (cell row name) (slice_get tables table)
   by_place true there =
@@ -100,10 +100,10 @@ module _ (tables : List TableDef) (name : List ℕ) (table : ℕ) (row : List Va
       ∙ gathered (λ def. column_in def name) (slice_get row) (slice_get tables table)
   by_place false absent = sym (no_cell tables table row name (unmet (flat_map (λ def. map (λ column. column.name) def.columns) tables) name absent))
 
-  cell_is : option_and_then (slice_get row) (column_at (column_places tables) (number_of (column_names tables) name) table) ≡ option_and_then (cell row name) (slice_get tables table)
+  cell_is : option_and_then (slice_get row) (column_at (column_places tables) (number_of_name (column_names tables) name) table) ≡ option_and_then (cell row name) (slice_get tables table)
   cell_is = ap (λ places. option_and_then (slice_get row) (option_and_then in_table places)) places_are ∙ by_place (has_name known name) refl
 
-cells_are : (tables : List TableDef) (name : List ℕ) (b : Option Binding) → option_and_then (cell_of (column_places tables) (number_of (column_names tables) name)) b ≡ option_and_then (field_of tables name) b
+cells_are : (tables : List TableDef) (name : List ℕ) (b : Option Binding) → option_and_then (cell_of (column_places tables) (number_of_name (column_names tables) name)) b ≡ option_and_then (field_of tables name) b
 cells_are tables name None = refl
 cells_are tables name (Some (Plain v)) = refl
 cells_are tables name (Some (Held table row)) = cell_is tables name table row
@@ -147,10 +147,10 @@ module _ (tables : List TableDef) (names : Names) where
   means : (d : Expr-F (Such MeansAt)) → Means (term_step (column_names tables) names (map-Expr Expr Term (term_of (column_names tables) names) (stripped d))) (value_step tables (map-Expr Expr (List Variable → Result Value Stop) (value_of tables) (stripped d)))
   unfolding roll-Term denote.Hole.Carrier.roll
   means (expr.Value v line) variables slots s = rolled (term.Value v) slots
-  means (expr.Var named) variables slots s = rolled (term.Var (number_of names named.name)) slots ∙ ap (λ b. found (option_and_then plain_of b)) (s.same named.name)
+  means (expr.Var named) variables slots s = rolled (term.Var (number_of_name names named.name)) slots ∙ ap (λ b. found (option_and_then plain_of b)) (s.same named.name)
   means (expr.Field row column) variables slots s =
-      rolled (term.Field (number_of names row.name) (number_of (column_names tables) column.name)) slots
-      ∙ ap (λ b. found (option_and_then (cell_of columns (number_of (column_names tables) column.name)) b)) (s.same row.name)
+      rolled (term.Field (number_of_name names row.name) (number_of_name (column_names tables) column.name)) slots
+      ∙ ap (λ b. found (option_and_then (cell_of columns (number_of_name (column_names tables) column.name)) b)) (s.same row.name)
       ∙ ap found (cells_are tables column.name (binding_of variables row.name))
   means (expr.Not inner line) variables slots s = rolled (term.Not (term_of (column_names tables) names inner.0)) slots ∙ ap (λ r. r >>= not_of) (inner.1 variables slots s)
   means (expr.Neg inner line) variables slots s = rolled (term.Neg (term_of (column_names tables) names inner.0)) slots ∙ ap (λ r. r >>= negation_of) (inner.1 variables slots s)

@@ -87,8 +87,8 @@ module _ (columns : List (List (Option ℕ))) where
 abbrev pub State : Type 0
 State = steps.State Slots
 
-abbrev pub Outcome : Type 0
-Outcome = steps.Outcome Slots
+abbrev pub Progress : Type 0
+Progress = steps.Progress Slots
 
 abbrev pub put : ℕ → Binding → State → State
 put slot binding state = record state { variables = slice_set state.variables slot (Some binding) }
@@ -98,7 +98,7 @@ hold slot table row state = put slot (Held table row) state
 
 module _ (declared : List TableDef) (columns : List (List (Option ℕ))) (tables : Tables) where
   -- one step into a statement, once its step is counted
-  abbrev pub do_step : Action-F (State → Outcome) → State → Outcome
+  abbrev pub do_step : Action-F (State → Progress) → State → Progress
   do_step (action.Set slot e) state = set_to (worth_of columns e state.variables) (λ v. put slot (Plain v)) state
   do_step (action.If test body other) state = branch (worth_of columns test state.variables) (in_turn body) (in_turn other) state
   do_step (action.Get slot table key found absent) state =
@@ -111,10 +111,10 @@ module _ (declared : List TableDef) (columns : List (List (Option ℕ))) (tables
   do_step (action.Delete table key) state = delete_row tables (table_at declared table) (worths_of columns key state.variables) state
   do_step (action.Fail text) state = Stopped state (stop.Fault (fault.Failed text))
 
-  abbrev pub do_action : Action → State → Outcome
-  do_action = fold-Action (State → Outcome) do_step
+  abbrev pub do_action : Action → State → Progress
+  do_action = fold-Action (State → Progress) do_step
 
-  abbrev pub do_all : List Action → State → Outcome
+  abbrev pub do_all : List Action → State → Progress
   do_all actions = in_turn (map do_action actions)
 
 -- ---- runs

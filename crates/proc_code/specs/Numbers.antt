@@ -21,16 +21,16 @@ abbrev pub has_name : Names → List ℕ → Bool
 has_name names name = list_any (λ other. bytes_eq other name) names
 
 -- the number of a name; one that is not there has the number of all
-abbrev pub number_of : Names → List ℕ → ℕ
-number_of names name = position_or_len (λ other. bytes_eq other name) names
+abbrev pub number_of_name : Names → List ℕ → ℕ
+number_of_name names name = position_or_len (λ other. bytes_eq other name) names
 
 -- the number of a name, where it is there
 abbrev pub number_if : Names → List ℕ → Option ℕ
-number_if names name = cond (has_name names name) (Some (number_of names name)) None
+number_if names name = cond (has_name names name) (Some (number_of_name names name)) None
 
 -- a map has each name under its number
-abbrev pub AreNumbered : Names → BTreeMap (List ℕ) ℕ → Type 0
-AreNumbered names numbers = (name : List ℕ) → get (slice_cmp nat_cmp) numbers name ≡ number_if names name
+abbrev pub AreNumbersOf : Names → BTreeMap (List ℕ) ℕ → Type 0
+AreNumbersOf names numbers = (name : List ℕ) → get (slice_cmp nat_cmp) numbers name ≡ number_if names name
 
 abbrev pub with_name : Names → List ℕ → Names
 with_name names name = cond (has_name names name) names (names ++ name ∷ [])

@@ -19,15 +19,15 @@ use Rattle.proc_code.specs.declared.tree.ProcCode.{ProcCode}
 use Rattle.proc_code.specs.declared.tree.Setting.{Setting}
 use Rattle.proc_code.specs.declared.tree.Term.{Term}
 use Rattle.proc_code.specs.declared.tree.Term.TheVariants as term
-use Rattle.proc_code.specs.Numbers.{Names, number_of, slots_of, table_number, column_of_table, column_names, column_places}
+use Rattle.proc_code.specs.Numbers.{Names, number_of_name, slots_of, table_number, column_of_table, column_names, column_places}
 
 -- ---- expressions and statements, where the columns and the variables of names have their numbers
 
 module _ (columns names : Names) where
   abbrev pub term_step : Expr-F Term → Term
   term_step (expr.Value v line) = term.Value v
-  term_step (expr.Var named) = term.Var (number_of names named.name)
-  term_step (expr.Field row column) = term.Field (number_of names row.name) (number_of columns column.name)
+  term_step (expr.Var named) = term.Var (number_of_name names named.name)
+  term_step (expr.Field row column) = term.Field (number_of_name names row.name) (number_of_name columns column.name)
   term_step (expr.Not inner line) = term.Not inner
   term_step (expr.Neg inner line) = term.Neg inner
   term_step (expr.Paren inner line) = inner
@@ -45,12 +45,12 @@ module _ (tables : List TableDef) (columns names : Names) where
   or_none (Some actions) = actions
 
   abbrev pub action_step : Stmt-F Action → Action
-  action_step (stmt.Let name e) = action.Set (number_of names name.name) (term_of columns names e)
-  action_step (stmt.Assign name e) = action.Set (number_of names name.name) (term_of columns names e)
+  action_step (stmt.Let name e) = action.Set (number_of_name names name.name) (term_of columns names e)
+  action_step (stmt.Assign name e) = action.Set (number_of_name names name.name) (term_of columns names e)
   action_step (stmt.If test body other) = action.If (term_of columns names test) body (or_none other)
-  action_step (stmt.Get name table key found absent) = action.Get (number_of names name.name) (table_number tables table.name) (map (term_of columns names) key) found absent
+  action_step (stmt.Get name table key found absent) = action.Get (number_of_name names name.name) (table_number tables table.name) (map (term_of columns names) key) found absent
   action_step (stmt.For name table column low high body) =
-      action.For (number_of names name.name) (table_number tables table.name) (column_of_table tables table.name column.name) (option_map (term_of columns names) low) (option_map (term_of columns names) high) body
+      action.For (number_of_name names name.name) (table_number tables table.name) (column_of_table tables table.name column.name) (option_map (term_of columns names) low) (option_map (term_of columns names) high) body
   action_step (stmt.Insert table values) = action.Insert (table_number tables table.name) (map (term_of columns names) values)
   action_step (stmt.Update table key changes) = action.Update (table_number tables table.name) (map (term_of columns names) key) (map (setting_of table.name) changes)
   action_step (stmt.Delete table key) = action.Delete (table_number tables table.name) (map (term_of columns names) key)
@@ -62,7 +62,7 @@ module _ (tables : List TableDef) (columns names : Names) where
 -- ---- an application
 
 abbrev pub param_of : Names → ColumnText → Param
-param_of names param = record { slot = number_of names param.name.name; kind = param.kind }
+param_of names param = record { slot = number_of_name names param.name.name; kind = param.kind }
 
 abbrev pub proc_of : List TableDef → ProcDef → ProcCode
 proc_of tables procedure = record {

@@ -1,7 +1,7 @@
 //! Names and their numbers.
 
 ghost use Rattle.std.specs.Prelude.{◌≡◌, [], OnOk, length};
-ghost use Rattle.proc_code.specs.Numbers.{number_of, number_if, with_name};
+ghost use Rattle.proc_code.specs.Numbers.{number_of_name, number_if, with_name};
 
 use rel_base::{List, Name, NoMemory, Twin};
 use std::alloc::Global;
@@ -17,13 +17,13 @@ pub struct Numbering {
 
 impl Model for Numbering {
     ghost use Rattle.std.specs.Prelude.{List, ℕ};
-    ghost use Rattle.proc_code.specs.Numbers.{AreNumbered};
+    ghost use Rattle.proc_code.specs.Numbers.{AreNumbersOf};
 
     ghost Value = { List (List ℕ) };
 
     ghost view = { λ numbering. numbering.names };
 
-    ghost invariant = { λ numbering. AreNumbered numbering.names numbering.numbers };
+    ghost invariant = { λ numbering. AreNumbersOf numbering.names numbering.numbers };
 }
 
 impl Numbering {
@@ -61,7 +61,7 @@ impl Numbering {
     /// The number of a name, or that of all names where it was not met.
     #[tactic(auto, using(crate::proofs::Numbered::there, crate::proofs::Numbered::not_there))]
     pub fn number_or_len(&self, name: &Name) -> usize
-        ensures { result ≡ number_of self.now name.now }
+        ensures { result ≡ number_of_name self.now name.now }
     {
         match self.number(name) {
             Some(number) => number,

@@ -3,7 +3,7 @@
 ghost use Rattle.std.specs.Prelude.{◌≡◌, ◌<◌, ◌^◌, IfOk, length, map};
 ghost use Rattle.std.specs.Option.{option_map};
 ghost use Rattle.proc_code.specs.declared.tree.Action.TheVariants as action;
-ghost use Rattle.proc_code.specs.Numbers.{number_of, table_number, column_of_table};
+ghost use Rattle.proc_code.specs.Numbers.{number_of_name, table_number, column_of_table};
 ghost use Rattle.proc_code.specs.Resolved.{term_of, setting_of, action_of};
 
 use crate::numbering::Numbering;
@@ -33,7 +33,7 @@ impl Resolver<'_> {
 
     /// The code of a `let` or of an assignment.
     fn resolve_set(&self, name: &Named, value: &Expr) -> Result<Action, NoMemory>
-        ensures { IfOk result (λ made. made ≡ action.Set (number_of self.now.names.now name.now.name) (term_of self.now.columns.now self.now.names.now value.now)) }
+        ensures { IfOk result (λ made. made ≡ action.Set (number_of_name self.now.names.now name.now.name) (term_of self.now.columns.now self.now.names.now value.now)) }
     {
         Ok(Action::Set {
             slot: self.names.number_or_len(&name.name),
@@ -67,7 +67,7 @@ impl Resolver<'_> {
         absent: List<Action>,
     ) -> Result<Action, NoMemory>
         requires { length self.now.tables.now < 2 ^ 32 }
-        ensures { IfOk result (λ made. made ≡ action.Get (number_of self.now.names.now name.now.name) (table_number self.now.tables.now table.now.name) (map (term_of self.now.columns.now self.now.names.now) key.now) found absent) }
+        ensures { IfOk result (λ made. made ≡ action.Get (number_of_name self.now.names.now name.now.name) (table_number self.now.tables.now table.now.name) (map (term_of self.now.columns.now self.now.names.now) key.now) found absent) }
     {
         Ok(Action::Get {
             slot: self.names.number_or_len(&name.name),
@@ -223,7 +223,7 @@ fn resolve_for(
     body: &List<Stmt>,
 ) -> Result<Action, NoMemory>
     requires { length resolver.now.tables.now < 2 ^ 32 }
-    ensures { IfOk result (λ made. made ≡ action.For (number_of resolver.now.names.now name.now.name) (table_number resolver.now.tables.now table.now.name) (column_of_table resolver.now.tables.now table.now.name span.now.column.now.name) (option_map (term_of resolver.now.columns.now resolver.now.names.now) span.now.low.now) (option_map (term_of resolver.now.columns.now resolver.now.names.now) span.now.high.now) (map (action_of resolver.now.tables.now resolver.now.columns.now resolver.now.names.now) body.now)) }
+    ensures { IfOk result (λ made. made ≡ action.For (number_of_name resolver.now.names.now name.now.name) (table_number resolver.now.tables.now table.now.name) (column_of_table resolver.now.tables.now table.now.name span.now.column.now.name) (option_map (term_of resolver.now.columns.now resolver.now.names.now) span.now.low.now) (option_map (term_of resolver.now.columns.now resolver.now.names.now) span.now.high.now) (map (action_of resolver.now.tables.now resolver.now.columns.now resolver.now.names.now) body.now)) }
 {
     Ok(Action::For {
         slot: resolver.names.number_or_len(&name.name),

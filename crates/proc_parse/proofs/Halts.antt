@@ -24,7 +24,7 @@ use Rattle.proc_parse.specs.declared.lexer.Piece.{Piece}
 use Rattle.proc_parse.specs.declared.lexer.Piece.TheVariants as piece
 use Rattle.proc_parse.specs.declared.lexer.Position.{Position}
 use Rattle.proc_parse.specs.Tokens.{start, piece_at, is_last, ends, put, tokens_in, tokens_of}
-use Rattle.proc_parse.specs.Faults.{place_of, IsRefused}
+use Rattle.proc_parse.specs.Faults.{position_of, IsRefused}
 use Rattle.proc_parse.proofs.Pieces.{piece_shorter}
 use Rattle.proc_parse.proofs.Local.{left, bad_stays}
 use Rattle.proc_parse.proofs.LocalRules.{local_application}
@@ -337,7 +337,7 @@ tokens_last (suc steps) place (b ∷ bs) h =
 pub some_left : (text : List ℕ) (rest : List Token) → application (tokens_of text) ≡ Err rest → has_last rest ≡ true
 some_left text rest e = subst SomeLeft e (application_left (tokens_of text) (tokens_last (suc (length text)) start text (omega arith)))
 
-some_refused : (ts rest : List Token) → application ts ≡ Err rest → has_last rest ≡ true → IsRefused ts (place_of rest).line (place_of rest).col
+some_refused : (ts rest : List Token) → application ts ≡ Err rest → has_last rest ≡ true → IsRefused ts (position_of rest).line (position_of rest).col
 some_refused ts [] e h = absurd cc
 some_refused ts (t ∷ rest) e h =
     let suffix = local_application.suffix ts in
@@ -353,5 +353,5 @@ some_refused ts (t ∷ rest) e h =
     }
 
 -- where an application is not read, never continuation allows the token at the place
-pub text_refused : (text : List ℕ) (rest : List Token) → application (tokens_of text) ≡ Err rest → IsRefused (tokens_of text) (place_of rest).line (place_of rest).col
+pub text_refused : (text : List ℕ) (rest : List Token) → application (tokens_of text) ≡ Err rest → IsRefused (tokens_of text) (position_of rest).line (position_of rest).col
 text_refused text rest e = some_refused (tokens_of text) rest e (some_left text rest e)

@@ -16,7 +16,7 @@ use Rattle.proc_parse.specs.Phrases.{named}
 use Rattle.proc_parse.specs.Statements.{block_at}
 use Rattle.proc_parse.specs.Grammar.{table, parameters, procedure_of, procedure, is_end, application_of, application, deeper_application}
 use Rattle.proc_parse.specs.Shorter.{shortens_word, shortens_named, shortens_table, shortens_procedure, keeps_of, keeps_then, keeps_done, keeps_parameters, keeps_block}
-use Rattle.proc_parse.specs.Faults.{place_of, IsViable, IsBehindViable}
+use Rattle.proc_parse.specs.Faults.{position_of, IsViable, IsBehindViable}
 use Rattle.proc_parse.proofs.Halts.{has_last, some_left}
 use Rattle.proc_parse.proofs.Viable.{Accepts, MayContinue, Case, Whole, any, whole_done, whole_maybe}
 use Rattle.proc_parse.proofs.ViableForms.{whole_many}
@@ -107,12 +107,12 @@ fronted ts rest (Err mid) v e =
     let same : mid ≡ rest = cc in
     record { front = v.front; split = v.split ∙ ap (λ m. v.front ++ m) same; viable = goes_viable v.front v.goes }
 
-some_viable : (ts rest : List Token) → application ts ≡ Err rest → has_last rest ≡ true → IsBehindViable ts (place_of rest).line (place_of rest).col
+some_viable : (ts rest : List Token) → application ts ≡ Err rest → has_last rest ≡ true → IsBehindViable ts (position_of rest).line (position_of rest).col
 some_viable ts [] e h = absurd cc
 some_viable ts (t ∷ rest) e h =
     let f = fronted ts (t ∷ rest) (body_of procedure ts) (whole_body.viable.each ts) (sym (by_body procedure ts) ∙ e) in
     record { front = f.front; token = t; behind = rest; split = f.split; has_line = refl; has_col = refl; viable = f.viable }
 
 -- the tokens before the one that is named go on to an application
-pub text_viable : (text : List ℕ) (rest : List Token) → application (tokens_of text) ≡ Err rest → IsBehindViable (tokens_of text) (place_of rest).line (place_of rest).col
+pub text_viable : (text : List ℕ) (rest : List Token) → application (tokens_of text) ≡ Err rest → IsBehindViable (tokens_of text) (position_of rest).line (position_of rest).col
 text_viable text rest e = some_viable (tokens_of text) rest e (some_left text rest e)

@@ -10,13 +10,13 @@ use Rattle.proc_parse.specs.Reading.{Read}
 use Rattle.proc_parse.specs.Grammar.{application, deeper_application}
 
 -- the place of the first of some tokens
-abbrev pub place_of : List Token → Position
-place_of [] = start
-place_of (t ∷ ts) = record { line = t.line; col = t.col }
+abbrev pub position_of : List Token → Position
+position_of [] = start
+position_of (t ∷ ts) = record { line = t.line; col = t.col }
 
 abbrev pub fault_in : {A : Type 0} → Read A → Option Position
 fault_in (Ok x) = None
-fault_in (Err rest) = Some (place_of rest)
+fault_in (Err rest) = Some (position_of rest)
 
 -- the place of the first token that has none in an application
 abbrev pub fault_at : List ℕ → Option Position

@@ -25,7 +25,7 @@ abbrev pub IsWithin : {A : Type 0} → List Token → Read A → Type 0
 IsWithin ts (Ok x) = length x.1 ≤ length ts
 IsWithin ts (Err rest) = length rest ≤ length ts
 
-pub record Keeps {A : Type 0} (rule : Reader A) : Type 0 where
+pub record NeverGrows {A : Type 0} (rule : Reader A) : Type 0 where
   pub within : (ts : List Token) → IsWithin ts (rule ts)
 
 within_of : {A : Type 0} → (ts : List Token) (r : Read A) → IsShorter ts r → IsWithin ts r
@@ -44,36 +44,36 @@ shorter_less : {A : Type 0} → (few ts : List Token) (r : Read A) → length fe
 shorter_less few ts (Ok x) h k = omega (arith, h, k)
 shorter_less few ts (Err rest) h k = omega (arith, h, k)
 
-pub keeps_of : {A : Type 0} → (p : Reader A) → Shortens p → Keeps p
+pub keeps_of : {A : Type 0} → (p : Reader A) → Shortens p → NeverGrows p
 keeps_of p sp = record { within = λ ts. within_of ts (p ts) (sp.shorter ts) }
 
-within_read : {A B : Type 0} → (ts : List Token) (r : Read A) (f : A → Reader B) → IsWithin ts r → ((x : A) → Keeps (f x)) → IsWithin ts (on_read r f)
+within_read : {A B : Type 0} → (ts : List Token) (r : Read A) (f : A → Reader B) → IsWithin ts r → ((x : A) → NeverGrows (f x)) → IsWithin ts (on_read r f)
 within_read ts (Ok x) f h k = within_more x.1 ts (f x.0 x.1) h ((k x.0).within x.1)
 within_read ts (Err rest) f h k = h
 
-shorter_read : {A B : Type 0} → (ts : List Token) (r : Read A) (f : A → Reader B) → IsShorter ts r → ((x : A) → Keeps (f x)) → IsShorter ts (on_read r f)
+shorter_read : {A B : Type 0} → (ts : List Token) (r : Read A) (f : A → Reader B) → IsShorter ts r → ((x : A) → NeverGrows (f x)) → IsShorter ts (on_read r f)
 shorter_read ts (Ok x) f h k = shorter_more x.1 ts (f x.0 x.1) h ((k x.0).within x.1)
 shorter_read ts (Err rest) f h k = h
 
-pub keeps_then : {A B : Type 0} → (p : Reader A) (f : A → Reader B) → Keeps p → ((x : A) → Keeps (f x)) → Keeps (p >>= f)
+pub keeps_then : {A B : Type 0} → (p : Reader A) (f : A → Reader B) → NeverGrows p → ((x : A) → NeverGrows (f x)) → NeverGrows (p >>= f)
 keeps_then p f kp kf = record { within = λ ts. within_read ts (p ts) f (kp.within ts) kf }
 
-pub shortens_then : {A B : Type 0} → (p : Reader A) (f : A → Reader B) → Shortens p → ((x : A) → Keeps (f x)) → Shortens (p >>= f)
+pub shortens_then : {A B : Type 0} → (p : Reader A) (f : A → Reader B) → Shortens p → ((x : A) → NeverGrows (f x)) → Shortens (p >>= f)
 shortens_then p f sp kf = record { shorter = λ ts. shorter_read ts (p ts) f (sp.shorter ts) kf }
 
-pub keeps_done : {A : Type 0} → (x : A) → Keeps (done x)
+pub keeps_done : {A : Type 0} → (x : A) → NeverGrows (done x)
 keeps_done x = record { within = λ ts. omega arith }
 
 pub shortens_refuse : (A : Type 0) → Shortens (refuse {A = A})
 shortens_refuse A = record { shorter = λ ts. omega arith }
 
-within_past : {A : Type 0} → (test : Lexeme → Bool) (ts : List Token) (go : Reader A) (stay : Read A) → Keeps go → IsWithin ts stay → IsWithin ts (if_past (past test ts) go stay)
+within_past : {A : Type 0} → (test : Lexeme → Bool) (ts : List Token) (go : Reader A) (stay : Read A) → NeverGrows go → IsWithin ts stay → IsWithin ts (if_past (past test ts) go stay)
 within_past test [] go stay kg ks = ks
 within_past {A = A} test (t ∷ ts) go stay kg ks =
     elim (test t.lexeme) as (λ b. IsWithin (t ∷ ts) (if_past {A = A} (cond b (Some ts) None) go stay))
     [ true ↦ within_more ts (t ∷ ts) (go ts) (omega arith) (kg.within ts) | false ↦ ks ]
 
-shorter_past : {A : Type 0} → (test : Lexeme → Bool) (ts : List Token) (go : Reader A) (stay : Read A) → Keeps go → IsShorter ts stay → IsShorter ts (if_past (past test ts) go stay)
+shorter_past : {A : Type 0} → (test : Lexeme → Bool) (ts : List Token) (go : Reader A) (stay : Read A) → NeverGrows go → IsShorter ts stay → IsShorter ts (if_past (past test ts) go stay)
 shorter_past test [] go stay kg ss = ss
 shorter_past {A = A} test (t ∷ ts) go stay kg ss =
     elim (test t.lexeme) as (λ b. IsShorter (t ∷ ts) (if_past {A = A} (cond b (Some ts) None) go stay))
@@ -83,13 +83,13 @@ within_before : {A : Type 0} → (b : Bool) (ts : List Token) (go stay : Read A)
 within_before true ts go stay kg ks = kg
 within_before false ts go stay kg ks = ks
 
-pub keeps_behind : {A : Type 0} → (test : Lexeme → Bool) (go stay : Reader A) → Keeps go → Keeps stay → Keeps (behind test go stay)
+pub keeps_behind : {A : Type 0} → (test : Lexeme → Bool) (go stay : Reader A) → NeverGrows go → NeverGrows stay → NeverGrows (behind test go stay)
 keeps_behind test go stay kg ks = record { within = λ ts. within_past test ts go (stay ts) kg (ks.within ts) }
 
-pub shortens_behind : {A : Type 0} → (test : Lexeme → Bool) (go stay : Reader A) → Keeps go → Shortens stay → Shortens (behind test go stay)
+pub shortens_behind : {A : Type 0} → (test : Lexeme → Bool) (go stay : Reader A) → NeverGrows go → Shortens stay → Shortens (behind test go stay)
 shortens_behind test go stay kg ss = record { shorter = λ ts. shorter_past test ts go (stay ts) kg (ss.shorter ts) }
 
-pub keeps_before : {A : Type 0} → (test : Lexeme → Bool) (go stay : Reader A) → Keeps go → Keeps stay → Keeps (before test go stay)
+pub keeps_before : {A : Type 0} → (test : Lexeme → Bool) (go stay : Reader A) → NeverGrows go → NeverGrows stay → NeverGrows (before test go stay)
 keeps_before test go stay kg ks = record { within = λ ts. within_before (begins test ts) ts (go ts) (stay ts) (kg.within ts) (ks.within ts) }
 
 shorter_before : {A : Type 0} → (b : Bool) (ts : List Token) (go stay : Read A) → IsShorter ts go → IsShorter ts stay → IsShorter ts (cond b go stay)
@@ -124,26 +124,26 @@ shortens_list_from item short (suc steps) items =
 pub shortens_list : {A : Type 0} → (item : Reader A) → Shortens item → Shortens (list_of item)
 shortens_list item short = record { shorter = λ ts. (shortens_list_from item short (length ts) []).shorter ts }
 
-pub keeps_many_from : {A : Type 0} → (test : Lexeme → Bool) (item : Reader A) → Shortens item → (steps : ℕ) (items : List A) → Keeps (many_from test item steps items)
+pub keeps_many_from : {A : Type 0} → (test : Lexeme → Bool) (item : Reader A) → Shortens item → (steps : ℕ) (items : List A) → NeverGrows (many_from test item steps items)
 keeps_many_from test item short zero items = keeps_done items
 keeps_many_from test item short (suc steps) items =
     keeps_before test _ _ (keeps_then item _ (keeps_of item short) (λ x. keeps_many_from test item short steps (items ++ x ∷ []))) (keeps_done items)
 
-pub keeps_many : {A : Type 0} → (test : Lexeme → Bool) (item : Reader A) → Shortens item → Keeps (many_of test item)
+pub keeps_many : {A : Type 0} → (test : Lexeme → Bool) (item : Reader A) → Shortens item → NeverGrows (many_of test item)
 keeps_many test item short = record { within = λ ts. (keeps_many_from test item short (length ts) []).within ts }
 
 -- ---- the rules
 
-pub shortens_word : {A : Type 0} → (w : Word) (next : Reader A) → Keeps next → Shortens (the_word w >> next)
+pub shortens_word : {A : Type 0} → (w : Word) (next : Reader A) → NeverGrows next → Shortens (the_word w >> next)
 shortens_word w next k = shortens_then (the_word w) (λ _. next) (shortens_expect (is_word w)) (λ _. k)
 
-pub shortens_sign : {A : Type 0} → (s : Sign) (next : Reader A) → Keeps next → Shortens (the_sign s >> next)
+pub shortens_sign : {A : Type 0} → (s : Sign) (next : Reader A) → NeverGrows next → Shortens (the_sign s >> next)
 shortens_sign s next k = shortens_then (the_sign s) (λ _. next) (shortens_expect (is_sign s)) (λ _. k)
 
-pub keeps_word : {A : Type 0} → (w : Word) (next : Reader A) → Keeps next → Keeps (the_word w >> next)
+pub keeps_word : {A : Type 0} → (w : Word) (next : Reader A) → NeverGrows next → NeverGrows (the_word w >> next)
 keeps_word w next k = keeps_of _ (shortens_word w next k)
 
-pub keeps_sign : {A : Type 0} → (s : Sign) (next : Reader A) → Keeps next → Keeps (the_sign s >> next)
+pub keeps_sign : {A : Type 0} → (s : Sign) (next : Reader A) → NeverGrows next → NeverGrows (the_sign s >> next)
 keeps_sign s next k = keeps_of _ (shortens_sign s next k)
 
 pub shortens_parens : {A : Type 0} → (phrase : Reader A) → Shortens phrase → Shortens (in_parens phrase)
@@ -163,7 +163,7 @@ shortens_names = shortens_parens (list_of named) (shortens_list named shortens_n
 
 -- ---- expressions
 
-within_op : {A : Type 0} → (ops : Lexeme → Option Op) (ts : List Token) (go : Op → Reader A) (stay : A) → ((o : Op) → Keeps (go o)) → IsWithin ts (if_op (op_at ops ts) go stay ts)
+within_op : {A : Type 0} → (ops : Lexeme → Option Op) (ts : List Token) (go : Op → Reader A) (stay : A) → ((o : Op) → NeverGrows (go o)) → IsWithin ts (if_op (op_at ops ts) go stay ts)
 within_op ops [] go stay kg = omega arith
 within_op {A = A} ops (t ∷ ts) go stay kg =
     elim (ops t.lexeme) as (λ o. IsWithin (t ∷ ts) (if_op {A = A} (op_before o ts) go stay (t ∷ ts)))
@@ -173,10 +173,10 @@ within_no_op : {A : Type 0} → (o : Option (Op × List Token)) (ts : List Token
 within_no_op None ts stay = omega arith
 within_no_op (Some found) ts stay = omega arith
 
-keeps_op : {A : Type 0} → (ops : Lexeme → Option Op) (go : Op → Reader A) (stay : A) → ((o : Op) → Keeps (go o)) → Keeps (with_op ops go stay)
+keeps_op : {A : Type 0} → (ops : Lexeme → Option Op) (go : Op → Reader A) (stay : A) → ((o : Op) → NeverGrows (go o)) → NeverGrows (with_op ops go stay)
 keeps_op ops go stay kg = record { within = λ ts. within_op ops ts go stay kg }
 
-keeps_chain : (ops : Lexeme → Option Op) (operand : Reader Expr) → Shortens operand → (more : ℕ) (left : Expr) → Keeps (chain_from ops operand more left)
+keeps_chain : (ops : Lexeme → Option Op) (operand : Reader Expr) → Shortens operand → (more : ℕ) (left : Expr) → NeverGrows (chain_from ops operand more left)
 keeps_chain ops operand short zero left = record { within = λ ts. within_no_op (op_at ops ts) ts left }
 keeps_chain ops operand short (suc more) left =
     keeps_op ops _ left (λ o. keeps_then operand _ (keeps_of operand short) (λ right. keeps_chain ops operand short more (expr.Two o left right)))
@@ -229,13 +229,13 @@ shortens_expression = shortens_whole (inner 16) (short_inner 16)
 
 -- ---- statements
 
-keeps_expression : Keeps expression
+keeps_expression : NeverGrows expression
 keeps_expression = keeps_of expression shortens_expression
 
-keeps_named : Keeps named
+keeps_named : NeverGrows named
 keeps_named = keeps_of named shortens_named
 
-keeps_keys : Keeps keys
+keeps_keys : NeverGrows keys
 keeps_keys = keeps_of keys (shortens_parens (list_of expression) (shortens_list expression shortens_expression))
 
 shortens_let : Shortens let_statement
@@ -244,18 +244,18 @@ shortens_let = shortens_word word.Let _ (keeps_then named _ keeps_named (λ name
 shortens_assignment : Shortens assignment
 shortens_assignment = shortens_then named _ shortens_named (λ name. keeps_sign sign.Equal _ (keeps_then expression _ keeps_expression (λ e. keeps_sign sign.Semicolon _ (keeps_done _))))
 
-shortens_if : (b : Reader (List Stmt)) → Keeps b → Shortens (if_statement b)
+shortens_if : (b : Reader (List Stmt)) → NeverGrows b → Shortens (if_statement b)
 shortens_if b kb = shortens_word word.If _ (keeps_then expression _ keeps_expression (λ test. keeps_then b _ kb (λ body.
     keeps_then (behind (is_word word.Else) (some_block b) (done None)) _ (keeps_behind (is_word word.Else) (some_block b) _ (keeps_then b _ kb (λ body. keeps_done _)) (keeps_done None)) (λ other. keeps_done _))))
 
-shortens_get : (b : Reader (List Stmt)) → Keeps b → Shortens (get_statement b)
+shortens_get : (b : Reader (List Stmt)) → NeverGrows b → Shortens (get_statement b)
 shortens_get b kb = shortens_word word.Get _ (keeps_then named _ keeps_named (λ name. keeps_word word.From _ (keeps_then named _ keeps_named (λ table.
     keeps_word word.Key _ (keeps_then keys _ keeps_keys (λ key. keeps_then b _ kb (λ found. keeps_word word.Else _ (keeps_then b _ kb (λ absent. keeps_done _)))))))))
 
-keeps_span : (w : Word) → Keeps (span_end w)
+keeps_span : (w : Word) → NeverGrows (span_end w)
 keeps_span w = keeps_behind (is_word w) _ _ (keeps_then expression _ keeps_expression (λ e. keeps_done _)) (keeps_done None)
 
-shortens_for : (b : Reader (List Stmt)) → Keeps b → Shortens (for_statement b)
+shortens_for : (b : Reader (List Stmt)) → NeverGrows b → Shortens (for_statement b)
 shortens_for b kb = shortens_word word.For _ (keeps_then named _ keeps_named (λ name. keeps_word word.In _ (keeps_then named _ keeps_named (λ table.
     keeps_word word.Span _ (keeps_word word.On _ (keeps_then named _ keeps_named (λ column. keeps_then (span_end word.From) _ (keeps_span word.From) (λ low.
     keeps_then (span_end word.To) _ (keeps_span word.To) (λ high. keeps_then b _ kb (λ body. keeps_done _))))))))))
@@ -276,7 +276,7 @@ shortens_delete = shortens_word word.Delete _ (keeps_then named _ keeps_named (�
 shortens_fail : Shortens fail_statement
 shortens_fail = shortens_word word.Fail _ (keeps_then text_rule _ (keeps_of text_rule (shortens_one _)) (λ text. keeps_sign sign.Semicolon _ (keeps_done _)))
 
-shortens_by : (b : Reader (List Stmt)) → Keeps b → (h : Head) → Shortens (statement_by b h)
+shortens_by : (b : Reader (List Stmt)) → NeverGrows b → (h : Head) → Shortens (statement_by b h)
 shortens_by b kb head.Let = shortens_let
 shortens_by b kb head.If = shortens_if b kb
 shortens_by b kb head.Get = shortens_get b kb
@@ -287,10 +287,10 @@ shortens_by b kb head.Delete = shortens_delete
 shortens_by b kb head.Fail = shortens_fail
 shortens_by b kb head.Name = shortens_assignment
 
-pub shortens_statement : (b : Reader (List Stmt)) → Keeps b → Shortens (statement_of b)
+pub shortens_statement : (b : Reader (List Stmt)) → NeverGrows b → Shortens (statement_of b)
 shortens_statement b kb = shortens_first head_of (statement_by b) (shortens_by b kb)
 
-pub keeps_block : (more : ℕ) → Keeps (block_at more)
+pub keeps_block : (more : ℕ) → NeverGrows (block_at more)
 keeps_block zero = keeps_of _ (shortens_refuse (List Stmt))
 keeps_block (suc more) = keeps_sign sign.OpenBrace _ (keeps_then (many_of no_close (statement_of (block_at more))) _
     (keeps_many no_close (statement_of (block_at more)) (shortens_statement (block_at more) (keeps_block more))) (λ body. keeps_sign sign.CloseBrace _ (keeps_done body)))
@@ -304,7 +304,7 @@ shortens_table = shortens_word word.Table _ (keeps_then named _ (keeps_of _ shor
     (λ key. keeps_then (behind (is_word word.Index) names (done [])) _ (keeps_behind _ names _ (keeps_of _ shortens_names) (keeps_done []))
     (λ index. keeps_sign sign.Semicolon _ (keeps_done _)))))))
 
-pub keeps_parameters : Keeps parameters
+pub keeps_parameters : NeverGrows parameters
 keeps_parameters = keeps_sign sign.Open _ (keeps_behind (is_sign sign.Close) _ _ (keeps_done [])
     (keeps_then (list_of column) _ (keeps_of _ (shortens_list column shortens_column)) (λ params. keeps_sign sign.Close _ (keeps_done params))))
 

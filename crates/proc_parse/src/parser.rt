@@ -3,7 +3,7 @@
 ghost use Rattle.std.specs.Prelude.{◌≡◌, ◌<◌, ◌-◌, ◌^◌, length, Some, None, IfOk};
 ghost use Rattle.proc_parse.specs.Tokens.{tokens_of};
 ghost use Rattle.proc_parse.specs.Grammar.{app_of};
-ghost use Rattle.proc_parse.specs.Faults.{place_of, fault_at, IfSyntax, IsBehindViable, IsRefused};
+ghost use Rattle.proc_parse.specs.Faults.{position_of, fault_at, IfSyntax, IsBehindViable, IsRefused};
 
 use crate::declarations::application;
 use crate::lexer::{Position, tokens};
@@ -33,8 +33,8 @@ impl From<NoMemory> for ParseFault {
 }
 
 /// The place of the first of some tokens.
-fn place_of(tokens: &[Token]) -> Position
-    ensures { result ≡ place_of tokens.now }
+fn position_of(tokens: &[Token]) -> Position
+    ensures { result ≡ position_of tokens.now }
 {
     match tokens {
         [first, ..] => Position {
@@ -47,9 +47,9 @@ fn place_of(tokens: &[Token]) -> Position
 
 /// The fault of a text whose tokens from these on have no place.
 fn fault_at(rest: &[Token]) -> ParseFault
-    ensures { result ≡ ParseFault.Syntax (place_of rest.now).line (place_of rest.now).col }
+    ensures { result ≡ ParseFault.Syntax (position_of rest.now).line (position_of rest.now).col }
 {
-    let Position { line, col } = place_of(rest);
+    let Position { line, col } = position_of(rest);
     ParseFault::Syntax { line, col }
 }
 

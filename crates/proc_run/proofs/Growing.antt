@@ -17,7 +17,7 @@ use Rattle.proc_syntax.specs.Steps.{Going, Stopped, then_do, step_then, with_val
 use Rattle.proc_syntax.specs.Values.{flag_of}
 use Rattle.proc_code.specs.declared.tree.Action.{Action, Action-F, fold-roll-Action, ind-Action, map-Action, roll-Action}
 use Rattle.proc_code.specs.declared.tree.Action.TheOpen as action
-use Rattle.proc_code.specs.Coded.{State, Outcome, hold, table_at, worth_of, worths_of, end_worth, sets_worth, do_step, do_action, do_all}
+use Rattle.proc_code.specs.Coded.{State, Progress, hold, table_at, worth_of, worths_of, end_worth, sets_worth, do_step, do_action, do_all}
 use Rattle.proc_run.specs.declared.path.Spot.{Spot}
 use Rattle.proc_run.specs.declared.plan.Pending.{Pending}
 use Rattle.proc_run.specs.declared.plan.Pending.TheVariants.{Insert, Update, Delete, Get, For}
@@ -28,49 +28,49 @@ use Rattle.proc_run.specs.declared.path.Branch.TheVariants.{First, Second}
 use Rattle.proc_run.specs.Remains.{waits, seen_in, resume, answered, run_frame, run_frames, remains}
 use Rattle.proc_run.specs.MachineView.{IsNextWant, want_of}
 
-abbrev pub state_of : Outcome → State
+abbrev pub state_of : Progress → State
 state_of (Going st) = st
 state_of (Stopped st why) = st
 
 -- o is of a run that had made these reads
-pub record Grows (made : List Made) (o : Outcome) : Type 0 where
+pub record Grows (made : List Made) (o : Progress) : Type 0 where
   pub more : List Made
   pub is : (state_of o).made ≡ made ++ more
 
-grows_same : (made : List Made) (o : Outcome) → (state_of o).made ≡ made → Grows made o
+grows_same : (made : List Made) (o : Progress) → (state_of o).made ≡ made → Grows made o
 grows_same made o e = record { more = []; is = e ∙ sym (append-nil made) }
 
-grows_then : (made : List Made) (o : Outcome) (f : State → Outcome) → Grows made o → ((st : State) → Grows st.made (f st)) → Grows made (then_do o f)
+grows_then : (made : List Made) (o : Progress) (f : State → Progress) → Grows made o → ((st : State) → Grows st.made (f st)) → Grows made (then_do o f)
 grows_then made (Going st) f g h = record { more = g.more ++ (h st).more; is = (h st).is ∙ ap (λ l. l ++ (h st).more) g.is ∙ append_assoc made g.more (h st).more }
 grows_then made (Stopped st why) f g h = record { more = g.more; is = g.is }
 
-grows_cond : (made : List Made) (b : Bool) (o p : Outcome) → Grows made o → Grows made p → Grows made (cond b o p)
+grows_cond : (made : List Made) (b : Bool) (o p : Progress) → Grows made o → Grows made p → Grows made (cond b o p)
 grows_cond made true o p g h = g
 grows_cond made false o p g h = h
 
-grows_step : (st : State) (f : State → Outcome) → ((st : State) → Grows st.made (f st)) → Grows st.made (step_then st f)
+grows_step : (st : State) (f : State → Progress) → ((st : State) → Grows st.made (f st)) → Grows st.made (step_then st f)
 grows_step st f h = grows_cond st.made (nat_lt st.steps 100000) _ _ (h (record st { steps = st.steps + 1 })) (grows_same st.made _ refl)
 
-grows_value : {A : Type 0} (r : Result A Stop) (st : State) (f : A → Outcome) → ((v : A) → Grows st.made (f v)) → Grows st.made (with_value r st f)
+grows_value : {A : Type 0} (r : Result A Stop) (st : State) (f : A → Progress) → ((v : A) → Grows st.made (f v)) → Grows st.made (with_value r st f)
 grows_value (Ok v) st f h = h v
 grows_value (Err why) st f h = grows_same st.made _ refl
 
-grows_some : {A : Type 0} (o : Option A) (st : State) (f : A → Outcome) → ((v : A) → Grows st.made (f v)) → Grows st.made (with_some o st f)
+grows_some : {A : Type 0} (o : Option A) (st : State) (f : A → Progress) → ((v : A) → Grows st.made (f v)) → Grows st.made (with_some o st f)
 grows_some (Some v) st f h = h v
 grows_some None st f h = grows_same st.made _ refl
 
 -- after a read, the read is among them
-grows_read : (made : List Made) (m : Made) (o : Outcome) → Grows (made ++ m ∷ []) o → Grows made o
+grows_read : (made : List Made) (m : Made) (o : Progress) → Grows (made ++ m ∷ []) o → Grows made o
 grows_read made m o g = record { more = m ∷ g.more; is = g.is ∙ append_assoc made (m ∷ []) g.more }
 
-abbrev Always : (State → Outcome) → Type 0
+abbrev Always : (State → Progress) → Type 0
 Always f = (st : State) → Grows st.made (f st)
 
-grows_each : (slot table : ℕ) (body : State → Outcome) → Always body → (rows : List (List Value)) → Always (each_held (hold slot table) body rows)
+grows_each : (slot table : ℕ) (body : State → Progress) → Always body → (rows : List (List Value)) → Always (each_held (hold slot table) body rows)
 grows_each slot table body h [] st = grows_same st.made _ refl
 grows_each slot table body h (row ∷ rest) st = grows_step st _ (λ st. grows_then st.made (body (hold slot table row st)) _ (h (hold slot table row st)) (grows_each slot table body h rest))
 
-grows_held : (slot table : ℕ) (f g : State → Outcome) → Always f → Always g → (rows : List (List Value)) → Always (held_or (hold slot table) f g rows)
+grows_held : (slot table : ℕ) (f g : State → Progress) → Always f → Always g → (rows : List (List Value)) → Always (held_or (hold slot table) f g rows)
 grows_held slot table f g h k [] st = k st
 grows_held slot table f g h k (row ∷ rest) st = h (hold slot table row st)
 
@@ -87,7 +87,7 @@ grows_delete table key [] st = grows_same st.made _ refl
 grows_delete table key (row ∷ rest) st = grows_same st.made _ refl
 
 module _ (declared : List TableDef) (columns : List (List (Option ℕ))) (S : Tables) where
-  abbrev performs : Action → State → Outcome
+  abbrev performs : Action → State → Progress
   performs = do_action declared columns S
 
   -- a statement, and that it only adds
@@ -97,7 +97,7 @@ module _ (declared : List TableDef) (columns : List (List (Option ℕ))) (S : Ta
   abbrev bare : Such → Action
   bare e = e.0
 
-  grows_rows : (def : TableDef) (read : Read) (f : List (List Value) → State → Outcome) → ((rows : List (List Value)) → Always (f rows)) → Always (λ st. with_rows S def read st f)
+  grows_rows : (def : TableDef) (read : Read) (f : List (List Value) → State → Progress) → ((rows : List (List Value)) → Always (f rows)) → Always (λ st. with_rows S def read st f)
   grows_rows def read f h st =
       grows_read st.made (record { read = read; rows = rows def read S }) _ (h (merged def read st.own (rows def read S)) (asked st read (rows def read S)))
 
@@ -105,7 +105,7 @@ module _ (declared : List TableDef) (columns : List (List (Option ℕ))) (S : Ta
   grows_turns [] st = grows_same st.made _ refl
   grows_turns (e ∷ es) st = grows_then st.made (step_then st (performs e.0)) _ (grows_step st (performs e.0) e.1) (grows_turns es)
 
-  grows_form : (d : Action-F Such) → Always (do_step declared columns S (map-Action Action (State → Outcome) performs (map-Action Such Action bare d)))
+  grows_form : (d : Action-F Such) → Always (do_step declared columns S (map-Action Action (State → Progress) performs (map-Action Such Action bare d)))
   grows_form (action.Set slot e) st = grows_value (worth_of columns e st.variables) st _ (λ v. grows_same st.made _ refl)
   grows_form (action.If test body other) st =
       grows_value (worth_of columns test st.variables) st _ (λ v. grows_value (flag_of v) st _ (λ holds. grows_cond st.made holds _ _ (grows_turns body st) (grows_turns other st)))
@@ -128,7 +128,7 @@ module _ (declared : List TableDef) (columns : List (List (Option ℕ))) (S : Ta
 
   grows_act : (a : Action) → Always (performs a)
   grows_act = ind-Action (λ a. Always (performs a)) (λ x y e. subst (λ x. Always (performs (roll-Action x))) e
-      (subst Always (sym (fold-roll-Action (State → Outcome) (do_step declared columns S) (map-Action Such Action bare y))) (grows_form y)))
+      (subst Always (sym (fold-roll-Action (State → Progress) (do_step declared columns S) (map-Action Such Action bare y))) (grows_form y)))
 
   grows_all : (actions : List Action) → Always (do_all declared columns S actions)
   grows_all [] st = grows_same st.made _ refl
@@ -167,6 +167,6 @@ module _ (declared : List TableDef) (columns : List (List (Option ℕ))) (S : Ta
   next_is root phase.Good path st w = refl
   next_is root (phase.Stopped why) path st w = refl
 
-pub reads_are : (declared : List TableDef) (S : Tables) (o : Outcome) → (ran declared S o).reads ≡ (state_of o).made
+pub reads_are : (declared : List TableDef) (S : Tables) (o : Progress) → (ran declared S o).reads ≡ (state_of o).made
 reads_are declared S (Going st) = refl
 reads_are declared S (Stopped st why) = refl

@@ -13,7 +13,7 @@ use Rattle.proc_syntax.specs.declared.run.Stop.{Stop}
 use Rattle.proc_syntax.specs.declared.run.Stop.TheVariants as stop
 use Rattle.proc_syntax.specs.Steps.{Going, Stopped, then_do, step_then, with_value, held_or, each_held}
 use Rattle.proc_code.specs.declared.tree.Action.{Action}
-use Rattle.proc_code.specs.Coded.{State, Outcome, hold, do_action, do_all}
+use Rattle.proc_code.specs.Coded.{State, Progress, hold, do_action, do_all}
 use Rattle.proc_run.specs.declared.path.Branch.{Branch}
 use Rattle.proc_run.specs.declared.path.Branch.TheVariants.{First, Second}
 use Rattle.proc_run.specs.declared.path.Spot.{Spot}
@@ -31,18 +31,18 @@ one_left xs n x h = drop_next xs n x h ∙ ap (λ m. x ∷ drop m xs) (sym (add-
 
 -- ---- outcomes
 
-pub then_then : (o : Outcome) (f g : State → Outcome) → then_do (then_do o f) g ≡ then_do o (λ st. then_do (f st) g)
+pub then_then : (o : Progress) (f g : State → Progress) → then_do (then_do o f) g ≡ then_do o (λ st. then_do (f st) g)
 then_then (Going st) f g = refl
 then_then (Stopped st why) f g = refl
 
-pub then_going : (o : Outcome) → o ≡ then_do o Going
+pub then_going : (o : Progress) → o ≡ then_do o Going
 then_going (Going st) = refl
 then_going (Stopped st why) = refl
 
-pub a_step : (st : State) (go : State → Outcome) → st.steps < 100000 → step_then st go ≡ go (record st { steps = st.steps + 1 })
+pub a_step : (st : State) (go : State → Progress) → st.steps < 100000 → step_then st go ≡ go (record st { steps = st.steps + 1 })
 a_step st go low = ap (λ b. cond b (go (record st { steps = st.steps + 1 })) (Stopped st (stop.Fault fault.Steps))) (lt-ltb st.steps 100000 low)
 
-pub no_step : (st : State) (go : State → Outcome) → 100000 ≤ st.steps → step_then st go ≡ Stopped st (stop.Fault fault.Steps)
+pub no_step : (st : State) (go : State → Progress) → 100000 ≤ st.steps → step_then st go ≡ Stopped st (stop.Fault fault.Steps)
 no_step st go high = ap (λ b. cond b (go (record st { steps = st.steps + 1 })) (Stopped st (stop.Fault fault.Steps))) (le-ltb st.steps 100000 high)
 
 -- ---- paths
@@ -56,10 +56,10 @@ block_push block [] s = refl
 block_push block (t ∷ ss) s = block_push (step_into block t) ss s
 
 module _ (declared : List TableDef) (columns : List (List (Option ℕ))) (S : Tables) where
-  abbrev runs : List Frame → State → Outcome
+  abbrev runs : List Frame → State → Progress
   runs = run_frames declared columns S
 
-  abbrev runs_one : Frame → State → Outcome
+  abbrev runs_one : Frame → State → Progress
   runs_one = run_frame declared columns S
 
   run_push : (fs : List Frame) (f : Frame) (st : State) → runs (fs ++ f ∷ []) st ≡ then_do (runs_one f st) (runs fs)
@@ -77,7 +77,7 @@ module _ (declared : List TableDef) (columns : List (List (Option ℕ))) (S : Ta
   block_rest root ss at next branch block st same = path_push root ss (spot.Block at branch next) st ∙ ap (λ block. then_do (do_all declared columns S (drop next block) st) (runs (frames_of root ss))) (sym same)
 
   module _ (root : List Action) (ss : List Spot) (at next : ℕ) (branch : Branch) (block : List Action) (st : State) (same : block ≡ part_of (block_of root ss) at branch) where
-    abbrev below : State → Outcome
+    abbrev below : State → Progress
     below = runs (frames_of root ss)
 
     -- a block of which nothing is left
@@ -85,13 +85,13 @@ module _ (declared : List TableDef) (columns : List (List (Option ℕ))) (S : Ta
     block_over over = sym (block_rest root ss at next branch block st same ∙ ap (λ left. then_do (do_all declared columns S left st) below) (drop_all next block over))
 
     module _ (a : Action) (here : slice_get block next ≡ Some a) where
-      abbrev act : State → Outcome
+      abbrev act : State → Progress
       act = do_action declared columns S a
 
-      abbrev rest : State → Outcome
+      abbrev rest : State → Progress
       rest st = then_do (do_all declared columns S (drop (next + 1) block) st) below
 
-      abbrev later : State → Outcome
+      abbrev later : State → Progress
       later = runs (frames_of root (ss ++ spot.Block at branch (next + 1) ∷ []))
 
       abbrev counted : State
@@ -129,13 +129,13 @@ module _ (declared : List TableDef) (columns : List (List (Option ℕ))) (S : Ta
   -- ---- the rows of a `for`
 
   module _ (root : List Action) (ss : List Spot) (at slot table : ℕ) (rows : List (List Value)) (next : ℕ) (st : State) where
-    abbrev under : State → Outcome
+    abbrev under : State → Progress
     under = runs (frames_of root ss)
 
-    abbrev body : State → Outcome
+    abbrev body : State → Progress
     body = do_all declared columns S (part_of (block_of root ss) at First)
 
-    abbrev before : Outcome
+    abbrev before : Progress
     before = runs (frames_of root (ss ++ spot.Loop at slot table rows next ∷ [])) st
 
     -- of which none is left
@@ -175,7 +175,7 @@ module _ (declared : List TableDef) (columns : List (List (Option ℕ))) (S : Ta
   branch_taken root ss at false branch st is = ap (λ b. then_do (do_all declared columns S (part_of (block_of root ss) at b) st) (runs (frames_of root ss))) is
 
   module _ (root : List Action) (ss : List Spot) (at slot table : ℕ) (seen : List (List Value)) (st : State) where
-    abbrev held : Outcome
+    abbrev held : Progress
     held = held_or (hold slot table) (do_all declared columns S (part_of (block_of root ss) at First)) (do_all declared columns S (part_of (block_of root ss) at Second)) seen st
 
     held_none : slice_get seen 0 ≡ None → do_all declared columns S (part_of (block_of root ss) at Second) st ≡ held

@@ -16,7 +16,7 @@ use Rattle.proc_syntax.specs.Values.{◌>>=◌, found, flag_of}
 use Rattle.proc_syntax.proofs.Fits.{point_fits, span_fits, key_fits, key_of_fit}
 use Rattle.proc_code.specs.declared.tree.Action.{Action, Action-F, fold-roll-Action, ind-Action, map-Action, out-roll-Action, roll-Action}
 use Rattle.proc_code.specs.declared.tree.Action.TheOpen as action
-use Rattle.proc_code.specs.Coded.{Slots, State, Outcome, hold, table_at, worth_of, worths_of, end_worth, sets_worth, do_step, do_action, do_all}
+use Rattle.proc_code.specs.Coded.{Slots, State, Progress, hold, table_at, worth_of, worths_of, end_worth, sets_worth, do_step, do_action, do_all}
 use Rattle.proc_run.specs.declared.plan.Pending.{Pending}
 use Rattle.proc_run.specs.declared.plan.Pending.TheVariants as pending
 use Rattle.proc_run.specs.declared.plan.Plan.{Plan}
@@ -32,16 +32,16 @@ by_form P each = ind-Action P (λ x y e. each x)
 
 -- ---- steps of a plan
 
-module _ (st : State) (go : Plan → Outcome) where
-  value_then : {A : Type 0} (r : Result A Stop) (f : A → Result Plan Stop) (h : A → Outcome) → ((v : A) → h v ≡ with_value (f v) st go) → with_value r st h ≡ with_value (r >>= f) st go
+module _ (st : State) (go : Plan → Progress) where
+  value_then : {A : Type 0} (r : Result A Stop) (f : A → Result Plan Stop) (h : A → Progress) → ((v : A) → h v ≡ with_value (f v) st go) → with_value r st h ≡ with_value (r >>= f) st go
   value_then (Ok v) f h same = same v
   value_then (Err why) f h same = refl
 
-  some_then : {A : Type 0} (P : A → Type 0) (o : Option A) (f : A → Result Plan Stop) (h : A → Outcome) → IfSome o P → ((v : A) → P v → h v ≡ with_value (f v) st go) → with_some o st h ≡ with_value (found o >>= f) st go
+  some_then : {A : Type 0} (P : A → Type 0) (o : Option A) (f : A → Result Plan Stop) (h : A → Progress) → IfSome o P → ((v : A) → P v → h v ≡ with_value (f v) st go) → with_some o st h ≡ with_value (found o >>= f) st go
   some_then P (Some v) f h p same = same v p
   some_then P None f h p same = refl
 
-  table_then : (declared : List TableDef) (table : ℕ) (f : TableDef → Result Plan Stop) (h : ℕ × TableDef → Outcome) → ((def : TableDef) → slice_get declared table ≡ Some def → h (table, def) ≡ with_value (f def) st go)
+  table_then : (declared : List TableDef) (table : ℕ) (f : TableDef → Result Plan Stop) (h : ℕ × TableDef → Progress) → ((def : TableDef) → slice_get declared table ≡ Some def → h (table, def) ≡ with_value (f def) st go)
       → with_some (table_at declared table) st h ≡ with_value (found (slice_get declared table) >>= f) st go
   table_then declared table f h same = by_found (slice_get declared table) refl
     where
@@ -51,7 +51,7 @@ module _ (st : State) (go : Plan → Outcome) where
 
 module _ (declared : List TableDef) (columns : List (List (Option ℕ))) (S : Tables) where
   module _ (first second : List Action) (st : State) where
-    abbrev then_plan : Plan → State → Outcome
+    abbrev then_plan : Plan → State → Progress
     then_plan = do_plan declared columns S first second
 
     -- a read of a declared table, and what is done with its rows
@@ -81,15 +81,15 @@ module _ (declared : List TableDef) (columns : List (List (Option ℕ))) (S : Ta
     visits def slot table read at_table here =
         ap (λ t. with_rows S def read st (each_held (hold slot t) (do_all declared columns S first))) (sym at_table) ∙ asks def read (pending.For slot) (ap (slice_get declared) at_table ∙ here)
 
-  abbrev performs : Action → State → Outcome
+  abbrev performs : Action → State → Progress
   performs = do_action declared columns S
 
-  abbrev goes : Action-F Action → State → Plan → Outcome
+  abbrev goes : Action-F Action → State → Plan → Progress
   goes d st plan = do_plan declared columns S (first_block d) (second_block d) plan st
 
   -- by the form of the statement
   planned_step : (d : Action-F Action) (st : State)
-      → do_step declared columns S (map-Action Action (State → Outcome) performs d) st
+      → do_step declared columns S (map-Action Action (State → Progress) performs d) st
       ≡ with_value (plan_step declared columns (map-Action Action (Slots → Result Plan Stop) (plan_of declared columns) d) st.variables) st (goes d st)
   planned_step (action.Set slot e) st = value_then st (goes (action.Set slot e) st) (worth_of columns e st.variables) _ _ (λ v. refl)
   planned_step (action.If test body other) st =
@@ -125,7 +125,7 @@ module _ (declared : List TableDef) (columns : List (List (Option ℕ))) (S : Ta
 
   pub planned : (d : Action-F Action) (st : State) → performs (roll-Action d) st ≡ with_value (plan_of declared columns (roll-Action d) st.variables) st (goes d st)
   planned d st =
-      ap (λ f. f st) (fold-roll-Action (State → Outcome) (do_step declared columns S) d) ∙ planned_step d st
+      ap (λ f. f st) (fold-roll-Action (State → Progress) (do_step declared columns S) d) ∙ planned_step d st
       ∙ ap (λ f. with_value (f st.variables) st (goes d st)) (sym (fold-roll-Action (Slots → Result Plan Stop) (plan_step declared columns) d))
 
   -- a statement of a block does what its plan comes to

@@ -16,7 +16,7 @@ use Rattle.proc_syntax.specs.Run as meaning
 use Rattle.proc_syntax.specs.Steps.{then_do}
 use Rattle.proc_code.specs.declared.tree.Action.{Action}
 use Rattle.proc_code.specs.declared.tree.AppCode.{AppCode}
-use Rattle.proc_code.specs.Coded.{Outcome, State}
+use Rattle.proc_code.specs.Coded.{Progress, State}
 use Rattle.proc_code.specs.Resolved.{code_of}
 use Rattle.proc_code.proofs.Coded_runs.{code_runs}
 use Rattle.proc_run.specs.declared.path.Branch.TheVariants.{Whole, First, Second}
@@ -68,7 +68,7 @@ module _ (app : App) (tx : Tx) (time : ℤ) (number : ℕ) where
   abbrev declared : List TableDef
   declared = tables_of app
 
-  abbrev left : Tables → Phase → List Spot → Run → Outcome
+  abbrev left : Tables → Phase → List Spot → Run → Progress
   left S now path going = remains declared (code_of app).columns S (body_at (code_of app) number) now path (state going)
 
   -- what was told may be told again

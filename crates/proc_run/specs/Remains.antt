@@ -18,7 +18,7 @@ use Rattle.proc_syntax.specs.Steps.{Going, Stopped, then_do, with_some, asked, i
 use Rattle.proc_eval.specs.declared.halt.Halt.{Halt}
 use Rattle.proc_eval.specs.declared.halt.Halt.TheVariants as halt
 use Rattle.proc_code.specs.declared.tree.Action.{Action}
-use Rattle.proc_code.specs.Coded.{State, Outcome, put, hold, do_all}
+use Rattle.proc_code.specs.Coded.{State, Progress, put, hold, do_all}
 use Rattle.proc_run.specs.declared.path.Branch.{Branch}
 use Rattle.proc_run.specs.declared.path.Branch.TheVariants.{First, Second}
 use Rattle.proc_run.specs.declared.path.Spot.{Spot}
@@ -44,13 +44,13 @@ abbrev pub seen_in : List TableDef → Read → Own → List Seen → List (List
 seen_in declared read own rows = seen_by (slice_get declared (read_table read)) read own rows
 
 -- what is done at the key of a point read
-abbrev pub at_key : Read → (ℕ → List Value → State → Outcome) → State → Outcome
+abbrev pub at_key : Read → (ℕ → List Value → State → Progress) → State → Progress
 at_key (Point table key) act state = act table key state
 at_key (Span table column low high) act state = Stopped state stop.IllTyped
 
 module _ (declared : List TableDef) (columns : List (List (Option ℕ))) (tables : Tables) where
   -- what is done with the rows that a transaction sees at a read of a statement that has these blocks
-  abbrev pub resume : List Action → List Action → Read → Pending → List (List Value) → State → Outcome
+  abbrev pub resume : List Action → List Action → Read → Pending → List (List Value) → State → Progress
   resume first second read (Insert row) rows state = at_key read (λ table key. insert_at table key row rows) state
   resume first second read (Update changes) rows state =
       at_key read (λ table key state. with_some (slice_get declared table) state (λ def. update_at def table key changes rows state)) state
@@ -59,32 +59,32 @@ module _ (declared : List TableDef) (columns : List (List (Option ℕ))) (tables
   resume first second read (For slot) rows state = each_held (hold slot (read_table read)) (do_all declared columns tables first) rows state
 
   -- a read gets rows, and what is done with them then
-  abbrev pub answered : List Action → List Action → Read → Pending → List Seen → State → Outcome
+  abbrev pub answered : List Action → List Action → Read → Pending → List Seen → State → Progress
   answered first second read pending rows state = resume first second read pending (seen_in declared read state.own rows) (asked state read rows)
 
   -- what the plan of a statement that has these blocks comes to
-  abbrev pub do_plan : List Action → List Action → Plan → State → Outcome
+  abbrev pub do_plan : List Action → List Action → Plan → State → Progress
   do_plan first second (plan.Set slot v) state = Going (put slot (Plain v) state)
   do_plan first second (plan.Enter holds) state = cond holds (do_all declared columns tables first state) (do_all declared columns tables second state)
   do_plan first second (plan.Ask read pending) state = answered first second read pending (rows_in declared read tables) state
 
-  abbrev pub run_frame : Frame → State → Outcome
+  abbrev pub run_frame : Frame → State → Progress
   run_frame (Rest actions) state = do_all declared columns tables actions state
   run_frame (Rows slot table rows body) state = each_held (hold slot table) (do_all declared columns tables body) rows state
 
   -- the last frame goes on first
-  abbrev pub run_frames : List Frame → State → Outcome
+  abbrev pub run_frames : List Frame → State → Progress
   run_frames [] state = Going state
   run_frames (frame ∷ frames) state = then_do (run_frames frames state) (run_frame frame)
 
   -- what remains once the step of the next statement of a block is counted: what the statement's plan comes to, and the rest of the block
-  abbrev pub goes_past : List Action → List Spot → ℕ → Branch → ℕ → Plan → State → Outcome
+  abbrev pub goes_past : List Action → List Spot → ℕ → Branch → ℕ → Plan → State → Progress
   goes_past root spots at branch next plan state =
       let path = spots ++ Block at branch (next + 1) ∷ [] in
       then_do (do_plan (part_of (block_of root path) next First) (part_of (block_of root path) next Second) plan (record state { steps = state.steps + 1 })) (run_frames (frames_of root path))
 
   -- what remains of a run
-  abbrev pub remains : List Action → Phase → List Spot → State → Outcome
+  abbrev pub remains : List Action → Phase → List Spot → State → Progress
   remains root phase.Running spots state = run_frames (frames_of root spots) state
   remains root (phase.Ask at read pending) spots state =
       then_do (answered (part_of (block_of root spots) at First) (part_of (block_of root spots) at Second) read pending (rows_in declared read tables) state) (run_frames (frames_of root spots))
@@ -128,13 +128,13 @@ abbrev pub KeepsFound : Read → List Seen → Written → Written → Type 0
 KeepsFound read rows old new = (declared : List TableDef) (tables : Tables) → rows ≡ rows_in declared read tables → AreFound declared tables old → AreFound declared tables new
 
 -- a step that was made is the one that is meant, but for want of memory
-abbrev pub Ends : Result (Unit {0}) Halt → State → Outcome → Type 0
+abbrev pub Ends : Result (Unit {0}) Halt → State → Progress → Type 0
 Ends (Ok done) reached meant = meant ≡ Going reached
 Ends (Err halt.NoMemory) reached meant = Unit {0}
 Ends (Err (halt.Stop why)) reached meant = meant ≡ Stopped reached why
 
 -- what goes on after a step is what is meant, but for want of memory
-abbrev pub Comes : Result (Unit {0}) Halt → Outcome → State → Outcome → Type 0
+abbrev pub Comes : Result (Unit {0}) Halt → Progress → State → Progress → Type 0
 Comes (Ok done) going reached meant = going ≡ meant
 Comes (Err halt.NoMemory) going reached meant = Unit {0}
 Comes (Err (halt.Stop why)) going reached meant = Stopped reached why ≡ meant

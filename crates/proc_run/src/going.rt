@@ -14,7 +14,7 @@ ghost use Rattle.proc_run.specs.Remains.{state, remains, waits, has_rows, PhaseF
 ghost use Rattle.proc_run.specs.MachineView.{Agrees, GivenInOrder, IsResumed, IsSound, given_of, held_of, read_of, want_of};
 
 use crate::path::{Program, Spot, body_at};
-use crate::resume::{Answer, resume};
+use crate::resume::{AnsweredRead, resume};
 use crate::state::{Phase, Run, Want};
 use crate::turn::advance;
 use proc_check::Checked;
@@ -60,7 +60,7 @@ fn resumed(
     let Phase::Answered { at, made, pending } = phase else {
         return Ok(None);
     };
-    let answer = Answer {
+    let answer = AnsweredRead {
         at: *at,
         made,
         pending,

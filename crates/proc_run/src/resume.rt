@@ -176,7 +176,7 @@ fn enter(
 
 /// The rows that a read of the statement of a number got of the tables, and what is done with them.
 #[derive(Clone, Copy)]
-pub struct Answer<'a> {
+pub struct AnsweredRead<'a> {
     pub at: usize,
     pub made: &'a Made,
     pub pending: &'a Pending,
@@ -188,7 +188,7 @@ pub fn resume(
     tables: &List<TableDef>,
     spots: &mut Vec<Spot>,
     run: &mut Run,
-    answer: &Answer<'_>,
+    answer: &AnsweredRead<'_>,
 ) -> Result<(), Halt>
     requires room { vec_len spots.old < vec_capacity spots.old }
     requires order { StandInOrder tables.now answer.now.made.now.read answer.now.made.now.rows }
@@ -200,7 +200,7 @@ pub fn resume(
     ensures steps { run.new.steps ≡ run.old.steps }
     ensures err { result ≡ Err halt.NoMemory → (spots.new.items ≡ spots.old.items) × (run.new ≡ run.old) }
 {
-    let Answer { at, made, pending } = *answer;
+    let AnsweredRead { at, made, pending } = *answer;
     let seen = seen_rows(alloc, tables, &run.own, made)?;
     let table = made.read.table();
     match pending {

@@ -25,7 +25,7 @@ use std::alloc::Global;
 
 /// A call before its first step: the number of its procedure, how the run stands, and what it has.
 #[derive(Drop)]
-pub struct Begun {
+pub struct BegunCall {
     pub number: usize,
     pub phase: Phase,
     pub run: Run,
@@ -103,13 +103,13 @@ fn begin(alloc: Global, procedure: &ProcCode, values: &[Value]) -> Result<Run, N
 }
 
 /// A call that can not begin. Its run has no read, and is ill typed.
-fn no_call(alloc: Global) -> Begun
+fn no_call(alloc: Global) -> BegunCall
     ensures stopped { result.phase ≡ phase.Stopped stop.IllTyped }
     ensures made { result.run.made.items ≡ [] }
     ensures steps { result.run.steps ≡ 0 }
     ensures found { (declared : List Def) (tables : Tables) → AreFound declared tables result.run.own }
 {
-    Begun {
+    BegunCall {
         number: 0,
         phase: Phase::Stopped(Stop::IllTyped),
         run: Run {
@@ -122,7 +122,7 @@ fn no_call(alloc: Global) -> Begun
 }
 
 /// A call before its first step. A call of no procedure, or with arguments that do not fit, has stopped at once.
-pub fn begin_call(alloc: Global, code: &AppCode, tx: &Tx) -> Result<Begun, NoMemory>
+pub fn begin_call(alloc: Global, code: &AppCode, tx: &Tx) -> Result<BegunCall, NoMemory>
     ensures { IfOk result (λ begun. IsBegun code.now tx.now begun.number begun.phase begun.run) }
 {
     let Some(number) = number_of(code.procs.as_slice(), &tx.procedure) else {
@@ -135,7 +135,7 @@ pub fn begin_call(alloc: Global, code: &AppCode, tx: &Tx) -> Result<Begun, NoMem
         return Ok(no_call(alloc));
     }
     let run = begin(alloc, procedure, tx.args.as_slice())?;
-    Ok(Begun {
+    Ok(BegunCall {
         number,
         phase: Phase::Running,
         run,

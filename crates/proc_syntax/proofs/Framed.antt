@@ -15,14 +15,14 @@ use Rattle.proc_syntax.specs.declared.run.Stop.{Stop}
 use Rattle.proc_syntax.specs.declared.tree.Stmt.{Stmt, Stmt-F, map-Stmt}
 use Rattle.proc_syntax.specs.declared.tree.Stmt.TheOpen as stmt
 use Rattle.rel_base.specs.Among.{rows_in, rows_by}
-use Rattle.proc_syntax.specs.Meaning.{State, Outcome, Going, Stopped, then_do, step_then, with_value, with_some, bound, asked, point_of, span_of, key_for, row_under, set_columns, insert_at, update_at, delete_at, get_at, visit, in_turn, with_rows, act_step, act, block}
+use Rattle.proc_syntax.specs.Meaning.{State, Progress, Going, Stopped, then_do, step_then, with_value, with_some, bound, asked, point_of, span_of, key_for, row_under, set_columns, insert_at, update_at, delete_at, get_at, visit, in_turn, with_rows, act_step, act, block}
 use Rattle.rel_base.specs.OwnWrites.{merged}
 use Rattle.proc_syntax.specs.Scope.{table_named, column_in, value_of, values_of, end_of, changes_of}
 use Rattle.proc_syntax.specs.Values.{flag_of}
 use Rattle.proc_syntax.proofs.Trees.{Such, bare, stripped, every_two}
 use Rattle.proc_syntax.proofs.Lookups.{declared_named, anything, point_table, span_table}
 
-abbrev pub state_of : Outcome → State
+abbrev pub state_of : Progress → State
 state_of (Going state) = state
 state_of (Stopped state why) = state
 
@@ -41,15 +41,15 @@ module _ (declared : List TableDef) where
 
   module _ (S S' : Tables) where
     -- o is a run on S from a state with the reads made, and o' is the same on S'
-    pub record Framed (made : List Made) (o o' : Outcome) : Type 0 where
+    pub record Framed (made : List Made) (o o' : Progress) : Type 0 where
       pub more : List Made
       pub is : (state_of o).made ≡ made ++ more
       pub same : Agrees S' (state_of o).made → o' ≡ o
 
-    framed_same : (made : List Made) (o : Outcome) → (state_of o).made ≡ made → Framed made o o
+    framed_same : (made : List Made) (o : Progress) → (state_of o).made ≡ made → Framed made o o
     framed_same made o e = record { more = []; is = e ∙ sym (append-nil made); same = λ h. refl }
 
-    framed_then : (made : List Made) (o o' : Outcome) (f f' : State → Outcome) → Framed made o o' → ((st : State) → Framed st.made (f st) (f' st)) → Framed made (then_do o f) (then_do o' f')
+    framed_then : (made : List Made) (o o' : Progress) (f f' : State → Progress) → Framed made o o' → ((st : State) → Framed st.made (f st) (f' st)) → Framed made (then_do o f) (then_do o' f')
     framed_then made (Going st) o' f f' g h = record {
       more = g.more ++ (h st).more;
       is = (h st).is ∙ ap (λ l. l ++ (h st).more) g.is ∙ append_assoc made g.more (h st).more;
@@ -57,23 +57,23 @@ module _ (declared : List TableDef) where
     }
     framed_then made (Stopped st e) o' f f' g h = record { more = g.more; is = g.is; same = λ a. ap (λ o. then_do o f') (g.same a) }
 
-    framed_cond : (made : List Made) (b : Bool) (o o' p p' : Outcome) → Framed made o o' → Framed made p p' → Framed made (cond b o p) (cond b o' p')
+    framed_cond : (made : List Made) (b : Bool) (o o' p p' : Progress) → Framed made o o' → Framed made p p' → Framed made (cond b o p) (cond b o' p')
     framed_cond made true o o' p p' g h = g
     framed_cond made false o o' p p' g h = h
 
-    framed_step : (st : State) (f f' : State → Outcome) → ((st : State) → Framed st.made (f st) (f' st)) → Framed st.made (step_then st f) (step_then st f')
+    framed_step : (st : State) (f f' : State → Progress) → ((st : State) → Framed st.made (f st) (f' st)) → Framed st.made (step_then st f) (step_then st f')
     framed_step st f f' h = framed_cond st.made (nat_lt st.steps 100000) _ _ _ _ (h (record st { steps = st.steps + 1 })) (framed_same st.made _ refl)
 
-    framed_value : {A : Type 0} (r : Result A Stop) (st : State) (f f' : A → Outcome) → ((v : A) → Framed st.made (f v) (f' v)) → Framed st.made (with_value r st f) (with_value r st f')
+    framed_value : {A : Type 0} (r : Result A Stop) (st : State) (f f' : A → Progress) → ((v : A) → Framed st.made (f v) (f' v)) → Framed st.made (with_value r st f) (with_value r st f')
     framed_value (Ok v) st f f' h = h v
     framed_value (Err e) st f f' h = framed_same st.made _ refl
 
-    framed_some : {A : Type 0} (P : A → Type 0) (o : Option A) (st : State) (f f' : A → Outcome) → IfSome o P → ((v : A) → P v → Framed st.made (f v) (f' v)) → Framed st.made (with_some o st f) (with_some o st f')
+    framed_some : {A : Type 0} (P : A → Type 0) (o : Option A) (st : State) (f f' : A → Progress) → IfSome o P → ((v : A) → P v → Framed st.made (f v) (f' v)) → Framed st.made (with_some o st f) (with_some o st f')
     framed_some P (Some v) st f f' p h = h v p
     framed_some P None st f f' p h = framed_same st.made _ refl
 
     -- a read, and what is done with its rows
-    framed_rows : (def : TableDef) (read : Read) (st : State) (f f' : List (List Value) → State → Outcome) → slice_get declared (read_table read) ≡ Some def
+    framed_rows : (def : TableDef) (read : Read) (st : State) (f f' : List (List Value) → State → Progress) → slice_get declared (read_table read) ≡ Some def
         → ((rows : List (List Value)) (st : State) → Framed st.made (f rows st) (f' rows st)) → Framed st.made (with_rows S def read st f) (with_rows S' def read st f')
     framed_rows def read st f f' here h =
         let got : Made = record { read = read; rows = rows def read S } in
@@ -88,7 +88,7 @@ module _ (declared : List TableDef) where
               ap (λ got. f' (merged def read st.own got) (asked st read got)) (sym e) ∙ g.same a;
         }
 
-    framed_visit : (table : ℕ) (name : List ℕ) (body body' : State → Outcome) → ((st : State) → Framed st.made (body st) (body' st)) → (rows : List (List Value)) (st : State)
+    framed_visit : (table : ℕ) (name : List ℕ) (body body' : State → Progress) → ((st : State) → Framed st.made (body st) (body' st)) → (rows : List (List Value)) (st : State)
         → Framed st.made (visit table name body rows st) (visit table name body' rows st)
     framed_visit table name body body' h [] st = framed_same st.made _ refl
     framed_visit table name body body' h (row ∷ rest) st =
@@ -107,12 +107,12 @@ module _ (declared : List TableDef) where
     framed_delete table key [] st = framed_same st.made _ refl
     framed_delete table key (row ∷ rest) st = framed_same st.made _ refl
 
-    framed_get : (table : ℕ) (name : List ℕ) (f f' g g' : State → Outcome) → ((st : State) → Framed st.made (f st) (f' st)) → ((st : State) → Framed st.made (g st) (g' st))
+    framed_get : (table : ℕ) (name : List ℕ) (f f' g g' : State → Progress) → ((st : State) → Framed st.made (f st) (f' st)) → ((st : State) → Framed st.made (g st) (g' st))
         → (rows : List (List Value)) (st : State) → Framed st.made (get_at table name f g rows st) (get_at table name f' g' rows st)
     framed_get table name f f' g g' h k [] st = k st
     framed_get table name f f' g g' h k (row ∷ rest) st = h (bound st name (Held table row))
 
-    abbrev Alike : (State → Outcome) → (State → Outcome) → Type 0
+    abbrev Alike : (State → Progress) → (State → Progress) → Type 0
     Alike f f' = (st : State) → Framed st.made (f st) (f' st)
 
     abbrev AlikeAt : Stmt → Type 0
@@ -123,7 +123,7 @@ module _ (declared : List TableDef) where
     framed_in_turn (e ∷ es) st = framed_then st.made _ _ _ _ (framed_step st _ _ e.1) (framed_in_turn es)
 
     framed_act : (d : Stmt-F (Such AlikeAt))
-        → Alike (act_step declared S (map-Stmt Stmt (State → Outcome) (act declared S) (stripped d))) (act_step declared S' (map-Stmt Stmt (State → Outcome) (act declared S') (stripped d)))
+        → Alike (act_step declared S (map-Stmt Stmt (State → Progress) (act declared S) (stripped d))) (act_step declared S' (map-Stmt Stmt (State → Progress) (act declared S') (stripped d)))
     framed_act (stmt.Let name e) st = framed_value (value_of declared e st.variables) st _ _ (λ v. framed_same st.made _ refl)
     framed_act (stmt.Assign name e) st = framed_value (value_of declared e st.variables) st _ _ (λ v. framed_same st.made _ refl)
     framed_act (stmt.If test body None) st =
@@ -160,7 +160,7 @@ module _ (declared : List TableDef) where
     framed_act (stmt.Fail text) st = framed_same st.made _ refl
 
     framed_stmt : (s : Stmt) → AlikeAt s
-    framed_stmt = every_two (State → Outcome) (act_step declared S) (act_step declared S') Alike framed_act
+    framed_stmt = every_two (State → Progress) (act_step declared S) (act_step declared S') Alike framed_act
 
     pub framed_block : (stmts : List Stmt) → Alike (block declared S stmts) (block declared S' stmts)
     framed_block [] st = framed_same st.made _ refl

@@ -15,7 +15,7 @@ use Rattle.proc_syntax.specs.declared.run.Stop.{Stop}
 use Rattle.proc_syntax.specs.declared.run.Stop.TheVariants as stop
 use Rattle.proc_syntax.specs.declared.tree.Stmt.{Stmt, Stmt-F, map-Stmt}
 use Rattle.proc_syntax.specs.declared.tree.Stmt.TheOpen as stmt
-use Rattle.proc_syntax.specs.Meaning.{State, Outcome, Going, Stopped, then_do, step_then, with_value, with_some, bound, wrote, asked, point_of, span_of, key_for, row_under, set_columns, insert_at, update_at, delete_at, get_at, visit, in_turn, with_rows, act_step, act, block}
+use Rattle.proc_syntax.specs.Meaning.{State, Progress, Going, Stopped, then_do, step_then, with_value, with_some, bound, wrote, asked, point_of, span_of, key_for, row_under, set_columns, insert_at, update_at, delete_at, get_at, visit, in_turn, with_rows, act_step, act, block}
 use Rattle.proc_syntax.specs.Scope.{table_named, column_in, value_of, values_of, end_of, changes_of}
 use Rattle.proc_syntax.specs.Values.{flag_of}
 use Rattle.proc_syntax.proofs.Fits.{point_fits, span_fits, key_fits, under_fits, key_of_fit}
@@ -24,7 +24,7 @@ use Rattle.proc_syntax.proofs.Lookups.{declared_named}
 use Rattle.proc_syntax.proofs.Trees.{Such, bare, stripped, every_fold}
 
 -- P holds between statements, and Q in a statement before its read
-pub record Keeps (declared : List TableDef) (S : Tables) (P Q : State → Type 0) : Type 0 where
+pub record StepsKeep (declared : List TableDef) (S : Tables) (P Q : State → Type 0) : Type 0 where
   pub counts : (st : State) → P st → nat_lt st.steps 100000 ≡ true → Q (record st { steps = st.steps + 1 })
   pub rests : (st : State) → Q st → P st
   pub binds : (st : State) (name : List ℕ) (binding : Binding) → P st → P (bound st name binding)
@@ -32,37 +32,37 @@ pub record Keeps (declared : List TableDef) (S : Tables) (P Q : State → Type 0
   pub writes : (st : State) (def : TableDef) (table : ℕ) (key : List Value) (row : Option (List Value)) → Q st → slice_get declared table ≡ Some def → KeyFits def key → PartFits def key row
       → P (wrote (asked st (Point table key) (rows def (Point table key) S)) table key row)
 
-module _ (declared : List TableDef) (S : Tables) (P Q : State → Type 0) (keeps : Keeps declared S P Q) where
-  pub record Kept (o : Outcome) : Type 0 where
+module _ (declared : List TableDef) (S : Tables) (P Q : State → Type 0) (keeps : StepsKeep declared S P Q) where
+  pub record Kept (o : Progress) : Type 0 where
     pub is : P (state_of o)
 
-  kept_then : (o : Outcome) (f : State → Outcome) → Kept o → ((st : State) → P st → Kept (f st)) → Kept (then_do o f)
+  kept_then : (o : Progress) (f : State → Progress) → Kept o → ((st : State) → P st → Kept (f st)) → Kept (then_do o f)
   kept_then (Going st) f k h = h st k.is
   kept_then (Stopped st why) f k h = record { is = k.is }
 
-  kept_cond : (b : Bool) (o p : Outcome) → Kept o → Kept p → Kept (cond b o p)
+  kept_cond : (b : Bool) (o p : Progress) → Kept o → Kept p → Kept (cond b o p)
   kept_cond true o p k h = k
   kept_cond false o p k h = h
 
-  kept_step : (st : State) (f : State → Outcome) → P st → ((st : State) → Q st → Kept (f st)) → Kept (step_then st f)
+  kept_step : (st : State) (f : State → Progress) → P st → ((st : State) → Q st → Kept (f st)) → Kept (step_then st f)
   kept_step st f p h =
       elim (nat_lt st.steps 100000) as (λ b. nat_lt st.steps 100000 ≡ b → Kept (cond b (f (record st { steps = st.steps + 1 })) (Stopped st (stop.Fault fault.Steps))))
       [ true ↦ λ low. h _ (keeps.counts st p low) | false ↦ λ high. record { is = p } ] refl
 
-  kept_value : {A : Type 0} (r : Result A Stop) (st : State) (f : A → Outcome) → P st → ((v : A) → Kept (f v)) → Kept (with_value r st f)
+  kept_value : {A : Type 0} (r : Result A Stop) (st : State) (f : A → Progress) → P st → ((v : A) → Kept (f v)) → Kept (with_value r st f)
   kept_value (Ok v) st f p h = h v
   kept_value (Err why) st f p h = record { is = p }
 
-  kept_some : {A : Type 0} (R : A → Type 0) (o : Option A) (st : State) (f : A → Outcome) → P st → IfSome o R → ((v : A) → R v → Kept (f v)) → Kept (with_some o st f)
+  kept_some : {A : Type 0} (R : A → Type 0) (o : Option A) (st : State) (f : A → Progress) → P st → IfSome o R → ((v : A) → R v → Kept (f v)) → Kept (with_some o st f)
   kept_some R (Some v) st f p holds h = h v holds
   kept_some R None st f p holds h = record { is = p }
 
-  kept_visit : (table : ℕ) (name : List ℕ) (body : State → Outcome) → ((st : State) → P st → Kept (body st)) → (rows : List (List Value)) (st : State) → P st → Kept (visit table name body rows st)
+  kept_visit : (table : ℕ) (name : List ℕ) (body : State → Progress) → ((st : State) → P st → Kept (body st)) → (rows : List (List Value)) (st : State) → P st → Kept (visit table name body rows st)
   kept_visit table name body h [] st p = record { is = p }
   kept_visit table name body h (row ∷ rest) st p =
       kept_step st _ p (λ st q. kept_then (body (bound st name (Held table row))) (visit table name body rest) (h _ (keeps.binds st name (Held table row) (keeps.rests st q))) (kept_visit table name body h rest))
 
-  kept_get : (table : ℕ) (name : List ℕ) (f g : State → Outcome) → ((st : State) → P st → Kept (f st)) → ((st : State) → P st → Kept (g st)) → (rows : List (List Value)) (st : State) → P st → Kept (get_at table name f g rows st)
+  kept_get : (table : ℕ) (name : List ℕ) (f g : State → Progress) → ((st : State) → P st → Kept (f st)) → ((st : State) → P st → Kept (g st)) → (rows : List (List Value)) (st : State) → P st → Kept (get_at table name f g rows st)
   kept_get table name f g h k [] st p = k st p
   kept_get table name f g h k (row ∷ rest) st p = h _ (keeps.binds st name (Held table row) p)
 
@@ -93,7 +93,7 @@ module _ (declared : List TableDef) (S : Tables) (P Q : State → Type 0) (keeps
     kept_delete [] = record { is = after }
     kept_delete (row ∷ rest) = record { is = keeps.writes st def table key None q here fits tt }
 
-  kept_act : (d : Stmt-F (Such KeptAt)) (st : State) → Q st → Kept (act_step declared S (map-Stmt Stmt (State → Outcome) (act declared S) (stripped d)) st)
+  kept_act : (d : Stmt-F (Such KeptAt)) (st : State) → Q st → Kept (act_step declared S (map-Stmt Stmt (State → Progress) (act declared S) (stripped d)) st)
   kept_act (stmt.Let name e) st q = kept_value (value_of declared e st.variables) st _ (keeps.rests st q) (λ v. record { is = keeps.binds st name.name _ (keeps.rests st q) })
   kept_act (stmt.Assign name e) st q = kept_value (value_of declared e st.variables) st _ (keeps.rests st q) (λ v. record { is = keeps.binds st name.name _ (keeps.rests st q) })
   kept_act (stmt.If test body None) st q =
@@ -138,7 +138,7 @@ module _ (declared : List TableDef) (S : Tables) (P Q : State → Type 0) (keeps
   kept_act (stmt.Fail text) st q = record { is = keeps.rests st q }
 
   kept_stmt : (s : Stmt) → KeptAt s
-  kept_stmt = every_fold (State → Outcome) (act_step declared S) (λ f. (st : State) → Q st → Kept (f st)) kept_act
+  kept_stmt = every_fold (State → Progress) (act_step declared S) (λ f. (st : State) → Q st → Kept (f st)) kept_act
 
   pub kept_block : (stmts : List Stmt) (st : State) → P st → Kept (block declared S stmts st)
   kept_block [] st p = record { is = p }

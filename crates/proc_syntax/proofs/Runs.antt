@@ -34,7 +34,7 @@ use Rattle.proc_syntax.specs.Declaring.{tables_of}
 use Rattle.rel_base.specs.Among.{rows_in, rows_by, StandsIn, TablesFit, WriteFitsIn, ReadFitsIn}
 use Rattle.proc_syntax.specs.Laws.{ReadsAreRows, EqualRowsGiveEqualRuns, ReadsFit, FewReads, FewWrites, WritesFit, WritesInOrder, WritesFind, WritesAreRead}
 use Rattle.proc_syntax.specs.Values.{have_kinds}
-use Rattle.proc_syntax.specs.Meaning.{Outcome, Going, Stopped, block}
+use Rattle.proc_syntax.specs.Meaning.{Progress, Going, Stopped, block}
 use Rattle.rel_base.specs.OwnWrites.{first_row}
 use Rattle.rel_base.specs.NetWrites.{row_in, write_before, net_from, net}
 use Rattle.rel_base.proofs.Bits.{first, first_true, is_Less, second, second_true}
@@ -45,7 +45,7 @@ use Rattle.proc_syntax.proofs.Sound.{Sound, Answered, OwnFits, WasRead, sound_ru
 
 -- ---- what holds of each run that begins holds of each run
 
-abbrev outcome : List TableDef → Tables → ProcDef → List Value → Outcome
+abbrev outcome : List TableDef → Tables → ProcDef → List Value → Progress
 outcome declared S procedure values = block declared S procedure.body (start procedure values)
 
 of_cond : (P : Ran → Type 0) (b : Bool) (r : Ran) → P r → P no_run → P (cond b r no_run)
@@ -59,7 +59,7 @@ of_called P app values S h k (Some procedure) = of_cond P (takes procedure value
 of_run : (P : Ran → Type 0) (app : App) (tx : Tx) (time : ℤ) (S : Tables) → P no_run → ((procedure : ProcDef) → P (ran (tables_of app) S (outcome (tables_of app) S procedure tx.args))) → P (run app tx time S)
 of_run P app tx time S h k = of_called P app tx.args S h k (procedure_named app tx.procedure)
 
-reads_of : (declared : List TableDef) (S : Tables) (o : Outcome) → (ran declared S o).reads ≡ (state_of o).made
+reads_of : (declared : List TableDef) (S : Tables) (o : Progress) → (ran declared S o).reads ≡ (state_of o).made
 reads_of declared S (Going st) = refl
 reads_of declared S (Stopped st why) = refl
 
@@ -92,7 +92,7 @@ net_longer declared S (e ∷ es) =
     let le = one_longer e.0 (row_in declared S e.0) e.1 (net_from declared S es) (length es) (net_longer declared S es) in
     omega (arith, le)
 
-few_of : (declared : List TableDef) (S : Tables) (o : Outcome) → length (finite.entries (state_of o).own) ≤ 100000 → length (ran declared S o).writes ≤ 100000
+few_of : (declared : List TableDef) (S : Tables) (o : Progress) → length (finite.entries (state_of o).own) ≤ 100000 → length (ran declared S o).writes ≤ 100000
 few_of declared S (Going st) few = omega (arith, few, net_longer declared S (finite.entries st.own))
 few_of declared S (Stopped st why) few = omega arith
 
@@ -133,7 +133,7 @@ module _ (declared : List TableDef) (S S' : Tables) where
   abbrev good : List Made → List Write → Ran
   good made writes = record { reads = made; writes = writes; ending = ending.Good }
 
-  same_ran : (o : Outcome) → Sound declared S (state_of o) → AllByRecursion (λ m. Same m.read) (state_of o).made → ran declared S' o ≡ ran declared S o
+  same_ran : (o : Progress) → Sound declared S (state_of o) → AllByRecursion (λ m. Same m.read) (state_of o).made → ran declared S' o ≡ ran declared S o
   same_ran (Going st) s h = ap (good st.made) (same_net st.made h _ s.read)
   same_ran (Stopped st why) s h = refl
 
@@ -158,7 +158,7 @@ equal_runs app tx time S S' = by_procedure (procedure_named app tx.procedure)
 
 -- ---- net writes
 
-writes_of : (P : List Write → Type 0) (declared : List TableDef) (S : Tables) (o : Outcome) → P [] → P (net declared S (state_of o).own) → P (ran declared S o).writes
+writes_of : (P : List Write → Type 0) (declared : List TableDef) (S : Tables) (o : Progress) → P [] → P (net declared S (state_of o).own) → P (ran declared S o).writes
 writes_of P declared S (Going st) h k = k
 writes_of P declared S (Stopped st why) h k = h
 
@@ -307,7 +307,7 @@ AreRead r = All (λ write. Contains (map (λ made. made.read) r.reads) (Point wr
 pub writes_are_read : WritesAreRead
 writes_are_read app tx time S = of_run AreRead app tx time S (All-nil _) (λ procedure. by_outcome (outcome (tables_of app) S procedure tx.args) (sound_run (tables_of app) S procedure tx.args))
   where
-    by_outcome : (o : Outcome) → Sound (tables_of app) S (state_of o) → AreRead (ran (tables_of app) S o)
+    by_outcome : (o : Progress) → Sound (tables_of app) S (state_of o) → AreRead (ran (tables_of app) S o)
     by_outcome (Going st) sound =
         All-from_recursion _ _ (each_net (tables_of app) S (λ write. Contains (map (λ made. made.read) st.made) (Point write.table write.key)) (WasRead (tables_of app) S st.made) _ (λ own was there. was) sound.read)
     by_outcome (Stopped st why) sound = All-nil _

@@ -24,7 +24,7 @@ use Rattle.proc_syntax.specs.Laws.{OwnFit}
 use Rattle.proc_syntax.specs.Meaning.{State, wrote, asked, block}
 use Rattle.proc_syntax.specs.Run.{start}
 use Rattle.proc_syntax.proofs.Framed.{state_of}
-use Rattle.proc_syntax.proofs.Kept.{Keeps, kept_block}
+use Rattle.proc_syntax.proofs.Kept.{StepsKeep, kept_block}
 
 -- ---- entries
 
@@ -128,7 +128,7 @@ module _ (declared : List TableDef) (S : Tables) where
         left = rw e (omega (arith, c.sound.left, length-append st.made (m ∷ []), put_longer (table, key) row (finite.entries st.own)));
       }
 
-  sound_keeps : Keeps declared S Sound Counted
+  sound_keeps : StepsKeep declared S Sound Counted
   sound_keeps = record {
     counts = sound_counts;
     rests = λ st c. c.sound;

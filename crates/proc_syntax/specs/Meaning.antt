@@ -24,8 +24,8 @@ pub use Rattle.proc_syntax.specs.Steps.{point_of, end_has, span_on, span_of, row
 abbrev pub State : Type 0
 State = steps.State (List Variable)
 
-abbrev pub Outcome : Type 0
-Outcome = steps.Outcome (List Variable)
+abbrev pub Progress : Type 0
+Progress = steps.Progress (List Variable)
 
 abbrev pub bound : State → List ℕ → Binding → State
 bound state name binding = record state { variables = bind state.variables name binding }
@@ -35,43 +35,43 @@ abbrev pub hold : List ℕ → ℕ → List Value → State → State
 hold name table row state = bound state name (Held table row)
 
 -- one block where the key has a row, for which the name then stands, and another where it has none
-abbrev pub get_at : ℕ → List ℕ → (State → Outcome) → (State → Outcome) → List (List Value) → State → Outcome
+abbrev pub get_at : ℕ → List ℕ → (State → Progress) → (State → Progress) → List (List Value) → State → Progress
 get_at table name found absent = held_or (hold name table) found absent
 
 -- each row has its turn, with a step of its own
-abbrev pub visit : ℕ → List ℕ → (State → Outcome) → List (List Value) → State → Outcome
+abbrev pub visit : ℕ → List ℕ → (State → Progress) → List (List Value) → State → Progress
 visit table name body = each_held (hold name table) body
 
 -- ---- statements
 
 module _ (declared : List TableDef) where
   -- a name gets the value of an expression
-  abbrev pub do_set : List ℕ → Expr → State → Outcome
+  abbrev pub do_set : List ℕ → Expr → State → Progress
   do_set name e state = set_to (value_of declared e state.variables) (λ v state. bound state name (Plain v)) state
 
   -- one block where a test holds, and another where it does not
-  abbrev pub do_if : Expr → (State → Outcome) → (State → Outcome) → State → Outcome
+  abbrev pub do_if : Expr → (State → Progress) → (State → Progress) → State → Progress
   do_if test body other state = branch (value_of declared test state.variables) body other state
 
 module _ (declared : List TableDef) (tables : Tables) where
-  abbrev pub do_get : List ℕ → List ℕ → List Expr → (State → Outcome) → (State → Outcome) → State → Outcome
+  abbrev pub do_get : List ℕ → List ℕ → List Expr → (State → Progress) → (State → Progress) → State → Progress
   do_get name table key found absent state = get_row tables (table_named declared table) (values_of declared key state.variables) (hold name) found absent state
 
-  abbrev pub do_for : List ℕ → List ℕ → List ℕ → Option Expr → Option Expr → (State → Outcome) → State → Outcome
+  abbrev pub do_for : List ℕ → List ℕ → List ℕ → Option Expr → Option Expr → (State → Progress) → State → Progress
   do_for name table column low high body state =
       for_rows tables (table_named declared table) (λ def. column_in def column) (end_of declared low state.variables) (end_of declared high state.variables) (hold name) body state
 
-  abbrev pub do_insert : List ℕ → List Expr → State → Outcome
+  abbrev pub do_insert : List ℕ → List Expr → State → Progress
   do_insert table values state = insert_row tables (table_named declared table) (values_of declared values state.variables) state
 
-  abbrev pub do_update : List ℕ → List Expr → List Change → State → Outcome
+  abbrev pub do_update : List ℕ → List Expr → List Change → State → Progress
   do_update table key changes state = update_row tables (table_named declared table) (values_of declared key state.variables) (λ def. changes_of declared def changes state.variables) state
 
-  abbrev pub do_delete : List ℕ → List Expr → State → Outcome
+  abbrev pub do_delete : List ℕ → List Expr → State → Progress
   do_delete table key state = delete_row tables (table_named declared table) (values_of declared key state.variables) state
 
   -- one step into a statement, once its step is counted: what it does, by what the statements of its blocks do
-  abbrev pub act_step : Stmt-F (State → Outcome) → State → Outcome
+  abbrev pub act_step : Stmt-F (State → Progress) → State → Progress
   act_step (stmt.Let name e) state = do_set declared name.name e state
   act_step (stmt.Assign name e) state = do_set declared name.name e state
   act_step (stmt.If test body other) state = do_if declared test (in_turn body) (in_turn_if other) state
@@ -83,9 +83,9 @@ module _ (declared : List TableDef) (tables : Tables) where
   act_step (stmt.Fail text) state = Stopped state (stop.Fault (fault.Failed text))
 
   -- a statement, once its step is counted
-  abbrev pub act : Stmt → State → Outcome
-  act = fold-Stmt (State → Outcome) act_step
+  abbrev pub act : Stmt → State → Progress
+  act = fold-Stmt (State → Progress) act_step
 
   -- a block
-  abbrev pub block : List Stmt → State → Outcome
+  abbrev pub block : List Stmt → State → Progress
   block stmts = in_turn (map act stmts)

@@ -31,7 +31,7 @@ ending_of (stop.Fault fault) = ending.Faulted fault
 ending_of stop.IllTyped = ending.IllTyped
 
 -- a run that stopped has no writes
-abbrev pub ran : {V : Type 0} → List TableDef → Tables → steps.Outcome V → Ran
+abbrev pub ran : {V : Type 0} → List TableDef → Tables → steps.Progress V → Ran
 ran declared tables (Going state) = record { reads = state.made; writes = net declared tables state.own; ending = ending.Good }
 ran declared tables (Stopped state why) = record { reads = state.made; writes = []; ending = ending_of why }
 

@@ -27,25 +27,25 @@ pub record State (V : Type 0) : Type 0 where
   pub steps : ℕ
 
 -- how a run stands: it goes on, or it has stopped
-pub data Outcome (V : Type 0) : Type 0 where
-  Going : State V → Outcome V
-  Stopped : State V → Stop → Outcome V
+pub data Progress (V : Type 0) : Type 0 where
+  Going : State V → Progress V
+  Stopped : State V → Stop → Progress V
 
-abbrev pub then_do : {V : Type 0} → Outcome V → (State V → Outcome V) → Outcome V
+abbrev pub then_do : {V : Type 0} → Progress V → (State V → Progress V) → Progress V
 then_do (Going state) go = go state
 then_do (Stopped state why) go = Stopped state why
 
 -- one more step, where fewer than 100,000 were made
-abbrev pub step_then : {V : Type 0} → State V → (State V → Outcome V) → Outcome V
+abbrev pub step_then : {V : Type 0} → State V → (State V → Progress V) → Progress V
 step_then state go = cond (nat_lt state.steps 100000) (go (record state { steps = state.steps + 1 })) (Stopped state (stop.Fault fault.Steps))
 
 -- goes on with a result, or stops with it
-abbrev pub with_value : {V A : Type 0} → Result A Stop → State V → (A → Outcome V) → Outcome V
+abbrev pub with_value : {V A : Type 0} → Result A Stop → State V → (A → Progress V) → Progress V
 with_value (Ok x) state go = go x
 with_value (Err why) state go = Stopped state why
 
 -- goes on with what there is; where there is nothing, the procedure is not well typed
-abbrev pub with_some : {V A : Type 0} → Option A → State V → (A → Outcome V) → Outcome V
+abbrev pub with_some : {V A : Type 0} → Option A → State V → (A → Progress V) → Progress V
 with_some (Some x) state go = go x
 with_some None state go = Stopped state stop.IllTyped
 
@@ -97,57 +97,57 @@ set_columns row (change ∷ changes) = set_columns (slice_set row change.0 chang
 -- ---- what is done with the rows of a read
 
 -- a new row is put where its key has none
-abbrev pub insert_at : {V : Type 0} → ℕ → List Value → List Value → List (List Value) → State V → Outcome V
+abbrev pub insert_at : {V : Type 0} → ℕ → List Value → List Value → List (List Value) → State V → Progress V
 insert_at table key row [] state = Going (wrote state table key (Some row))
 insert_at table key row (old ∷ rest) state = Stopped state (stop.Fault fault.DuplicateKey)
 
 -- the row of a key is changed
-abbrev pub update_at : {V : Type 0} → TableDef → ℕ → List Value → List (ℕ × Value) → List (List Value) → State V → Outcome V
+abbrev pub update_at : {V : Type 0} → TableDef → ℕ → List Value → List (ℕ × Value) → List (List Value) → State V → Progress V
 update_at def table key changes [] state = Stopped state (stop.Fault fault.NoRow)
 update_at def table key changes (row ∷ rest) state = with_some (row_under def key (set_columns row changes)) state (λ new. Going (wrote state table key (Some new)))
 
 -- the row of a key is deleted
-abbrev pub delete_at : {V : Type 0} → ℕ → List Value → List (List Value) → State V → Outcome V
+abbrev pub delete_at : {V : Type 0} → ℕ → List Value → List (List Value) → State V → Progress V
 delete_at table key [] state = Stopped state (stop.Fault fault.NoRow)
 delete_at table key (row ∷ rest) state = Going (wrote state table key None)
 
 -- one block where the key has a row, which a variable then holds, and another where it has none
-abbrev pub held_or : {V : Type 0} → (List Value → State V → State V) → (State V → Outcome V) → (State V → Outcome V) → List (List Value) → State V → Outcome V
+abbrev pub held_or : {V : Type 0} → (List Value → State V → State V) → (State V → Progress V) → (State V → Progress V) → List (List Value) → State V → Progress V
 held_or hold found absent [] state = absent state
 held_or hold found absent (row ∷ rest) state = found (hold row state)
 
 -- each row has its turn in a variable, with a step of its own
-abbrev pub each_held : {V : Type 0} → (List Value → State V → State V) → (State V → Outcome V) → List (List Value) → State V → Outcome V
+abbrev pub each_held : {V : Type 0} → (List Value → State V → State V) → (State V → Progress V) → List (List Value) → State V → Progress V
 each_held hold body [] state = Going state
 each_held hold body (row ∷ rest) state = step_then state (λ counted. then_do (body (hold row counted)) (each_held hold body rest))
 
 -- ---- statements, by what their expressions are worth and what their blocks do
 
 -- a block: each statement in turn, with a step of its own
-abbrev pub in_turn : {V : Type 0} → List (State V → Outcome V) → State V → Outcome V
+abbrev pub in_turn : {V : Type 0} → List (State V → Progress V) → State V → Progress V
 in_turn [] state = Going state
 in_turn (act ∷ acts) state = then_do (step_then state act) (in_turn acts)
 
 -- the block of an `else`, where there is one
-abbrev pub in_turn_if : {V : Type 0} → Option (List (State V → Outcome V)) → State V → Outcome V
+abbrev pub in_turn_if : {V : Type 0} → Option (List (State V → Progress V)) → State V → Progress V
 in_turn_if None state = Going state
 in_turn_if (Some acts) state = in_turn acts state
 
 -- a variable gets a value
-abbrev pub set_to : {V : Type 0} → Result Value Stop → (Value → State V → State V) → State V → Outcome V
+abbrev pub set_to : {V : Type 0} → Result Value Stop → (Value → State V → State V) → State V → Progress V
 set_to worth put state = with_value worth state (λ v. Going (put v state))
 
 -- one block where a test holds, and another where it does not
-abbrev pub branch : {V : Type 0} → Result Value Stop → (State V → Outcome V) → (State V → Outcome V) → State V → Outcome V
+abbrev pub branch : {V : Type 0} → Result Value Stop → (State V → Progress V) → (State V → Progress V) → State V → Progress V
 branch worth body other state = with_value worth state (λ v. with_value (flag_of v) state (λ holds. cond holds (body state) (other state)))
 
 module _ (tables : Tables) where
   -- a read is recorded with its rows in the tables, whatever the transaction wrote; what follows gets the rows that the transaction sees
-  abbrev pub with_rows : {V : Type 0} → TableDef → Read → State V → (List (List Value) → State V → Outcome V) → Outcome V
+  abbrev pub with_rows : {V : Type 0} → TableDef → Read → State V → (List (List Value) → State V → Progress V) → Progress V
   with_rows def read state go = go (merged def read state.own (rows def read tables)) (asked state read (rows def read tables))
 
   -- the point read of a key, and then one block or the other
-  abbrev pub get_row : {V : Type 0} → Option (ℕ × TableDef) → Result (List Value) Stop → (ℕ → List Value → State V → State V) → (State V → Outcome V) → (State V → Outcome V) → State V → Outcome V
+  abbrev pub get_row : {V : Type 0} → Option (ℕ × TableDef) → Result (List Value) Stop → (ℕ → List Value → State V → State V) → (State V → Progress V) → (State V → Progress V) → State V → Progress V
   get_row table key hold found absent state =
       with_some table state (λ named.
       with_value key state (λ key.
@@ -155,7 +155,7 @@ module _ (tables : Tables) where
       with_rows named.1 read state (held_or (hold named.0) found absent))))
 
   -- the span read on a column; the rows are fixed now, and then each has its turn
-  abbrev pub for_rows : {V : Type 0} → Option (ℕ × TableDef) → (TableDef → Option ℕ) → Result (Option Value) Stop → Result (Option Value) Stop → (ℕ → List Value → State V → State V) → (State V → Outcome V) → State V → Outcome V
+  abbrev pub for_rows : {V : Type 0} → Option (ℕ × TableDef) → (TableDef → Option ℕ) → Result (Option Value) Stop → Result (Option Value) Stop → (ℕ → List Value → State V → State V) → (State V → Progress V) → State V → Progress V
   for_rows table column low high hold body state =
       with_some table state (λ named.
       with_value low state (λ low.
@@ -164,7 +164,7 @@ module _ (tables : Tables) where
       with_rows named.1 read state (each_held (hold named.0) body)))))
 
   -- the point read of the new row's key, and then the row is put
-  abbrev pub insert_row : {V : Type 0} → Option (ℕ × TableDef) → Result (List Value) Stop → State V → Outcome V
+  abbrev pub insert_row : {V : Type 0} → Option (ℕ × TableDef) → Result (List Value) Stop → State V → Progress V
   insert_row table values state =
       with_some table state (λ named.
       with_value values state (λ row.
@@ -172,7 +172,7 @@ module _ (tables : Tables) where
       with_rows named.1 (Point named.0 key) state (insert_at named.0 key row))))
 
   -- the point read of a key, and then its row is changed
-  abbrev pub update_row : {V : Type 0} → Option (ℕ × TableDef) → Result (List Value) Stop → (TableDef → Result (List (ℕ × Value)) Stop) → State V → Outcome V
+  abbrev pub update_row : {V : Type 0} → Option (ℕ × TableDef) → Result (List Value) Stop → (TableDef → Result (List (ℕ × Value)) Stop) → State V → Progress V
   update_row table key changes state =
       with_some table state (λ named.
       with_value key state (λ key.
@@ -181,7 +181,7 @@ module _ (tables : Tables) where
       with_rows named.1 read state (update_at named.1 named.0 key changes)))))
 
   -- the point read of a key, and then its row is deleted
-  abbrev pub delete_row : {V : Type 0} → Option (ℕ × TableDef) → Result (List Value) Stop → State V → Outcome V
+  abbrev pub delete_row : {V : Type 0} → Option (ℕ × TableDef) → Result (List Value) Stop → State V → Progress V
   delete_row table key state =
       with_some table state (λ named.
       with_value key state (λ key.

@@ -5,7 +5,7 @@ use Rattle.std.proofs.lemmas.List.Elements.{All-append, All-cons, All-head, All-
 use Rattle.node_model.specs.Decide.{decide, run_at}
 use Rattle.node_model.specs.Fold.{Work, block_result, fold, fold_from, join_committed, no_digest, no_work, results_from, results_of, seal, work_on, work_through}
 use Rattle.node_model.specs.History as node
-use Rattle.node_model.specs.History.{Sealed, placed_of, stamped_of}
+use Rattle.node_model.specs.History.{SealedBlock, placed_of, stamped_of}
 use Rattle.node_model.specs.declared.outcome.Outcome.TheVariants as outcome
 use Rattle.node_model.specs.declared.outcome.Outcome.{Outcome}
 use Rattle.node_model.specs.declared.result.Committed.{Committed}
@@ -39,7 +39,7 @@ joined_within count committed ran _ within = within_more count committed within
 abbrev HasPositions : Work → Type 0
 HasPositions work = All (IsWithin (length work.outcomes)) work.committed
 
-worked : (app : App) (chain : List Sealed) (number : ℕ) (work : Work) (txs : List Tx) → HasPositions work → HasPositions (work_through app chain number work txs)
+worked : (app : App) (chain : List SealedBlock) (number : ℕ) (work : Work) (txs : List Tx) → HasPositions work → HasPositions (work_through app chain number work txs)
 worked app chain number work [] has = has
 worked app chain number work (tx ∷ rest) has =
     let found = decide app chain number work.outcomes work.committed tx in
@@ -48,10 +48,10 @@ worked app chain number work (tx ∷ rest) has =
     (subst (λ count. All (IsWithin count) (join_committed work.committed (length work.outcomes + 1) (run_at app chain tx) found)) (sym longer)
     (joined_within (length work.outcomes) work.committed (run_at app chain tx) found has))
 
-abbrev AreWithin : Sealed → Type 0
+abbrev AreWithin : SealedBlock → Type 0
 AreWithin block = All (IsWithin (length block.outcomes)) block.committed
 
-folded_within : (app : App) (chain : List Sealed) (blocks : List Block) → All AreWithin chain → All AreWithin (fold_from app chain blocks)
+folded_within : (app : App) (chain : List SealedBlock) (blocks : List Block) → All AreWithin chain → All AreWithin (fold_from app chain blocks)
 folded_within app chain [] within = within
 folded_within app chain (block ∷ rest) within =
     folded_within app (chain ++ seal app chain block ∷ []) rest
@@ -69,18 +69,18 @@ placed_within count (done ∷ rest) within =
 -- ---- results
 
 module _ (tables : List TableDef) where
-  results_placed : (previous : List ℕ) (chain : List Sealed) → All AreWithin chain → All HasPlaces (results_from tables previous chain)
+  results_placed : (previous : List ℕ) (chain : List SealedBlock) → All AreWithin chain → All HasPlaces (results_from tables previous chain)
   results_placed previous [] within = All-nil HasPlaces
   results_placed previous (block ∷ rest) within =
       All-cons HasPlaces (block_result tables previous block) (results_from tables (block_result tables previous block).digest rest)
       (placed_within (length block.outcomes) block.committed (All-head AreWithin block rest within))
       (results_placed (block_result tables previous block).digest rest (All-tail AreWithin block rest within))
 
-  result_numbers : (previous : List ℕ) (chain : List Sealed) → map (λ block. block.number) (results_from tables previous chain) ≡ map (λ block. block.number) chain
+  result_numbers : (previous : List ℕ) (chain : List SealedBlock) → map (λ block. block.number) (results_from tables previous chain) ≡ map (λ block. block.number) chain
   result_numbers previous [] = refl
   result_numbers previous (block ∷ rest) = ap (λ numbers. block.number ∷ numbers) (result_numbers (block_result tables previous block).digest rest)
 
-  told_history : (previous : List ℕ) (chain : List Sealed) → history_of (results_from tables previous chain) ≡ node.history_of chain
+  told_history : (previous : List ℕ) (chain : List SealedBlock) → history_of (results_from tables previous chain) ≡ node.history_of chain
   told_history previous [] = refl
   told_history previous (block ∷ rest) = ap (λ writes. stamped_of block ++ writes) (told_history (block_result tables previous block).digest rest)
 
@@ -89,12 +89,12 @@ histories_told tables chain = told_history tables no_digest chain
 
 -- ---- numbers
 
-fold_numbers : (app : App) (chain : List Sealed) (blocks : List Block) → map (λ block. block.number) (fold_from app chain blocks) ≡ map (λ block. block.number) chain ++ map (λ block. block.number) blocks
+fold_numbers : (app : App) (chain : List SealedBlock) (blocks : List Block) → map (λ block. block.number) (fold_from app chain blocks) ≡ map (λ block. block.number) chain ++ map (λ block. block.number) blocks
 fold_numbers app chain [] = sym (append-nil (map (λ block. block.number) chain))
 fold_numbers app chain (block ∷ rest) =
     fold_numbers app (chain ++ seal app chain block ∷ []) rest
-    ∙ ap (λ numbers. numbers ++ map (λ (b : Block). b.number) rest) (map-append (λ (b : Sealed). b.number) chain (seal app chain block ∷ []))
-    ∙ append_assoc (map (λ (b : Sealed). b.number) chain) (block.number ∷ []) (map (λ (b : Block). b.number) rest)
+    ∙ ap (λ numbers. numbers ++ map (λ (b : Block). b.number) rest) (map-append (λ (b : SealedBlock). b.number) chain (seal app chain block ∷ []))
+    ∙ append_assoc (map (λ (b : SealedBlock). b.number) chain) (block.number ∷ []) (map (λ (b : Block). b.number) rest)
 
 pub folds_told : FoldsAreTold
 folds_told app blocks numbers =

@@ -1,7 +1,7 @@
 -- What makes results of blocks fit to be asked, and that those of a fold are so.
 use Rattle.node_model.specs.Fold.{fold, results_of}
 use Rattle.node_model.specs.History as node
-use Rattle.node_model.specs.History.{Sealed}
+use Rattle.node_model.specs.History.{SealedBlock}
 use Rattle.node_model.specs.declared.result.BlockResult.{BlockResult}
 use Rattle.proc_syntax.specs.Declaring.{tables_of}
 use Rattle.proc_syntax.specs.declared.call.Block.{Block}
@@ -29,4 +29,4 @@ FoldsAreTold = (app : App) (blocks : List Block) → RunFromOne (map (λ block. 
 
 -- the results of a chain tell its history
 abbrev pub HistoriesAreTold : Type 0
-HistoriesAreTold = (tables : List TableDef) (chain : List Sealed) → history_of (results_of tables chain) ≡ node.history_of chain
+HistoriesAreTold = (tables : List TableDef) (chain : List SealedBlock) → history_of (results_of tables chain) ≡ node.history_of chain

@@ -61,12 +61,12 @@ unfoldable pub counts_text : List OutcomeKind → List ℕ
 counts_text found = flat_map (count_line found) kinds
 
 -- the digest of a block, if there is one
-abbrev pub last_digest : Option BlockResult → List ℕ
-last_digest None = []
-last_digest (Some block) = digest_line block
+abbrev pub last_digest_line : Option BlockResult → List ℕ
+last_digest_line None = []
+last_digest_line (Some block) = digest_line block
 
 -- the number of a load, how many blocks it has, how many of their outcomes are of each kind, and the digest of the last block
 abbrev pub summary_text : ℕ → List BlockResult → List ℕ
 summary_text number blocks =
     number_line (codes "load") number ++ number_line (codes "blocks") (length blocks) ++ counts_text (kinds_in blocks)
-    ++ last_digest (slice_get blocks (length blocks - 1)) ++ codes "done\n"
+    ++ last_digest_line (slice_get blocks (length blocks - 1)) ++ codes "done\n"

@@ -3,7 +3,7 @@
 ghost use Rattle.std.specs.Prelude.{◌≡◌, ◌++◌, OnOk, IfOk, codes, flat_map, map};
 ghost use Rattle.std.specs.List.{count_by};
 ghost use Rattle.std.specs.Option.{option_copied};
-ghost use Rattle.report_text.specs.Summary.{count_line, counts_text, is_same, kind_of, kind_word, kinds_in, last_digest, late_kind, number_line, summary_text};
+ghost use Rattle.report_text.specs.Summary.{count_line, counts_text, is_same, kind_of, kind_word, kinds_in, last_digest_line, late_kind, number_line, summary_text};
 
 use crate::block::push_digest_line;
 use crate::text::Text;
@@ -172,7 +172,7 @@ fn push_head(out: &mut Text, number: u64, blocks: usize) -> Result<(), NoMemory>
 
 /// The digest of a block, if there is one.
 fn push_last_digest(out: &mut Text, block: Option<&BlockResult>) -> Result<(), NoMemory>
-    ensures { OnOk result (out.new ≡ out.old ++ last_digest (option_copied block.entry)) }
+    ensures { OnOk result (out.new ≡ out.old ++ last_digest_line (option_copied block.entry)) }
 {
     match block {
         None => Ok(()),
@@ -182,7 +182,7 @@ fn push_last_digest(out: &mut Text, block: Option<&BlockResult>) -> Result<(), N
 
 /// The digest of a block, if there is one, and the last line.
 fn push_tail(out: &mut Text, block: Option<&BlockResult>) -> Result<(), NoMemory>
-    ensures { OnOk result (out.new ≡ out.old ++ (last_digest (option_copied block.entry) ++ codes "done\n")) }
+    ensures { OnOk result (out.new ≡ out.old ++ (last_digest_line (option_copied block.entry) ++ codes "done\n")) }
 {
     push_last_digest(out, block)?;
     out.push("done\n")

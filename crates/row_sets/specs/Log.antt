@@ -8,22 +8,22 @@ use Rattle.rel_base.specs.declared.access.Write.{Write}
 use Rattle.rel_base.specs.declared.schema.TableDef.{TableDef}
 use Rattle.rel_base.specs.Access.{WriteFits}
 use Rattle.rel_base.specs.Tables.{Stamped}
-use Rattle.row_sets.specs.declared.entry.Entry.{Entry}
+use Rattle.row_sets.specs.declared.entry.LogEntry.{LogEntry}
 
 -- the committed write of an entry
-abbrev pub stamped_of : Entry → Stamped
+abbrev pub stamped_of : LogEntry → Stamped
 stamped_of entry = (entry.block, entry.placed)
 
 -- the history that a log keeps
-abbrev pub history_of : List Entry → List Stamped
+abbrev pub history_of : List LogEntry → List Stamped
 history_of entries = map stamped_of entries
 
 -- the entry of a write at a place
-abbrev pub entry_of : Place → Write → Entry
+abbrev pub entry_of : Place → Write → LogEntry
 entry_of place write = record { block = place.block; placed = record { pos = place.pos; write = write } }
 
 -- how many entries a log has room for
-abbrev pub room_of : Vec Entry Global → ℕ
+abbrev pub room_of : Vec LogEntry Global → ℕ
 room_of log = vec_capacity log - vec_len log
 
 -- each write of a table fits its declaration

@@ -11,13 +11,13 @@ use rel_base::{Key, List, Place, Placed, Write};
 
 /// A committed write: the number of its block, and the write with its position.
 #[derive(Drop)]
-pub struct Entry {
+pub struct LogEntry {
     pub block: u64,
     pub placed: Placed,
 }
 
 /// The entry of a number.
-pub fn entry_at(entries: &[Entry], number: usize) -> &Entry
+pub fn entry_at(entries: &[LogEntry], number: usize) -> &LogEntry
     requires { number < length entries.now }
     ensures { slice_get entries.now number ≡ Some result.now }
 {
@@ -25,7 +25,7 @@ pub fn entry_at(entries: &[Entry], number: usize) -> &Entry
 }
 
 /// The place of the write of an entry.
-pub fn place_at(entry: &Entry) -> Place
+pub fn place_at(entry: &LogEntry) -> Place
     ensures { result ≡ place_of (stamped_of entry.now) }
 {
     Place {
@@ -35,7 +35,7 @@ pub fn place_at(entry: &Entry) -> Place
 }
 
 /// Whether the write of an entry is on a key of a table.
-pub fn is_on_key(entry: &Entry, table: u32, key: &Key) -> bool
+pub fn is_on_key(entry: &LogEntry, table: u32, key: &Key) -> bool
     ensures { result ≡ is_of_key table key.now (stamped_of entry.now) }
 {
     let by_key = key.cmp(&entry.placed.write.key);
@@ -43,7 +43,7 @@ pub fn is_on_key(entry: &Entry, table: u32, key: &Key) -> bool
 }
 
 /// Appends a write to a log that has room for it.
-fn push_one(log: &mut Vec<Entry>, place: Place, write: Write)
+fn push_one(log: &mut Vec<LogEntry>, place: Place, write: Write)
     requires { vec_len log.old < vec_capacity log.old }
     ensures log { log.new.items ≡ log.old.items ++ entry_of place write ∷ [] }
     ensures len { vec_len log.new ≡ vec_len log.old + 1 }
@@ -53,14 +53,14 @@ fn push_one(log: &mut Vec<Entry>, place: Place, write: Write)
         pos: place.pos,
         write,
     };
-    log.push_reserved(Entry {
+    log.push_reserved(LogEntry {
         block: place.block,
         placed,
     });
 }
 
 /// Appends the writes of a transaction at its place to a log that has room for them.
-pub fn push_all(log: &mut Vec<Entry>, place: Place, writes: List<Write>)
+pub fn push_all(log: &mut Vec<LogEntry>, place: Place, writes: List<Write>)
     requires room { length writes ≤ room_of log.old }
     ensures history { history_of log.new.items ≡ history_of log.old.items ++ stamped_at place writes }
     ensures room { room_of log.new + length writes ≡ room_of log.old }

@@ -7,7 +7,7 @@ ghost use Rattle.rel_base.specs.Schema.{RowFits};
 ghost use Rattle.row_sets.specs.Log.{stamped_of};
 ghost use Rattle.row_sets.specs.Watched.{is_watched};
 
-use crate::entry::Entry;
+use crate::entry::LogEntry;
 use rel_base::{Read, Row, TableDef};
 
 /// A read with the declaration of its table, and the heights between which the writes are that it may hit.
@@ -29,7 +29,7 @@ pub fn def_of<'a>(defs: &'a [TableDef], read: &Read) -> &'a TableDef
 }
 
 /// Whether a read hits a committed write in a block above `after` and up to `upto`.
-pub fn is_hit(entry: &Entry, watch: &Watch<'_>) -> bool
+pub fn is_hit(entry: &LogEntry, watch: &Watch<'_>) -> bool
     requires read_fits { ReadFits watch.now.def.now watch.now.read.now }
     requires write_fits { read_table watch.now.read.now ≡ entry.now.placed.write.table → WriteFits watch.now.def.now entry.now.placed.write }
     ensures { result ≡ is_watched watch.now (stamped_of entry.now) }

@@ -10,7 +10,7 @@ pub mod overlay;
 pub mod table_writes;
 pub mod versions;
 
-pub use entry::Entry;
+pub use entry::LogEntry;
 pub use hits::Watch;
 pub use overlay::Overlay;
 pub use table_writes::OwnWrite;

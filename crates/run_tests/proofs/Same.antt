@@ -14,7 +14,7 @@ use Rattle.rel_base.specs.declared.value.Value.{Value}
 use Rattle.rel_base.specs.Value.{value_eq, value_cmp-total}
 use Rattle.proc_syntax.specs.declared.run.Ending.{Ending}
 use Rattle.proc_syntax.specs.declared.run.Ran.{Ran}
-use Rattle.run_tests.specs.Sameness.{maybe_eq, row_eq, seen_eq, read_eq, made_eq, write_eq, number_of, said_in, ending_eq, ran_eq}
+use Rattle.run_tests.specs.Sameness.{maybe_eq, row_eq, seen_eq, read_eq, made_eq, write_eq, number_of_ending, said_in, ending_eq, ran_eq}
 
 -- a list is the same as itself where each of its things is
 list_self : {X : Type 0} (same : X → X → Bool) → ((x : X) → same x x ≡ true) → (xs : List X) → pointwise same xs xs ≡ true
@@ -53,7 +53,7 @@ write_self write =
     row_self = maybe_self (pointwise value_eq) values_self
 
 ending_self : (ending : Ending) → ending_eq ending ending ≡ true
-ending_self ending = both_true (number_self (number_of ending)) (nat_list_eq_equiv.refl (said_in ending))
+ending_self ending = both_true (number_self (number_of_ending ending)) (nat_list_eq_equiv.refl (said_in ending))
 
 -- a run is the same as itself
 ran_self : (ran : Ran) → ran_eq ran ran ≡ true

@@ -42,16 +42,16 @@ abbrev pub write_eq : Write → Write → Bool
 write_eq a b = (a.table == b.table) && (pointwise value_eq a.key b.key && (row_eq a.before b.before && row_eq a.after b.after))
 
 -- the ways in which a run may end
-abbrev pub number_of : Ending → ℕ
-number_of Good = 0
-number_of IllTyped = 1
-number_of (Faulted Overflow) = 2
-number_of (Faulted ZeroDivide) = 3
-number_of (Faulted DuplicateKey) = 4
-number_of (Faulted NoRow) = 5
-number_of (Faulted TextTooLong) = 6
-number_of (Faulted Steps) = 7
-number_of (Faulted (Failed text)) = 8
+abbrev pub number_of_ending : Ending → ℕ
+number_of_ending Good = 0
+number_of_ending IllTyped = 1
+number_of_ending (Faulted Overflow) = 2
+number_of_ending (Faulted ZeroDivide) = 3
+number_of_ending (Faulted DuplicateKey) = 4
+number_of_ending (Faulted NoRow) = 5
+number_of_ending (Faulted TextTooLong) = 6
+number_of_ending (Faulted Steps) = 7
+number_of_ending (Faulted (Failed text)) = 8
 
 abbrev pub said_in : Ending → List ℕ
 said_in Good = []
@@ -65,7 +65,7 @@ said_in (Faulted Steps) = []
 said_in (Faulted (Failed text)) = text
 
 abbrev pub ending_eq : Ending → Ending → Bool
-ending_eq a b = (number_of a == number_of b) && bytes_eq (said_in a) (said_in b)
+ending_eq a b = (number_of_ending a == number_of_ending b) && bytes_eq (said_in a) (said_in b)
 
 -- reads, writes and end
 abbrev pub ran_eq : Ran → Ran → Bool

@@ -2,7 +2,7 @@
 
 ghost use Rattle.std.specs.Prelude.{◌≡◌, Bool};
 ghost use Rattle.std.specs.Cmp.Lexicographic.{pointwise};
-ghost use Rattle.run_tests.specs.Sameness.{row_eq, seen_eq, read_eq, made_eq, write_eq, number_of, said_in, ending_eq, ran_eq};
+ghost use Rattle.run_tests.specs.Sameness.{row_eq, seen_eq, read_eq, made_eq, write_eq, number_of_ending, said_in, ending_eq, ran_eq};
 
 use proc_syntax::{Ending, Fault, Ran};
 use rel_base::{Made, Read, Row, Seen, Write};
@@ -104,7 +104,7 @@ impl Alike for Write {
 
 /// A number for each way in which a run may end.
 fn number(ending: &Ending) -> u8
-    ensures { result ≡ number_of ending.now }
+    ensures { result ≡ number_of_ending ending.now }
 {
     match ending {
         Ending::Good => 0,

@@ -4,17 +4,17 @@
 pub mod bits;
 pub mod dangers;
 pub mod edge_rows;
+pub mod edge_search;
 pub mod edge_set;
 pub mod edges;
-pub mod hits;
 pub mod laws;
 pub mod word;
 
 pub use bits::Bits;
 pub use dangers::danger;
+pub use edge_search::{edges_of, touches};
 pub use edge_set::EdgeSet;
 pub use edges::Edges;
-pub use hits::{edges_of, touches};
 
 #[cfg(test)]
 mod tests;

@@ -1,7 +1,7 @@
 -- Schedules that deliver the same blocks seal the same.
 use Rattle.std.proofs.Common.{List, None, [], ap, append-nil, append_assoc, drop, length, refl, suc, sym, take, ◌++◌, ◌∙◌, ◌≡◌, ◌∷◌, ℕ}
 use Rattle.node_model.specs.Fold.{fold, fold_from, seal}
-use Rattle.node_model.specs.History.{Sealed}
+use Rattle.node_model.specs.History.{SealedBlock}
 use Rattle.node_model.specs.Journals.{IsLegal, delivered, world}
 use Rattle.node_model.specs.declared.journal.Entry.{Entry}
 use Rattle.proc_syntax.specs.declared.call.Block.{Block}
@@ -14,17 +14,17 @@ use Rattle.schedule_laws.proofs.Folding.{delivered_are, first_are, reached, sche
 -- ---- that schedules agree
 
 module _ (app : App) where
-  fold-append : (chain : List Sealed) (xs ys : List Block) → fold_from app chain (xs ++ ys) ≡ fold_from app (fold_from app chain xs) ys
+  fold-append : (chain : List SealedBlock) (xs ys : List Block) → fold_from app chain (xs ++ ys) ≡ fold_from app (fold_from app chain xs) ys
   fold-append chain [] ys = refl
   fold-append chain (x ∷ xs) ys = fold-append (chain ++ seal app chain x ∷ []) xs ys
 
   -- results are only added, one for each block
-  record Adds (chain : List Sealed) (blocks : List Block) : Type 0 where
-    more : List Sealed
+  record Adds (chain : List SealedBlock) (blocks : List Block) : Type 0 where
+    more : List SealedBlock
     is : fold_from app chain blocks ≡ chain ++ more
     count : length more ≡ length blocks
 
-  adds : (chain : List Sealed) (blocks : List Block) → Adds chain blocks
+  adds : (chain : List SealedBlock) (blocks : List Block) → Adds chain blocks
   adds chain [] = record { more = []; is = sym (append-nil chain); count = refl }
   adds chain (x ∷ xs) =
       let a = adds (chain ++ seal app chain x ∷ []) xs in

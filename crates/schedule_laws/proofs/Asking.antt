@@ -4,7 +4,7 @@ use Rattle.node_model.specs.Events.{after, next_read}
 use Rattle.node_model.specs.Fold.{fold}
 use Rattle.node_model.specs.Journals.{IsLegalFrom, delivered, delivery, world}
 use Rattle.node_model.specs.Steps.{Ask, May, ToArrive, ToClaim, ToCommit, ToDeliver, ToFinish, ToRead, ToRelease, ToSeal}
-use Rattle.node_model.specs.World.{Done, Dropped, Held, Holds, Job, Status, Waiting, World, empty, is_done, is_held, is_held_by}
+use Rattle.node_model.specs.World.{Done, Dropped, Held, Holds, Job, JobStatus, Waiting, World, empty, is_done, is_held, is_held_by}
 use Rattle.node_model.specs.declared.journal.Entry.{Entry}
 use Rattle.node_model.specs.declared.journal.Event.TheVariants.{Arrive, Claim, Commit, Deliver, Finish, Read, Release, Seal}
 use Rattle.node_model.specs.declared.journal.Event.{Event}
@@ -35,7 +35,7 @@ holds_any actor (y ∷ ys) e =
       | false ↦ λ is e. let r = holds_any actor ys e in deeper r.0 r.1 r.2
     ]) refl e
   where
-    holder : (s : Status) → is_held_by actor s ≡ true → s ≡ Held actor
+    holder : (s : JobStatus) → is_held_by actor s ≡ true → s ≡ Held actor
     holder Waiting e = absurd (false≢true e)
     holder (Held other) e = ap Held (eqb-true other actor e)
     holder Done e = absurd (false≢true e)

@@ -3,7 +3,7 @@ use Rattle.std.proofs.Common.{Bool, List, None, Option, Some, [], ap, arith, byt
 use Rattle.node_model.specs.Decide.{bad_call, early}
 use Rattle.node_model.specs.History.{ids_of, ids_told}
 use Rattle.node_model.specs.Steps.{chosen, due_number, early_cause, waiting_number}
-use Rattle.node_model.specs.World.{BlockInWork, Job, World, due, eligible, is_eligible, is_for, is_waiting, job_at, job_of, number_of}
+use Rattle.node_model.specs.World.{BlockInWork, Job, World, due, eligible, is_eligible, is_for, is_waiting, job_at, job_of, number_of_job}
 use Rattle.node_model.specs.declared.journal.Pick.TheVariants.{Due, Nth}
 use Rattle.node_model.specs.declared.journal.Pick.{Pick}
 use Rattle.node_model.specs.declared.outcome.Outcome.TheVariants as outcome
@@ -101,7 +101,7 @@ module _ (app : App) (w : World) (next : (work : BlockInWork) → w.work ≡ Som
   waiting_free : (tx : Tx) (number : ℕ) (found : Option Job) → job_of tx w.jobs ≡ found → tx.height ≤ length w.sealed → waiting_number tx w.jobs found ≡ Some number → IsFree w number
   waiting_free tx number None is low e = absurd (none-some number e)
   waiting_free tx number (Some job) is low e = by (is_waiting job.status) refl e where
-    by : (b : Bool) → is_waiting job.status ≡ b → cond b (number_of tx w.jobs) None ≡ Some number → IsFree w number
+    by : (b : Bool) → is_waiting job.status ≡ b → cond b (number_of_job tx w.jobs) None ≡ Some number → IsFree w number
     by false waits e = absurd (none-some number e)
     by true waits e =
         let f = number_stands 1 tx w.jobs number e in

@@ -3,7 +3,7 @@ use Rattle.std.proofs.Common.{Bool, IsSome, List, None, Option, Some, [], ap, ar
 use Rattle.node_model.specs.Danger.{danger}
 use Rattle.node_model.specs.Decide.{bad_call, clash, conflict_outcome, danger_outcome, early, fault_outcome, late_outcome, or_committed, run_at, writes_since}
 use Rattle.node_model.specs.Fold.{Work, join_committed, work_by, work_on}
-use Rattle.node_model.specs.History.{Sealed, history_of, ids_of, ids_told}
+use Rattle.node_model.specs.History.{SealedBlock, history_of, ids_of, ids_told}
 use Rattle.node_model.specs.declared.outcome.Outcome.TheVariants as outcome
 use Rattle.node_model.specs.declared.outcome.Outcome.{Outcome}
 use Rattle.node_model.specs.declared.result.Committed.{Committed}
@@ -111,7 +111,7 @@ module _ (number : ℕ) (work : Work) (tx : Tx) (one two : Ran) where
   by_late tables None first second None some leaves = absurd (false≢true some)
   by_late tables None first second (Some found) some leaves = refl
 
-pub early_decides : (app : App) (sealed : List Sealed) (number : ℕ) (work : Work) (tx : Tx) (one two : Ran) → IsSome (early app (ids_of sealed ++ ids_told work.outcomes) number tx)
+pub early_decides : (app : App) (sealed : List SealedBlock) (number : ℕ) (work : Work) (tx : Tx) (one two : Ran) → IsSome (early app (ids_of sealed ++ ids_told work.outcomes) number tx)
     → work_by app sealed number work tx one ≡ work_by app sealed number work tx two
 early_decides app sealed number work tx one two some =
     by_early number work tx one two (early app (ids_of sealed ++ ids_told work.outcomes) number tx) _ _ some

@@ -3,7 +3,7 @@ use Rattle.std.proofs.Common.{Bool, IsSome, List, None, Option, Some, [], ap, ap
 use Rattle.node_model.specs.Decide.{early}
 use Rattle.node_model.specs.Events.{after, claimed, commit_next, decide_due, drop_over, finished, happens, is_settled, needs_no_job, read_on, released, with_jobs, with_sealed}
 use Rattle.node_model.specs.Fold.{no_work, sealed_as}
-use Rattle.node_model.specs.History.{Sealed, ids_of}
+use Rattle.node_model.specs.History.{SealedBlock, ids_of}
 use Rattle.node_model.specs.Journals.{IsLegalFrom, world_from}
 use Rattle.node_model.specs.World.{BlockInWork, Job, World, change_job, decided, empty, is_for, is_live, job_at, job_of, new_job, same_tx}
 use Rattle.node_model.specs.declared.journal.Entry.{Entry}
@@ -36,10 +36,10 @@ use Rattle.rel_base.proofs.Lists.{not_some}
 
 module _ (app : App) (number : ℕ) (known : List (List ℕ)) (Q : List Job → Type 0) where
   -- what a new job keeps, whose call can begin and whose id is none of some ids
-  abbrev Keeps : Type 0
-  Keeps = (tx : Tx) (jobs : List Job) → call_fault app tx ≡ None → list_any (bytes_eq tx.id) known ≡ false → job_of tx jobs ≡ None → Q jobs → Q (jobs ++ new_job tx ∷ [])
+  abbrev NewJobKeeps : Type 0
+  NewJobKeeps = (tx : Tx) (jobs : List Job) → call_fault app tx ≡ None → list_any (bytes_eq tx.id) known ≡ false → job_of tx jobs ≡ None → Q jobs → Q (jobs ++ new_job tx ∷ [])
 
-  grown_from : Keeps → (more : List (List ℕ)) (txs : List Tx) (jobs : List Job) → Q jobs → Q (with_jobs app (known ++ more) number txs jobs)
+  grown_from : NewJobKeeps → (more : List (List ℕ)) (txs : List Tx) (jobs : List Job) → Q jobs → Q (with_jobs app (known ++ more) number txs jobs)
   grown_from keep more [] jobs q = q
   grown_from keep more (tx ∷ txs) jobs q =
       subst (λ ids. Q (with_jobs app ids number txs (cond (needs_no_job app (known ++ more) number jobs tx) jobs (jobs ++ new_job tx ∷ [])))) (sym (append_assoc known more (tx.id ∷ [])))
@@ -53,7 +53,7 @@ module _ (app : App) (number : ℕ) (known : List (List ℕ)) (Q : List Job → 
           keep tx jobs runs.can (or_parts (list_any (bytes_eq tx.id) known) _ (sym (list_any-append (bytes_eq tx.id) known more) ∙ runs.unknown)).0 (not_some (job_of tx jobs) e) q
 
   -- a delivery keeps it
-  pub grown : Keeps → (txs : List Tx) (jobs : List Job) → Q jobs → Q (with_jobs app known number txs jobs)
+  pub grown : NewJobKeeps → (txs : List Tx) (jobs : List Job) → Q jobs → Q (with_jobs app known number txs jobs)
   grown keep txs jobs q = subst (λ ids. Q (with_jobs app ids number txs jobs)) (append-nil known) (grown_from keep [] txs jobs q)
 
 has_job : (app : App) (ids : List (List ℕ)) (number : ℕ) (tx : Tx) (jobs : List Job) → early app ids number tx ≡ None
@@ -141,7 +141,7 @@ module _ (app : App) (w : World) (actor : ℕ) (facts : FactsHold app w) where
 
   -- all sealed, with the block in work
   module _ (work : BlockInWork) (in_work : w.work ≡ Some work) where
-    abbrev all : List Sealed
+    abbrev all : List SealedBlock
     all = w.sealed ++ sealed_as work.block work.done ∷ []
 
     all_counted : AreCounted 1 all

@@ -2,7 +2,7 @@
 use Rattle.std.proofs.Common.{Bool, IsSome, List, None, Option, Some, [], ap, append-nil, append_assoc, arith, cond, false, inl, inr, length, length-append, refl, slice_get, subst, sym, true, ◌&&◌, ◌++◌, ◌||◌, ◌∙◌, ◌≡◌, ◌≤◌, ◌⊎◌, ◌∷◌, ℕ}
 use Rattle.node_model.specs.Decide.{run_at}
 use Rattle.node_model.specs.Events.{claimed, drop_over, dropped, ended, finished, is_settled, made_at, next_read, read_on, record_read, released}
-use Rattle.node_model.specs.History.{Sealed, snapshot, time_at}
+use Rattle.node_model.specs.History.{SealedBlock, snapshot, time_at}
 use Rattle.node_model.specs.World.{Done, Held, Job, Record, is_done, is_held, is_waiting, new_job}
 use Rattle.proc_syntax.proofs.Runs.{reads_are_rows}
 use Rattle.proc_syntax.specs.Call.{call_fault}
@@ -58,7 +58,7 @@ all_read reads all front none = by front.0 front.1 where
   by (y ∷ ys) is = absurd (none-some y.read (sym none ∙ ap (option_map (λ (made : Made). made.read)) (ap (λ l. slice_get l (length reads)) (sym is) ∙ get-seam reads ys y)))
 
 -- a read with its rows in the tables of the height is the read as the run makes it
-made_same : (app : App) (sealed : List Sealed) (tx : Tx) (place : ℕ) (made : Made) → slice_get (run_at app sealed tx).reads place ≡ Some made → made_at app sealed tx made.read ≡ made
+made_same : (app : App) (sealed : List SealedBlock) (tx : Tx) (place : ℕ) (made : Made) → slice_get (run_at app sealed tx).reads place ≡ Some made → made_at app sealed tx made.read ≡ made
 made_same app sealed tx place made here =
     let within = slice_get_within (run_at app sealed tx).reads place made here in
     let rows = reads_are_rows app tx (time_at tx.height sealed) (snapshot tx.height sealed) place made within in
@@ -68,7 +68,7 @@ made_same app sealed tx place made here =
 
 -- ---- later blocks
 
-module _ (app : App) (sealed more : List Sealed) (shows : ShowsSame app sealed (sealed ++ more)) where
+module _ (app : App) (sealed more : List SealedBlock) (shows : ShowsSame app sealed (sealed ++ more)) where
   cut-later : (tx : Tx) (reads : List Made) → tx.height ≤ length sealed → IsCut app sealed tx reads → IsCut app (sealed ++ more) tx reads
   cut-later tx reads low cut = record {
     before = cut.before;
@@ -93,7 +93,7 @@ module _ (app : App) (sealed more : List Sealed) (shows : ShowsSame app sealed (
 
 -- ---- each change of a job
 
-module _ (app : App) (sealed : List Sealed) where
+module _ (app : App) (sealed : List SealedBlock) where
   pub new_fits : (tx : Tx) → call_fault app tx ≡ None → is_settled tx.id sealed ≡ false → JobFits app sealed (new_job tx)
   new_fits tx begins none = record {
     begins = begins;
@@ -212,7 +212,7 @@ module _ (app : App) (sealed : List Sealed) where
 
 -- ---- later blocks, at which jobs of settled ids are dropped
 
-module _ (app : App) (sealed more : List Sealed) (shows : ShowsSame app sealed (sealed ++ more)) where
+module _ (app : App) (sealed more : List SealedBlock) (shows : ShowsSame app sealed (sealed ++ more)) where
   pub over_fits : (job : Job) → JobFits app sealed job → JobFits app (sealed ++ more) (drop_over (sealed ++ more) job)
   over_fits job fits = by (is_waiting job.status || is_done job.status) (is_settled job.tx.id (sealed ++ more)) refl refl where
     by : (a b : Bool) → (is_waiting job.status || is_done job.status) ≡ a → is_settled job.tx.id (sealed ++ more) ≡ b → JobFits app (sealed ++ more) (cond (a && b) (dropped job) job)

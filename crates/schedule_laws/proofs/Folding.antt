@@ -3,7 +3,7 @@ use Rattle.std.proofs.Common.{List, None, Option, Some, [], ap, append-nil, appe
 use Rattle.node_model.specs.Decide.{run_at}
 use Rattle.node_model.specs.Events.{after, commit_next, decide_due, drop_over, recorded_ran, with_sealed}
 use Rattle.node_model.specs.Fold.{Work, fold, no_work, seal, sealed_as, work_by, work_on, work_through}
-use Rattle.node_model.specs.History.{Sealed}
+use Rattle.node_model.specs.History.{SealedBlock}
 use Rattle.node_model.specs.Journals.{IsLegal, IsLegalFrom, delivered, delivery, world, world_from}
 use Rattle.node_model.specs.Steps.{early_cause, is_done_job, is_ready}
 use Rattle.node_model.specs.World.{BlockInWork, Job, World, decided, due, empty, is_done, job_of}
@@ -32,7 +32,7 @@ use Rattle.std.specs.Option.{is_some}
 
 -- ---- a block, transaction by transaction
 
-module _ (app : App) (chain : List Sealed) (number : ℕ) where
+module _ (app : App) (chain : List SealedBlock) (number : ℕ) where
   through-append : (xs ys : List Tx) (work : Work) → work_through app chain number work (xs ++ ys) ≡ work_through app chain number (work_through app chain number work xs) ys
   through-append [] ys work = refl
   through-append (x ∷ xs) ys work = through-append xs ys (work_on app chain number work x)
@@ -43,7 +43,7 @@ module _ (app : App) (chain : List Sealed) (number : ℕ) where
   only_added (x ∷ xs) work = let m = only_added xs (work_on app chain number work x) in (_ ∷ m.0, m.1 ∙ append_assoc work.outcomes (_ ∷ []) m.0)
 
 -- what the first transactions of a block come to
-abbrev at_first : App → List Sealed → Block → ℕ → Work
+abbrev at_first : App → List SealedBlock → Block → ℕ → Work
 at_first app chain block n = work_through app chain block.number no_work (take n block.txs)
 
 take-none : (xs : List Tx) → take 0 xs ≡ []
@@ -102,11 +102,11 @@ numbered-snoc : (n : ℕ) (blocks : List Block) (block : Block) → AreNumbered 
 numbered-snoc n [] block before is = (omega (arith, is), tt)
 numbered-snoc n (x ∷ xs) block before is = (before.0, numbered-snoc (n + 1) xs block before.1 (omega (arith, is)))
 
-block_of_due : (app : App) (sealed : List Sealed) (jobs : List Job) (work : BlockInWork) (t : Option Tx) → (decide_due app sealed jobs work t).block ≡ work.block
+block_of_due : (app : App) (sealed : List SealedBlock) (jobs : List Job) (work : BlockInWork) (t : Option Tx) → (decide_due app sealed jobs work t).block ≡ work.block
 block_of_due app sealed jobs work None = refl
 block_of_due app sealed jobs work (Some tx) = refl
 
-block_in_next : (app : App) (sealed : List Sealed) (jobs : List Job) (o : Option BlockInWork) → block_in (commit_next app sealed jobs o) ≡ block_in o
+block_in_next : (app : App) (sealed : List SealedBlock) (jobs : List Job) (o : Option BlockInWork) → block_in (commit_next app sealed jobs o) ≡ block_in o
 block_in_next app sealed jobs None = refl
 block_in_next app sealed jobs (Some work) = ap (λ block. block ∷ []) (block_of_due app sealed jobs work (due work))
 
@@ -232,7 +232,7 @@ reached app journal legal =
 
 -- ---- the laws
 
-outcomes-first : (app : App) (chain : List Sealed) (work : BlockInWork) → work.done ≡ at_first app chain work.block (decided work) → work.done.outcomes ≡ take (decided work) (seal app chain work.block).outcomes
+outcomes-first : (app : App) (chain : List SealedBlock) (work : BlockInWork) → work.done ≡ at_first app chain work.block (decided work) → work.done.outcomes ≡ take (decided work) (seal app chain work.block).outcomes
 outcomes-first app chain work is =
     let n : ℕ = decided work in
     let all = ap (work_through app chain work.block.number no_work) (sym (take-append-drop n work.block.txs))

@@ -3,9 +3,9 @@ use Rattle.std.proofs.Common.{Bool, List, None, Option, Some, [], ap, append-nil
 use Rattle.node_model.specs.Decide.{run_at}
 use Rattle.node_model.specs.Events.{after, claimed, drop_over, dropped, ended, finished, happens, is_over, is_settled, next_read, read_on, record_read, released, with_sealed}
 use Rattle.node_model.specs.Fold.{sealed_as}
-use Rattle.node_model.specs.History.{Sealed, ids_of}
+use Rattle.node_model.specs.History.{SealedBlock, ids_of}
 use Rattle.node_model.specs.Journals.{IsLegal, IsLegalFrom, IsStep, world, world_from}
-use Rattle.node_model.specs.World.{Done, Dropped, Held, Holds, Job, Status, Waiting, World, change_job, empty, holder_of, is_done, is_held, is_waiting, job_at, new_job}
+use Rattle.node_model.specs.World.{Done, Dropped, Held, Holds, Job, JobStatus, Waiting, World, change_job, empty, holder_of, is_done, is_held, is_waiting, job_at, new_job}
 use Rattle.node_model.specs.declared.journal.Entry.{Entry}
 use Rattle.node_model.specs.declared.journal.Event.TheVariants.{Arrive, Claim, Commit, Deliver, Finish, Read, Release, Seal}
 use Rattle.node_model.specs.declared.journal.Event.{Event}
@@ -67,13 +67,13 @@ module _ (actor : ℕ) where
   cond_held false one two p q = q
 
   -- held jobs outlast a seal
-  holds-over : (sealed : List Sealed) (jobs : List Job) → HoldsSame actor jobs (map (drop_over sealed) jobs)
+  holds-over : (sealed : List SealedBlock) (jobs : List Job) → HoldsSame actor jobs (map (drop_over sealed) jobs)
   holds-over sealed jobs number job = (
     λ h. record { stands = job-mapped jobs (drop_over sealed) number job h.stands ∙ ap Some (stays h.held); held = h.held },
     λ h. let m = job-map jobs (drop_over sealed) number job h.stands in by m.0 m.1 m.2 (is_over sealed m.0) refl h.held,
   )
     where
-      not_over : (s : Status) → s ≡ Held actor → (is_waiting s || is_done s) ≡ false
+      not_over : (s : JobStatus) → s ≡ Held actor → (is_waiting s || is_done s) ≡ false
       not_over s e = ap (λ s. is_waiting s || is_done s) e
 
       stays : job.status ≡ Held actor → drop_over sealed job ≡ job
@@ -85,7 +85,7 @@ module _ (actor : ℕ) where
 
 -- ---- one step of another
 
-shows-self : (app : App) (sealed : List Sealed) → ShowsSame app sealed sealed
+shows-self : (app : App) (sealed : List SealedBlock) → ShowsSame app sealed sealed
 shows-self app sealed = record { tables = λ height low. refl; times = λ height low. refl; runs = λ tx low. refl }
 
 -- a state with other jobs, of which an actor holds the same
@@ -100,14 +100,14 @@ same_blocks app actor w later held same own = record {
 }
 
 module _ (app : App) (w : World) (other actor : ℕ) (apart : other ≡ actor → ⊥) (facts : FactsHold app w) where
-  read_status : (sealed : List Sealed) (job : Job) (o : Option access.Read) → (record_read app sealed job o).status ≡ job.status
+  read_status : (sealed : List SealedBlock) (job : Job) (o : Option access.Read) → (record_read app sealed job o).status ≡ job.status
   read_status sealed job None = refl
   read_status sealed job (Some read) = refl
 
   not_mine : (job : Job) → job.status ≡ Held other → job.status ≡ Held actor → ⊥
   not_mine job h k = apart (same_holder other actor (sym h ∙ k))
 
-  waits_unheld : (s : Status) → is_waiting s ≡ true → is_held s ≡ false
+  waits_unheld : (s : JobStatus) → is_waiting s ≡ true → is_held s ≡ false
   waits_unheld Waiting e = refl
   waits_unheld (Held holder) e = absurd (false≢true e)
   waits_unheld Done e = absurd (false≢true e)
@@ -145,7 +145,7 @@ module _ (app : App) (w : World) (other actor : ℕ) (apart : other ≡ actor �
   leaves journal (Seal number) a =
       let can = a.1 in
       let next = (facts.work_fits can.work can.in_work).next in
-      let block : Sealed = sealed_as can.work.block can.work.done in
+      let block : SealedBlock = sealed_as can.work.block can.work.done in
       let all : with_sealed w.sealed w.work ≡ w.sealed ++ block ∷ [] = ap (with_sealed w.sealed) can.in_work in
       let counted : AreCounted 1 (w.sealed ++ block ∷ []) = counted-append 1 w.sealed (block ∷ []) facts.counted (omega (arith, next), tt) in
       record {
@@ -159,7 +159,7 @@ module _ (app : App) (w : World) (other actor : ℕ) (apart : other ≡ actor �
 
 -- ---- all steps of others
 
-shows-trans : (app : App) (u v w : List Sealed) → length u ≤ length v → ShowsSame app u v → ShowsSame app v w → ShowsSame app u w
+shows-trans : (app : App) (u v w : List SealedBlock) → length u ≤ length v → ShowsSame app u v → ShowsSame app v w → ShowsSame app u w
 shows-trans app u v w longer p q = record {
   tables = λ height low. q.tables height (omega (arith, low, longer)) ∙ p.tables height low;
   times = λ height low. q.times height (omega (arith, low, longer)) ∙ p.times height low;

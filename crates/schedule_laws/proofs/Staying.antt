@@ -2,8 +2,8 @@
 use Rattle.std.proofs.Common.{Bool, List, None, Option, Some, ap, bytes_eq, cond, false, map, refl, subst, sym, take, true, ◌++◌, ◌∙◌, ◌≡◌, ℕ}
 use Rattle.node_model.specs.Decide.{run_at}
 use Rattle.node_model.specs.Events.{claimed, drop_over, dropped, ended, finished, is_over, is_settled, next_read, read_on, record_read, released}
-use Rattle.node_model.specs.History.{Sealed, ids_of}
-use Rattle.node_model.specs.World.{Done, Dropped, Held, Job, Status, Waiting, is_for, is_live, is_waiting, new_job, same_tx}
+use Rattle.node_model.specs.History.{SealedBlock, ids_of}
+use Rattle.node_model.specs.World.{Done, Dropped, Held, Job, JobStatus, Waiting, is_for, is_live, is_waiting, new_job, same_tx}
 use Rattle.proc_syntax.specs.declared.call.Block.{Block}
 use Rattle.proc_syntax.specs.declared.call.Tx.{Tx}
 use Rattle.proc_syntax.specs.declared.tree.App.{App}
@@ -37,13 +37,13 @@ dropped_tame job = record { tx = refl; live = λ e. absurd (false≢true e) }
 
 pub claimed_tame : (actor : ℕ) (job : Job) → is_waiting job.status ≡ true → IsTame (claimed actor) job
 claimed_tame actor job waits = record { tx = refl; live = λ e. by job.status waits } where
-  by : (s : Status) → is_waiting s ≡ true → is_live s ≡ true
+  by : (s : JobStatus) → is_waiting s ≡ true → is_live s ≡ true
   by Waiting h = refl
   by (Held holder) h = refl
   by Done h = refl
   by Dropped h = absurd (false≢true h)
 
-pub read_tame : (app : App) (sealed : List Sealed) (job : Job) → IsTame (read_on app sealed) job
+pub read_tame : (app : App) (sealed : List SealedBlock) (job : Job) → IsTame (read_on app sealed) job
 read_tame app sealed job = record { tx = tx_at (next_read app sealed job); live = live_at (next_read app sealed job) } where
   tx_at : (o : Option access.Read) → (record_read app sealed job o).tx ≡ job.tx
   tx_at None = refl
@@ -53,27 +53,27 @@ read_tame app sealed job = record { tx = tx_at (next_read app sealed job); live 
   live_at None e = e
   live_at (Some read) e = e
 
-pub finished_tame : (app : App) (sealed : List Sealed) (actor : ℕ) (job : Job) → job.status ≡ Held actor → IsTame (finished app sealed) job
+pub finished_tame : (app : App) (sealed : List SealedBlock) (actor : ℕ) (job : Job) → job.status ≡ Held actor → IsTame (finished app sealed) job
 finished_tame app sealed actor job held =
     tame_cond (is_settled job.tx.id sealed) (finished app sealed) dropped (λ (x : Job). record { tx = x.tx; status = Done; recorded = ended x.recorded (run_at app sealed x.tx) }) job refl (dropped_tame job)
     (record { tx = refl; live = λ e. ap is_live held })
 
-pub released_tame : (sealed : List Sealed) (actor : ℕ) (job : Job) → job.status ≡ Held actor → IsTame (released sealed) job
+pub released_tame : (sealed : List SealedBlock) (actor : ℕ) (job : Job) → job.status ≡ Held actor → IsTame (released sealed) job
 released_tame sealed actor job held =
     tame_cond (is_settled job.tx.id sealed) (released sealed) dropped (λ (x : Job). new_job x.tx) job refl (dropped_tame job) (record { tx = refl; live = λ e. ap is_live held })
 
-pub over_tame : (sealed : List Sealed) (job : Job) → IsTame (drop_over sealed) job
+pub over_tame : (sealed : List SealedBlock) (job : Job) → IsTame (drop_over sealed) job
 over_tame sealed job = tame_cond (is_over sealed job) (drop_over sealed) dropped (λ (x : Job). x) job refl (dropped_tame job) (record { tx = refl; live = λ e. e })
 
 -- ---- that a valid transaction keeps its job
 
-pub for_read : (app : App) (sealed : List Sealed) (tx : Tx) (job : Job) → is_for tx job ≡ true → is_for tx (read_on app sealed job) ≡ true
+pub for_read : (app : App) (sealed : List SealedBlock) (tx : Tx) (job : Job) → is_for tx job ≡ true → is_for tx (read_on app sealed job) ≡ true
 for_read app sealed tx job is = by (next_read app sealed job) where
   by : (o : Option access.Read) → is_for tx (record_read app sealed job o) ≡ true
   by None = is
   by (Some read) = is
 
-pub for_unsettled : (sealed : List Sealed) (tx : Tx) (job one two : Job) → is_settled tx.id sealed ≡ false → is_for tx job ≡ true → is_live two.status ≡ true → two.tx ≡ job.tx
+pub for_unsettled : (sealed : List SealedBlock) (tx : Tx) (job one two : Job) → is_settled tx.id sealed ≡ false → is_for tx job ≡ true → is_live two.status ≡ true → two.tx ≡ job.tx
     → is_for tx (cond (is_settled job.tx.id sealed) one two) ≡ true
 for_unsettled sealed tx job one two unsettled is live same =
     let e : job.tx ≡ tx = for-same tx job is in
@@ -81,7 +81,7 @@ for_unsettled sealed tx job one two unsettled is live same =
     (and_from (is_live two.status) (same_tx two.tx tx) live (same_tx-self two.tx tx (same ∙ e)))
 
 -- a valid transaction's id is not settled
-pub valid_unsettled : (app : App) (sealed : List Sealed) (block : Block) (place : ℕ) (tx : Tx) → IsValid app sealed block place tx → is_settled tx.id sealed ≡ false
+pub valid_unsettled : (app : App) (sealed : List SealedBlock) (block : Block) (place : ℕ) (tx : Tx) → IsValid app sealed block place tx → is_settled tx.id sealed ≡ false
 valid_unsettled app sealed block place tx valid =
     let ids = early-none app (ids_of sealed ++ map (λ (t : Tx). t.id) (take place block.txs)) block.number tx valid in
     settled-known tx.id sealed ∙ (or_parts (list_any (bytes_eq tx.id) (ids_of sealed)) _ (sym (list_any-append (bytes_eq tx.id) (ids_of sealed) _) ∙ ids.unknown)).0

@@ -3,7 +3,7 @@ use Rattle.std.proofs.Common.{Bool, IsSome, List, None, Option, Some, [], ap, ar
 use Rattle.node_model.specs.Decide.{early}
 use Rattle.node_model.specs.History.{ids_of}
 use Rattle.node_model.specs.Steps.{AllDecided, Answer, Claimed, Decided, Digest, Doomed, Gone, InWork, Invalid, Kept, Known, NoBlock, NoJob, NotAll, NotNext, NotReady, Queued, Released, Reply, Rows, Taken, ToCommit, chosen, commits, commits_due, due_number, early_cause, is_done_job, is_ready, reply, waiting_number}
-use Rattle.node_model.specs.World.{BlockInWork, Done, Dropped, Held, Job, Status, Waiting, World, decided, due, holder_of, is_done, is_for, is_live, is_waiting, job_at, job_of, number_of, same_tx}
+use Rattle.node_model.specs.World.{BlockInWork, Done, Dropped, Held, Job, JobStatus, Waiting, World, decided, due, holder_of, is_done, is_for, is_live, is_waiting, job_at, job_of, number_of_job, same_tx}
 use Rattle.node_model.specs.declared.journal.Event.TheVariants.{Commit}
 use Rattle.node_model.specs.declared.journal.Pick.TheVariants.{Due}
 use Rattle.node_model.specs.declared.outcome.Outcome.{Outcome}
@@ -48,7 +48,7 @@ module _ (app : App) (w : World) where
       → (job : Job) × IsDueJob w number job × (is_waiting job.status ≡ true)
   due_waits number work tx in_work is_due None found e = absurd (none-some number e)
   due_waits number work tx in_work is_due (Some job) found e = by (is_waiting job.status) refl e where
-    by : (b : Bool) → is_waiting job.status ≡ b → cond b (number_of tx w.jobs) None ≡ Some number → (job : Job) × IsDueJob w number job × (is_waiting job.status ≡ true)
+    by : (b : Bool) → is_waiting job.status ≡ b → cond b (number_of_job tx w.jobs) None ≡ Some number → (job : Job) × IsDueJob w number job × (is_waiting job.status ≡ true)
     by false waits e = absurd (none-some number e)
     by true waits e =
         let f = number_stands 1 tx w.jobs number e in
@@ -142,13 +142,13 @@ awaited app w holder waits facts =
     }
 
 module _ (app : App) (w : World) (pos : ℕ) (facts : FactsHold app w) where
-  waits_unheld : (s : Status) → is_done s ≡ false → is_live s ≡ true → holder_of s ≡ None → is_waiting s ≡ true
+  waits_unheld : (s : JobStatus) → is_done s ≡ false → is_live s ≡ true → holder_of s ≡ None → is_waiting s ≡ true
   waits_unheld Waiting done live none = refl
   waits_unheld (Held actor) done live none = absurd (none-some actor (sym none))
   waits_unheld Done done live none = absurd (false≢true (sym done))
   waits_unheld Dropped done live none = absurd (false≢true live)
 
-  holder_holds : (s : Status) (holder : ℕ) → holder_of s ≡ Some holder → s ≡ Held holder
+  holder_holds : (s : JobStatus) (holder : ℕ) → holder_of s ≡ Some holder → s ≡ Held holder
   holder_holds Waiting holder e = absurd (none-some holder e)
   holder_holds (Held actor) holder e = ap Held (same_Some actor holder e)
   holder_holds Done holder e = absurd (none-some holder e)
@@ -164,9 +164,9 @@ module _ (app : App) (w : World) (pos : ℕ) (facts : FactsHold app w) where
       (subst (λ t. IsSome (due_number app w told.work t)) (sym told.is_due)
       (subst (λ cause. IsSome (cond (is_some cause) None (waiting_number told.tx w.jobs (job_of told.tx w.jobs)))) (sym a.early)
       (subst (λ found. IsSome (waiting_number told.tx w.jobs found)) (sym a.found)
-      (subst (λ b. IsSome (cond b (number_of told.tx w.jobs) None)) (sym waiting) number))))
+      (subst (λ b. IsSome (cond b (number_of_job told.tx w.jobs) None)) (sym waiting) number))))
     where
-      numbered_of : (tx : Tx) (job : Job) → job_of tx w.jobs ≡ Some job → IsSome (number_of tx w.jobs)
+      numbered_of : (tx : Tx) (job : Job) → job_of tx w.jobs ≡ Some job → IsSome (number_of_job tx w.jobs)
       numbered_of tx job found = position-some (is_for tx) 1 w.jobs (subst (λ o. IsSome o) (sym found) refl)
 
   holder_is_named : (holder : ℕ) → (reply app w ToCommit).0 ≡ NotReady pos (Some holder) → (number : ℕ) × (job : Job) × IsDueJob w number job × (job.status ≡ Held holder)

@@ -2,7 +2,7 @@
 -- (These facts are this project's own.)
 use Rattle.node_model.specs.Decide.{early, run_at}
 use Rattle.node_model.specs.Events.{is_settled}
-use Rattle.node_model.specs.History.{Sealed, ids_of, ids_told}
+use Rattle.node_model.specs.History.{SealedBlock, ids_of, ids_told}
 use Rattle.node_model.specs.World.{BlockInWork, Job, World, decided, is_done, is_held, is_live, is_waiting, job_at, job_of, unread}
 use Rattle.proc_syntax.specs.Call.{call_fault}
 use Rattle.proc_syntax.specs.declared.call.Block.{Block}
@@ -13,7 +13,7 @@ use Rattle.std.specs.Prelude.{IsSome, List, None, Some, [], false, length, map, 
 use mathlib.Core.List.{IsPrefix}
 
 -- sealed blocks are numbered without a gap, where the first has a number
-abbrev pub AreCounted : ℕ → List Sealed → Type 0
+abbrev pub AreCounted : ℕ → List SealedBlock → Type 0
 AreCounted number [] = Unit {0}
 AreCounted number (block ∷ rest) = (block.number ≡ number) × AreCounted (number + 1) rest
 
@@ -22,7 +22,7 @@ abbrev pub EachJob : (Job → Type 0) → List Job → Type 0
 EachJob P jobs = (number : ℕ) (job : Job) → job_at jobs number ≡ Some job → P job
 
 -- a job, and what is recorded of it, fit its status, on these sealed blocks
-pub record JobFits (app : App) (sealed : List Sealed) (job : Job) : Type 0 where
+pub record JobFits (app : App) (sealed : List SealedBlock) (job : Job) : Type 0 where
   -- its call can begin
   pub begins : call_fault app job.tx ≡ None
   -- where it waits or is done, its id is not settled
@@ -45,7 +45,7 @@ AreApart jobs = (i j : ℕ) (one two : Job) → job_at jobs i ≡ Some one → j
     → is_live one.status ≡ true → is_live two.status ≡ true → one.tx ≡ two.tx → i ≡ j
 
 -- a transaction of a block, by its place from 0, has no cause that is known without a run
-abbrev pub IsValid : App → List Sealed → Block → ℕ → Tx → Type 0
+abbrev pub IsValid : App → List SealedBlock → Block → ℕ → Tx → Type 0
 IsValid app sealed block place tx = early app (ids_of sealed ++ map (λ tx. tx.id) (take place block.txs)) block.number tx ≡ None
 
 -- each valid undecided transaction of the block in work has a job that is not dropped

@@ -2,7 +2,7 @@
 use Rattle.node_model.specs.Decide.{run_at, writes_since}
 use Rattle.node_model.specs.Events.{after}
 use Rattle.node_model.specs.Fold.{Work, fold, work_by, work_on}
-use Rattle.node_model.specs.History.{Sealed}
+use Rattle.node_model.specs.History.{SealedBlock}
 use Rattle.node_model.specs.Journals.{IsLegal, IsStep, delivered, world}
 use Rattle.node_model.specs.Steps.{Ask, May, NotReady, ToCommit, chosen, reply}
 use Rattle.node_model.specs.World.{Held, Job, Record, World, is_waiting}
@@ -25,14 +25,14 @@ use Rattle.std.specs.Prelude.{IsSome, List, None, Some, [], length, map, take, t
 
 -- the late read of reads that were cut short is the late read of the whole run, on all blocks before the next one
 abbrev pub CutReadsTell : Type 0
-CutReadsTell = (app : App) (sealed : List Sealed) (tx : Tx) (reads : List Made) → IsCut app sealed tx reads
+CutReadsTell = (app : App) (sealed : List SealedBlock) (tx : Tx) (reads : List Made) → IsCut app sealed tx reads
     → IsSome (late (tables_of app) (map (λ made. made.read) reads) (writes_since sealed (length sealed + 1) tx))
     × (late (tables_of app) (map (λ made. made.read) (run_at app sealed tx).reads) (writes_since sealed (length sealed + 1) tx)
     ≡ late (tables_of app) (map (λ made. made.read) reads) (writes_since sealed (length sealed + 1) tx))
 
 -- so what is decided by a record is what the whole run decides
 abbrev pub RecordsDecide : Type 0
-RecordsDecide = (app : App) (sealed : List Sealed) (work : Work) (tx : Tx) (recorded : Record) → TellsRun app sealed tx recorded
+RecordsDecide = (app : App) (sealed : List SealedBlock) (work : Work) (tx : Tx) (recorded : Record) → TellsRun app sealed tx recorded
     → work_by app sealed (length sealed + 1) work tx recorded.ran ≡ work_on app sealed (length sealed + 1) work tx
 
 -- ---- entries and facts

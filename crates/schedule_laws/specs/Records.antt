@@ -1,7 +1,7 @@
 -- What a record tells of the run of its transaction.
 use Rattle.node_model.specs.Decide.{run_at}
 use Rattle.node_model.specs.Events.{hit_since}
-use Rattle.node_model.specs.History.{Sealed}
+use Rattle.node_model.specs.History.{SealedBlock}
 use Rattle.node_model.specs.World.{Record}
 use Rattle.proc_syntax.specs.declared.call.Tx.{Tx}
 use Rattle.proc_syntax.specs.declared.tree.App.{App}
@@ -11,7 +11,7 @@ use mathlib.Core.List.{IsPrefix}
 
 -- Reads that were cut short: they are the first of the run, and a write of the blocks since the height hits the last of them.
 -- (An early abort, which stops work that is bound to be refused, is of Nathan and others, PVLDB 12(11), 2019.)
-pub record IsCut (app : App) (sealed : List Sealed) (tx : Tx) (reads : List Made) : Type 0 where
+pub record IsCut (app : App) (sealed : List SealedBlock) (tx : Tx) (reads : List Made) : Type 0 where
   pub before : List Made
   pub last : Made
   pub ends : reads ≡ before ++ last ∷ []
@@ -19,6 +19,6 @@ pub record IsCut (app : App) (sealed : List Sealed) (tx : Tx) (reads : List Made
   pub hit : IsSome (hit_since app sealed tx last.read)
 
 -- what a transaction may be decided by: its whole run, or one that was cut short
-pub record TellsRun (app : App) (sealed : List Sealed) (tx : Tx) (recorded : Record) : Type 0 where
+pub record TellsRun (app : App) (sealed : List SealedBlock) (tx : Tx) (recorded : Record) : Type 0 where
   pub if_whole : recorded.cut ≡ false → recorded.ran ≡ run_at app sealed tx
   pub if_cut : recorded.cut ≡ true → IsCut app sealed tx recorded.ran.reads

@@ -1,6 +1,6 @@
 -- What the entries of others leave to an actor.
 use Rattle.node_model.specs.Decide.{run_at}
-use Rattle.node_model.specs.History.{Sealed, snapshot, time_at}
+use Rattle.node_model.specs.History.{SealedBlock, snapshot, time_at}
 use Rattle.node_model.specs.World.{Holds, Job, World}
 use Rattle.node_model.specs.declared.journal.Entry.{Entry}
 use Rattle.proc_syntax.specs.declared.call.Tx.{Tx}
@@ -17,7 +17,7 @@ abbrev pub HoldsSame : ℕ → List Job → List Job → Type 0
 HoldsSame actor jobs later = (number : ℕ) (job : Job) → Holds jobs actor number job ↔ Holds later actor number job
 
 -- what a height showed it shows still: tables, time, and the run of a call
-pub record ShowsSame (app : App) (sealed later : List Sealed) : Type 0 where
+pub record ShowsSame (app : App) (sealed later : List SealedBlock) : Type 0 where
   pub tables : (height : ℕ) → height ≤ length sealed → snapshot height later ≡ snapshot height sealed
   pub times : (height : ℕ) → height ≤ length sealed → time_at height later ≡ time_at height sealed
   pub runs : (tx : Tx) → tx.height ≤ length sealed → run_at app later tx ≡ run_at app sealed tx
@@ -25,7 +25,7 @@ pub record ShowsSame (app : App) (sealed later : List Sealed) : Type 0 where
 -- a later state, in which an actor finds its own as it left it
 pub record IsLater (app : App) (actor : ℕ) (w later : World) : Type 0 where
   pub held : HoldsSame actor w.jobs later.jobs
-  pub more : List Sealed
+  pub more : List SealedBlock
   pub sealed : later.sealed ≡ w.sealed ++ more
   pub shows : ShowsSame app w.sealed later.sealed
   -- what actor 0 alone changes

@@ -3,10 +3,10 @@ use Rattle.std.proofs.Common.{Bool, List, None, Option, Some, [], ap, arith, con
 use Rattle.std.proofs.lemmas.Bool.{eq-eqb, eqb-true, false≢true}
 use Rattle.std.proofs.lemmas.Option.{none-some, same_Some}
 use Rattle.std.specs.List.{list_any, position_from}
-use Rattle.node_model.specs.World.{Done, Dropped, Held, Holds, HoldsNone, Job, Status, Waiting, World, is_held_by, job_at}
+use Rattle.node_model.specs.World.{Done, Dropped, Held, Holds, HoldsNone, Job, JobStatus, Waiting, World, is_held_by, job_at}
 use Rattle.schedule_sim.specs.Running.{held_by}
 
-is_holder : (actor : ℕ) (s : Status) → is_held_by actor s ≡ true → s ≡ Held actor
+is_holder : (actor : ℕ) (s : JobStatus) → is_held_by actor s ≡ true → s ≡ Held actor
 is_holder actor Waiting e = absurd (false≢true e)
 is_holder actor (Held other) e = ap Held (eqb-true other actor e)
 is_holder actor Done e = absurd (false≢true e)

@@ -55,14 +55,14 @@ pub but_idle : (node : Core) (hands : List (Option InHand)) (actor : ℕ) → Ar
 but_idle node hands actor are none = but node hands hands actor are (still hands actor none)
 
 -- what a step leaves to others
-abbrev pub Keeps : Core → ℕ → Core → Type 0
-Keeps old actor new = (other : ℕ) → (other ≡ actor → ⊥) → (hand : Option InHand) → IsHand old other hand → IsHand new other hand
+abbrev pub KeepsOthers : Core → ℕ → Core → Type 0
+KeepsOthers old actor new = (other : ℕ) → (other ≡ actor → ⊥) → (hand : Option InHand) → IsHand old other hand → IsHand new other hand
 
-pub keeps_same : (node : Core) (actor : ℕ) → Keeps node actor node
+pub keeps_same : (node : Core) (actor : ℕ) → KeepsOthers node actor node
 keeps_same node actor other apart hand is = is
 
 -- an actor's own hand comes back
-pub own : (old new : Core) (actor : ℕ) (hand : Option InHand) (hands hands' : List (Option InHand)) → AreInHandsBut old actor hands → IsLegal new.app new.journal → Keeps old actor new → IsPut hands actor hand hands'
+pub own : (old new : Core) (actor : ℕ) (hand : Option InHand) (hands hands' : List (Option InHand)) → AreInHandsBut old actor hands → IsLegal new.app new.journal → KeepsOthers old actor new → IsPut hands actor hand hands'
     → IsHand new actor hand → AreInHands new hands'
 own old new actor hand hands hands' are legal keeps put is = record { legal = legal; count = put.count ∙ are.count; each = λ other one. by other one (other == actor) refl }
   where
@@ -73,11 +73,11 @@ own old new actor hand hands hands' are legal keeps put is = record { legal = le
         subst (IsHand new other) (sym (put.rest other apart)) (keeps other apart (hand_of hands other) (are.each other one apart))
 
 -- an actor's hand stays empty
-pub own_idle : (old new : Core) (actor : ℕ) (hands : List (Option InHand)) → AreInHandsBut old actor hands → IsLegal new.app new.journal → Keeps old actor new → IsHand new actor None → AreInHands new hands
+pub own_idle : (old new : Core) (actor : ℕ) (hands : List (Option InHand)) → AreInHandsBut old actor hands → IsLegal new.app new.journal → KeepsOthers old actor new → IsHand new actor None → AreInHands new hands
 own_idle old new actor hands are legal keeps is = own old new actor None hands hands are legal keeps (still hands actor are.none) is
 
 -- one who holds nothing takes a step
-pub outside : (old new : Core) (actor : ℕ) (hands : List (Option InHand)) → (IsActor actor → ⊥) → AreInHands old hands → IsLegal new.app new.journal → Keeps old actor new → AreInHands new hands
+pub outside : (old new : Core) (actor : ℕ) (hands : List (Option InHand)) → (IsActor actor → ⊥) → AreInHands old hands → IsLegal new.app new.journal → KeepsOthers old actor new → AreInHands new hands
 outside old new actor hands none are legal keeps = record {
   legal = legal;
   count = are.count;

@@ -12,7 +12,7 @@ use Rattle.node_core.specs.declared.answers.Got.TheVariants as got
 use Rattle.node_core.specs.declared.answers.Got.{Got}
 use Rattle.node_model.specs.Decide.{run_at}
 use Rattle.node_model.specs.Events.{claimed, dropped, ended, finished, has_told, hit_since, is_settled, next_read, read_on, released, settled_in}
-use Rattle.node_model.specs.History.{Sealed}
+use Rattle.node_model.specs.History.{SealedBlock}
 use Rattle.node_model.specs.Journals.{IsLegal, world}
 use Rattle.node_model.specs.Steps as steps
 use Rattle.node_model.specs.Steps.{Answer, Ask, May, Reply, ToClaim, ToFinish, ToRead, ToRelease, chosen, claims, doomed_or_rows, finishes, noted, reads, reads_unless, reply}
@@ -38,13 +38,13 @@ legal_noted app journal actor ask (Some event) legal may is =
     legal_more app empty journal (record { actor = actor; event = event }) legal (record { ask = ask; may = may; told = is })
 
 -- an id that is settled is settled still
-settled_more : (id : List ℕ) (sealed more : List Sealed) → is_settled id sealed ≡ true → is_settled id (sealed ++ more) ≡ true
+settled_more : (id : List ℕ) (sealed more : List SealedBlock) → is_settled id sealed ≡ true → is_settled id (sealed ++ more) ≡ true
 settled_more id [] more e = absurd (false≢true e)
 settled_more id (block ∷ sealed) more e =
     (elim (has_told id block) as (λ b. first_of b sealed ≡ true → first_of b (sealed ++ more) ≡ true) [ true ↦ λ e. refl | false ↦ λ e. settled_more id sealed more e ]) e
   where
-    first_of : Bool → List Sealed → Bool
-    first_of b rest = is_some (option_map (λ (sealed : Sealed). sealed.number) (cond b (Some block) (find (has_told id) rest)))
+    first_of : Bool → List SealedBlock → Bool
+    first_of b rest = is_some (option_map (λ (sealed : SealedBlock). sealed.number) (cond b (Some block) (find (has_told id) rest)))
 
 none_by : (other actor : ℕ) (o : Option Event) → (other ≡ actor → ⊥) → entries_by other (entries_for actor o) ≡ []
 none_by other actor None apart = refl

@@ -17,7 +17,7 @@ use Rattle.node_model.specs.World.{HoldsNone}
 use Rattle.proc_syntax.specs.declared.call.Block.{Block}
 use Rattle.proc_syntax.specs.declared.call.Tx.{Tx}
 use Rattle.schedule_sim.proofs.Bared.{stays, stepped}
-use Rattle.schedule_sim.proofs.Keeping.{Keeps, but_idle, keeps_same, outside, own, own_idle}
+use Rattle.schedule_sim.proofs.Keeping.{KeepsOthers, but_idle, keeps_same, outside, own, own_idle}
 use Rattle.schedule_sim.proofs.Lines.{claim_asks, claim_held, finish_asks, finish_goes, may_claim, may_release, read_asks, read_gone, read_over, release_asks, took}
 use Rattle.schedule_sim.proofs.Moves.{claims_none, claims_work, finishes_work, keeps, legal_new, reads_work, releases_work}
 use Rattle.schedule_sim.specs.Bare.{Takes, state_of}
@@ -146,7 +146,7 @@ module _ (old : Core) (actor : ℕ) (work : InHand) (is : IsWorkOf old actor wor
     pub read_hands : (hands hands' : List (Option InHand)) → AreInHandsBut old actor hands → IsHeld new work' → IsAnswered g work work' → IsPut hands actor (Some work') hands' → AreInHands new hands'
     read_hands hands hands' are held answered put =
         own old new actor (Some work') hands hands' are (legal_new old work.actor (ToRead work.job) legal (goes old legal is.held) new (got_as g) step)
-        (subst (λ n. Keeps old n new) is.same (keeps old work.actor (ToRead work.job) legal (goes old legal is.held) new (got_as g) step)) put
+        (subst (λ n. KeepsOthers old n new) is.same (keeps old work.actor (ToRead work.job) legal (goes old legal is.held) new (got_as g) step)) put
         (subst (λ n. IsWorkOf new n work') is.same (reads_work old new work work' g legal own_work (goes old legal is.held) step held answered))
 
   -- finish
@@ -163,7 +163,7 @@ module _ (old : Core) (actor : ℕ) (work : InHand) (is : IsWorkOf old actor wor
     pub finish_hands : (hands : List (Option InHand)) → AreInHandsBut old actor hands → AreInHands new hands
     finish_hands hands are =
         own_idle old new actor hands are (legal_new old work.actor (ToFinish work.job) legal (goes old legal is.held) new answer step)
-        (subst (λ n. Keeps old n new) is.same (keeps old work.actor (ToFinish work.job) legal (goes old legal is.held) new answer step))
+        (subst (λ n. KeepsOthers old n new) is.same (keeps old work.actor (ToFinish work.job) legal (goes old legal is.held) new answer step))
         (subst (HoldsNone (world_of new)) is.same (finishes_work old new work answer legal own_work (goes old legal is.held) step))
 
   -- release
@@ -175,5 +175,5 @@ module _ (old : Core) (actor : ℕ) (work : InHand) (is : IsWorkOf old actor wor
     pub release_hands : (hands : List (Option InHand)) → AreInHandsBut old actor hands → AreInHands new hands
     release_hands hands are =
         own_idle old new actor hands are (legal_new old work.actor (ToRelease work.job) legal (may_release old actor work is) new answer step)
-        (subst (λ n. Keeps old n new) is.same (keeps old work.actor (ToRelease work.job) legal (may_release old actor work is) new answer step))
+        (subst (λ n. KeepsOthers old n new) is.same (keeps old work.actor (ToRelease work.job) legal (may_release old actor work is) new answer step))
         (subst (HoldsNone (world_of new)) is.same (releases_work old new work answer legal own_work (may_release old actor work is) step))

@@ -108,8 +108,8 @@ scheduled given lines = after_lines given empty lines
 -- ---- what is told of it
 
 -- the results of the sealed blocks, the tables after the last of them, and the journal
-abbrev pub told_of : App → World → NodeResult
-told_of app w = record {
+abbrev pub result_told : App → World → NodeResult
+result_told app w = record {
   blocks = results_of (tables_of app) w.sealed;
   tables = all_rows (snapshot (length w.sealed) w.sealed) 0 (tables_of app);
   journal = w.journal;
@@ -117,7 +117,7 @@ told_of app w = record {
 
 -- where all blocks are sealed; else how many are
 abbrev pub if_all : App → List Block → World → Result NodeResult ℕ
-if_all app blocks w = cond (length w.sealed == length blocks) (Ok (told_of app w)) (Err (length w.sealed))
+if_all app blocks w = cond (length w.sealed == length blocks) (Ok (result_told app w)) (Err (length w.sealed))
 
 -- what a node tells that is driven by a schedule, or how many blocks this seals, where it does not seal all
 abbrev pub simulated : Given → List Step → Result NodeResult ℕ

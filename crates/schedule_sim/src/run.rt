@@ -9,7 +9,7 @@ ghost use Rattle.schedule_sim.specs.Running.{simulated};
 ghost use Rattle.schedule_sim.specs.Steps.{IsStep};
 ghost use Rattle.serial_laws.specs.InOrder.{EachInOrder};
 
-use crate::simulation::{SimFault, Simulation};
+use crate::simulation::{SimFault, SimulatedNode};
 use crate::step::Schedule;
 use node_model::NodeResult;
 use proc_check::Checked;
@@ -35,7 +35,7 @@ pub fn simulate<V: Versions>(
     ensures delivers { IfOk result (λ made. delivered made.journal ≡ blocks.now) }
     ensures replays { IfOk result (λ made. EachInOrder app.now.value.app blocks.now made.blocks) }
 {
-    let mut simulation = Simulation::<V>::new(alloc, app)?;
+    let mut simulation = SimulatedNode::<V>::new(alloc, app)?;
     simulation.take_lines(blocks, arrivals, schedule.steps.as_slice())?;
     let made = simulation.close(blocks)?;
     Ok(made)

@@ -66,23 +66,23 @@ fn block_behind(blocks: &[Block], sealed: u64) -> Option<&Block>
 
 /// A node, and what its actors hold between two lines.
 #[derive(Drop)]
-pub struct Simulation<V: Versions> {
+pub struct SimulatedNode<V: Versions> {
     pub(crate) node: NodeCore<V>,
     pub(crate) hands: Hands,
 }
 
-impl<V: Versions> Simulation<V> {
+impl<V: Versions> SimulatedNode<V> {
     ghost use Rattle.node_model.specs.World.{empty};
 
     /// A node to which nothing has happened, whose actors hold nothing.
-    pub fn new(alloc: Global, app: &Arc<Checked>) -> Result<Simulation<V>, NoMemory>
+    pub fn new(alloc: Global, app: &Arc<Checked>) -> Result<SimulatedNode<V>, NoMemory>
         ensures app { IfOk result (λ made. made.node.app ≡ app.now.value.app) }
         ensures state { IfOk result (λ made. state_of made.node ≡ empty) }
         ensures hands { IfOk result (λ made. AreInHands made.node made.hands) }
     {
         let node = NodeCore::new(alloc, app)?;
         let hands = empty_hands(alloc)?;
-        Ok(Simulation { node, hands })
+        Ok(SimulatedNode { node, hands })
     }
 
     // What arrives is brought.
@@ -180,7 +180,7 @@ impl<V: Versions> Simulation<V> {
         ensures told { Tells result (if_all self.node.app blocks.now (state_of self.node)) }
         ensures legal { IfOk result (λ made. IsLegal self.node.app made.journal) }
     {
-        let Simulation { node, hands } = self;
+        let SimulatedNode { node, hands } = self;
         drop(hands);
         let sealed = node.height();
         if sealed != blocks.len() as u64 {

@@ -10,13 +10,13 @@ ghost use Rattle.schedule_sim.specs.Running.{to_claim, to_finish, to_read, to_re
 ghost use Rattle.schedule_sim.specs.Steps.{IsActor};
 
 use crate::hands::{holds, put_work, take_work};
-use crate::simulation::Simulation;
+use crate::simulation::SimulatedNode;
 use node_core::{Next, Work};
 use node_model::Pick;
 use rel_base::NoMemory;
 use row_sets::Versions;
 
-impl<V: Versions> Simulation<V> {
+impl<V: Versions> SimulatedNode<V> {
     /// An actor that holds no job claims one.
     pub fn claim(&mut self, actor: u32, pick: Pick) -> Result<(), NoMemory>
         requires actor { IsActor actor }

@@ -2,7 +2,7 @@
 use Rattle.std.proofs.Common.{All, List, None, Option, Some, [], arith, cond, inl, inr, map, refl, subst, sym, false, true, ◌++◌, ◌≡◌, ◌∷◌, ℕ}
 use Rattle.node_model.specs.Danger.{danger}
 use Rattle.node_model.specs.Decide.{bad_call, by_run, clash, clash_at, conflict_outcome, danger_outcome, decide, duplicate, early, fault_outcome, first_shared, future, is_shared, late_outcome, or_committed, run_at, writes_since}
-use Rattle.node_model.specs.History.{Sealed, ids_of, ids_told}
+use Rattle.node_model.specs.History.{SealedBlock, ids_of, ids_told}
 use Rattle.node_model.specs.declared.danger.Danger.{Danger}
 use Rattle.node_model.specs.declared.outcome.Outcome.TheVariants as outcome
 use Rattle.node_model.specs.declared.outcome.Outcome.{Outcome}
@@ -167,14 +167,14 @@ no_conflict (first ∷ rest) writes e done h = step (first_shared first.writes w
 -- ---- committed
 
 -- what holds of a transaction that committed
-pub record HasNoCause (app : App) (chain : List Sealed) (number : ℕ) (committed : List Committed) (tx : Tx) : Type 0 where
+pub record HasNoCause (app : App) (chain : List SealedBlock) (number : ℕ) (committed : List Committed) (tx : Tx) : Type 0 where
   pub early : late (tables_of app) (map (λ made. made.read) (run_at app chain tx).reads) (writes_since chain number tx) ≡ None
   pub begins : call_fault app tx ≡ None
   pub no_fault : fault_outcome (run_at app chain tx).ending ≡ None
   pub apart : (done : Committed) → In done committed → KeysApart done.writes (run_at app chain tx).writes
   pub safe : danger (tables_of app) committed (run_at app chain tx).reads (run_at app chain tx).writes ≡ None
 
-pub has_no_cause : (app : App) (chain : List Sealed) (number : ℕ) (outcomes : List Told) (committed : List Committed) (tx : Tx) → decide app chain number outcomes committed tx ≡ outcome.Committed
+pub has_no_cause : (app : App) (chain : List SealedBlock) (number : ℕ) (outcomes : List Told) (committed : List Committed) (tx : Tx) → decide app chain number outcomes committed tx ≡ outcome.Committed
     → HasNoCause app chain number committed tx
 has_no_cause app chain number outcomes committed tx e =
     let ran : Ran = run_at app chain tx in

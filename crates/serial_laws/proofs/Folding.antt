@@ -3,7 +3,7 @@ use Rattle.std.proofs.Common.{List, None, Some, [], ap, append_assoc, arith, inl
 use Rattle.node_model.specs.Danger.{danger}
 use Rattle.node_model.specs.Decide.{decide, fault_outcome, run_at}
 use Rattle.node_model.specs.Fold.{Work, join_committed, no_work, seal, work_on, work_through}
-use Rattle.node_model.specs.History.{Sealed, history_of, snapshot}
+use Rattle.node_model.specs.History.{SealedBlock, history_of, snapshot}
 use Rattle.node_model.specs.declared.outcome.Outcome.TheVariants as outcome
 use Rattle.node_model.specs.declared.outcome.Outcome.{Outcome}
 use Rattle.node_model.specs.declared.result.Committed.{Committed}
@@ -58,7 +58,7 @@ joins_or_leaves : (committed : List Committed) (pos : ℕ) (ran : Ran) (o : Outc
 joins_or_leaves committed pos ran outcome.Committed = inl refl
 joins_or_leaves committed pos ran _ = inr refl
 
-module _ (app : App) (chain : List Sealed) (block : Block) (last : ℕ) (past : IsPast (tables_of app) last chain) (next : block.number ≡ last + 1) where
+module _ (app : App) (chain : List SealedBlock) (block : Block) (last : ℕ) (past : IsPast (tables_of app) last chain) (next : block.number ≡ last + 1) where
   abbrev Runs : Committed → Type 0
   Runs done = RunsAgain app chain block (snapshot last chain) done
 

@@ -3,7 +3,7 @@ use Rattle.std.proofs.Common.{All, List, None, Some, [], ap, append_assoc, arith
 use Rattle.node_model.specs.Decide.{fault_outcome, run_at}
 use Rattle.node_model.specs.Edges.{edge}
 use Rattle.node_model.specs.Fold.{fold, fold_from, seal}
-use Rattle.node_model.specs.History.{Sealed, history_of, placed_of, snapshot, stamped_of, time_at}
+use Rattle.node_model.specs.History.{SealedBlock, history_of, placed_of, snapshot, stamped_of, time_at}
 use Rattle.node_model.specs.Order.{order}
 use Rattle.node_model.specs.declared.result.Committed.{Committed}
 use Rattle.proc_check.proofs.Typed_runs.{checked_runs}
@@ -50,7 +50,7 @@ stamped_is number (done ∷ rest) =
     ∙ ap (λ front. front ++ map (λ placed. (number, placed)) (placed_of rest)) (map-map (λ placed. (number, placed)) (λ write. record { pos = done.pos; write = write }) done.writes)
     ∙ ap (λ back. stamps number done.pos done.writes ++ back) (stamped_is number rest)
 
-pub history_grown : (chain : List Sealed) (block : Sealed) → history_of (chain ++ block ∷ []) ≡ history_of chain ++ stamped_of block
+pub history_grown : (chain : List SealedBlock) (block : SealedBlock) → history_of (chain ++ block ∷ []) ≡ history_of chain ++ stamped_of block
 history_grown [] block = append-nil (stamped_of block)
 history_grown (first ∷ chain) block = ap (λ rest. stamped_of first ++ rest) (history_grown chain block) ∙ sym (append_assoc (stamped_of first) (history_of chain) (stamped_of block))
 
@@ -82,7 +82,7 @@ fits_all tables number [] fits = All-nil (FitsAt tables)
 fits_all tables number (done ∷ rest) fits =
     All-append (FitsAt tables) (stamps number done.pos done.writes) (all_stamps number rest) (fits_stamps tables number done.pos done.writes (fits done (inl refl))) (fits_all tables number rest (λ t h. fits t (inr h)))
 
-module _ (app : App) (chain : List Sealed) (block : Block) where
+module _ (app : App) (chain : List SealedBlock) (block : Block) where
   after_is : (committed : List Committed) (S : Tables) → set_stamped S (all_stamps block.number committed) ≡ after app chain block committed S
   unfolding all_stamps
   after_is [] S = refl
@@ -144,7 +144,7 @@ module _ (app : App) (chain : List Sealed) (block : Block) where
 no_past : (tables : List TableDef) → IsPast tables 0 []
 no_past tables = record { story = tt; fits = All-nil (FitsAt tables); sorted = tt; upto = λ s h. absurd h }
 
-past_from : (app : App) (blocks : List Block) (chain : List Sealed) (last : ℕ) → IsPast (tables_of app) last chain → AreNumbered (last + 1) blocks → IsPast (tables_of app) (last + length blocks) (fold_from app chain blocks)
+past_from : (app : App) (blocks : List Block) (chain : List SealedBlock) (last : ℕ) → IsPast (tables_of app) last chain → AreNumbered (last + 1) blocks → IsPast (tables_of app) (last + length blocks) (fold_from app chain blocks)
 past_from app [] chain last past numbered = subst (λ n. IsPast (tables_of app) n chain) end past
   where
     end : last ≡ last + 0
@@ -154,7 +154,7 @@ past_from app (block ∷ rest) chain last past numbered =
     subst (λ n. IsPast (tables_of app) n (fold_from app (chain ++ seal app chain block ∷ []) rest)) end
     (past_from app rest (chain ++ seal app chain block ∷ []) (last + 1) (subst (λ n. IsPast (tables_of app) n (chain ++ seal app chain block ∷ [])) numbered.0 (grown app chain block last past numbered.0)) numbered.1)
 
-pub fold_more : (app : App) (blocks : List Block) (block : Block) (chain : List Sealed) → fold_from app chain (blocks ++ block ∷ []) ≡ fold_from app chain blocks ++ seal app (fold_from app chain blocks) block ∷ []
+pub fold_more : (app : App) (blocks : List Block) (block : Block) (chain : List SealedBlock) → fold_from app chain (blocks ++ block ∷ []) ≡ fold_from app chain blocks ++ seal app (fold_from app chain blocks) block ∷ []
 fold_more app [] block chain = refl
 fold_more app (first ∷ rest) block chain = fold_more app rest block (chain ++ seal app chain first ∷ [])
 

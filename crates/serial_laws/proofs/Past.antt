@@ -1,7 +1,7 @@
 -- The history of a chain: its writes find what they tell, and a height cuts it in two.
 use Rattle.std.proofs.Common.{Bool, List, None, Some, [], ap, arith, cond, false, inl, inr, map, refl, subst, sym, true, ⊎_elim, ◌&&◌, ◌++◌, ◌<◌, ◌∙◌, ◌≡◌, ◌≤◌, ◌∷◌, ℕ}
 use Rattle.node_model.specs.Decide.{run_at}
-use Rattle.node_model.specs.History.{Sealed, history_of, snapshot}
+use Rattle.node_model.specs.History.{SealedBlock, history_of, snapshot}
 use Rattle.proc_syntax.specs.Declaring.{tables_of}
 use Rattle.proc_syntax.specs.declared.call.Tx.{Tx}
 use Rattle.proc_syntax.specs.declared.tree.App.{App}
@@ -56,13 +56,13 @@ module _ (height high : ℕ) where
 -- ---- chains
 
 -- the writes of a chain fit, find their rows before one after another, and stand by block, the last of a number
-pub record IsPast (tables : List TableDef) (number : ℕ) (chain : List Sealed) : Type 0 where
+pub record IsPast (tables : List TableDef) (number : ℕ) (chain : List SealedBlock) : Type 0 where
   pub story : IsStory (history_of chain) no_tables
   pub fits : HistoryFits tables (history_of chain)
   pub sorted : Pairs ByBlock (history_of chain)
   pub upto : (s : Stamped) → In s (history_of chain) → s.0 ≤ number
 
-module _ (tables : List TableDef) (number : ℕ) (chain : List Sealed) (past : IsPast tables number chain) where
+module _ (tables : List TableDef) (number : ℕ) (chain : List SealedBlock) (past : IsPast tables number chain) where
   -- the tables after the last block are those of the whole history
   pub whole : (height : ℕ) → number ≤ height → snapshot height chain ≡ set_stamped no_tables (history_of chain)
   whole height le = ap (set_stamped no_tables) (filter_all (λ s. nat_le s.0 height) (history_of chain) (λ s h. let up = past.upto s h in le-leb _ _ (omega (arith, le, up))))
@@ -87,7 +87,7 @@ module _ (tables : List TableDef) (number : ℕ) (chain : List Sealed) (past : I
       (subst (λ l. IsStory l no_tables) (cut height number (history_of chain) past.sorted past.upto) past.story)
 
 -- a transaction without a late read makes the same run on the tables before its block as on those of its height
-pub run_stays : (app : App) (number : ℕ) (chain : List Sealed) → IsPast (tables_of app) number chain → (tx : Tx)
+pub run_stays : (app : App) (number : ℕ) (chain : List SealedBlock) → IsPast (tables_of app) number chain → (tx : Tx)
     → late (tables_of app) (map (λ made. made.read) (run_at app chain tx).reads) (writes_between tx.height number (history_of chain)) ≡ None
     → run_on app chain (snapshot number chain) (Some tx) ≡ run_at app chain tx
 run_stays app number chain past tx early =

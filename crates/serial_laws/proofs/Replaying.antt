@@ -1,7 +1,7 @@
 -- The transactions of a block, run one after another in a serial order, make the runs that they made on the tables before the block.
 use Rattle.std.proofs.Common.{All, List, None, Option, Some, [], ap, arith, false, inl, inr, map, not, refl, subst, sym, ⊎_elim, ◌∙◌, ◌≡◌, ◌∷◌, ℕ}
 use Rattle.node_model.specs.Edges.{edge, touches}
-use Rattle.node_model.specs.History.{Sealed}
+use Rattle.node_model.specs.History.{SealedBlock}
 use Rattle.node_model.specs.Order.{IsSerialOrder}
 use Rattle.node_model.specs.declared.result.Committed.{Committed}
 use Rattle.proc_syntax.proofs.Runs.{equal_runs, writes_find, writes_fit, writes_in_order}
@@ -35,7 +35,7 @@ use Rattle.node_model.specs.History.{time_at}
 
 -- ---- one run, by whether there is a transaction
 
-module _ (app : App) (chain : List Sealed) where
+module _ (app : App) (chain : List SealedBlock) where
   pub frame : (tx : Option Tx) (S T : Tables) → All (λ made. rows_in (tables_of app) made.read T ≡ rows_in (tables_of app) made.read S) (run_on app chain S tx).reads → run_on app chain T tx ≡ run_on app chain S tx
   frame None S T same = refl
   frame (Some tx) S T same = equal_runs app tx (time_at tx.height chain) S T same
@@ -57,7 +57,7 @@ module _ (app : App) (chain : List Sealed) where
       not_less : (o : _) → o ≡ Equal → o ≡ Less → ⊥
       not_less o tied less = cc
 
-module _ (app : App) (chain : List Sealed) (block : Block) where
+module _ (app : App) (chain : List SealedBlock) (block : Block) where
   abbrev pub ran_at : Tables → ℕ → Ran
   ran_at S pos = run_on app chain S (tx_at block.txs pos)
 

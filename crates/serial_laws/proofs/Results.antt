@@ -2,7 +2,7 @@
 use Rattle.std.proofs.Common.{List, None, Some, [], ap, append_assoc, arith, length, map, refl, subst, suc, sym, zero, ◌++◌, ◌+◌, ◌∙◌, ◌≡◌, ◌∷◌, ℕ}
 use Rattle.node_model.specs.Edges.{edge}
 use Rattle.node_model.specs.Fold.{block_result, fold, fold_from, no_digest, results_from, results_of, seal}
-use Rattle.node_model.specs.History.{Sealed, snapshot}
+use Rattle.node_model.specs.History.{SealedBlock, snapshot}
 use Rattle.node_model.specs.Order.{order, serial_order}
 use Rattle.node_model.specs.declared.result.BlockResult.{BlockResult}
 use Rattle.node_model.specs.declared.result.Committed.{Committed}
@@ -37,17 +37,17 @@ the_order_runs app blocks block next =
 -- ---- the results of a chain, block by block
 
 -- one block more
-fold_grows : (app : App) (chain : List Sealed) (blocks : List Block) → (more : List Sealed) × (fold_from app chain blocks ≡ chain ++ more)
+fold_grows : (app : App) (chain : List SealedBlock) (blocks : List Block) → (more : List SealedBlock) × (fold_from app chain blocks ≡ chain ++ more)
 fold_grows app chain [] = ([], sym (append-nil chain))
 fold_grows app chain (block ∷ rest) =
     let next = fold_grows app (chain ++ seal app chain block ∷ []) rest in
     (seal app chain block ∷ next.0, next.1 ∙ append_assoc chain (seal app chain block ∷ []) next.0)
 
-fold_append : (app : App) (chain : List Sealed) (before after : List Block) → fold_from app chain (before ++ after) ≡ fold_from app (fold_from app chain before) after
+fold_append : (app : App) (chain : List SealedBlock) (before after : List Block) → fold_from app chain (before ++ after) ≡ fold_from app (fold_from app chain before) after
 fold_append app chain [] after = refl
 fold_append app chain (block ∷ before) after = fold_append app (chain ++ seal app chain block ∷ []) before after
 
-fold_length : (app : App) (chain : List Sealed) (blocks : List Block) → length (fold_from app chain blocks) ≡ length chain + length blocks
+fold_length : (app : App) (chain : List SealedBlock) (blocks : List Block) → length (fold_from app chain blocks) ≡ length chain + length blocks
 fold_length app chain [] = omega arith
 fold_length app chain (block ∷ rest) =
     let rest_is = fold_length app (chain ++ seal app chain block ∷ []) rest in
@@ -55,7 +55,7 @@ fold_length app chain (block ∷ rest) =
     omega (arith, rest_is, one)
 
 -- the result that is told of a block has its serial order
-told_at : (tables : List TableDef) (previous : List ℕ) (before : List Sealed) (block : Sealed) (after : List Sealed)
+told_at : (tables : List TableDef) (previous : List ℕ) (before : List SealedBlock) (block : SealedBlock) (after : List SealedBlock)
     → IsSomeAnd (slice_get (results_from tables previous (before ++ block ∷ after)) (length before)) (λ told. told.order ≡ serial_order tables block.committed)
 told_at tables previous [] block after = refl
 told_at tables previous (first ∷ before) block after = told_at tables (block_result tables previous first).digest before block after
@@ -72,11 +72,11 @@ numbered_at number (first ∷ before) block after are =
     ((are.0, rest.0), omega (arith, next))
 
 -- the result that is told of the next block, whatever is told behind it
-pub runs_at : (app : App) (blocks : List Block) (block : Block) (more : List Sealed) → IsNext blocks block
+pub runs_at : (app : App) (blocks : List Block) (block : Block) (more : List SealedBlock) → IsNext blocks block
     → IsSomeAnd (slice_get (results_of (tables_of app) (fold app blocks ++ seal app (fold app blocks) block ∷ more)) (length blocks)) (λ told. RunInOrder app blocks block told.order)
 runs_at app blocks block more next =
     let tables : List TableDef = tables_of app in
-    let chain : List Sealed = fold app blocks in
+    let chain : List SealedBlock = fold app blocks in
     let told : List BlockResult = results_of tables (chain ++ seal app chain block ∷ more) in
     let counted = fold_length app [] blocks in
     let long : length chain ≡ length blocks = omega (arith, counted) in
@@ -86,7 +86,7 @@ runs_at app blocks block more next =
 
 pub results_run : ResultsRun
 results_run app blocks numbered before block after is =
-    let chain : List Sealed = fold app before in
+    let chain : List SealedBlock = fold app before in
     let here = numbered_at 1 before block after (subst (AreNumbered 1) is numbered) in
     let number = here.1 in
     let more = fold_grows app (chain ++ seal app chain block ∷ []) after in

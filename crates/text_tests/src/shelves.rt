@@ -2,11 +2,11 @@ ghost use Rattle.std.specs.Prelude.{◌≡◌, ◌≤◌, ◌++◌, OnOk, OnErr}
 ghost use Rattle.edge_traits.specs.Causes.{AllowsFront, Rose};
 ghost use Rattle.edge_traits.specs.Sink.{appended, WroteFront};
 
-use edge_traits::host::{DirShelf, StdSink};
 use edge_traits::mem_shelf::{MemShelf, SureShelf};
 use edge_traits::mem_sink::{MemSink, NullSink};
 use edge_traits::shelf::{Shelf, ShelfFailed};
 use edge_traits::sink::{Sink, SinkFailed};
+use edge_traits::system::{DirShelf, StdSink};
 use edge_traits::whole::{FetchFault, read_whole, write_whole};
 use rel_base::{List, Name};
 use std::alloc::Global;

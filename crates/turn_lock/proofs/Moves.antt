@@ -12,7 +12,7 @@ use Rattle.turn_lock.specs.declared.rule.Stage.TheVariants.{Idle, Entered, Ready
 use Rattle.turn_lock.specs.declared.rule.View.{View}
 use Rattle.turn_lock.specs.Views.{one_if, after_look, at_stage, published_view, looked_view}
 use Rattle.turn_lock.specs.Rule.{TurnWord, KnowsTurn, Fits, Home, TurnRule}
-use Rattle.turn_lock.specs.Steps.{TakingOut, PuttingBack, Publishing, Leaving, Looking}
+use Rattle.turn_lock.specs.Steps.{TakingOut, PuttingBack, Publishing, Leaving, ReadingLength}
 use Rattle.turn_lock.proofs.Seats.{at_bound, fits_other, each_set, first_set, first_looked, whole_set, whole_here, some_live, holder_set, knows_idle, lives_on}
 
 append_cancel : {A : Type 0} (xs ys zs : List A) → xs ++ ys ≡ xs ++ zs → ys ≡ zs
@@ -178,7 +178,7 @@ module _ {Value Base Entry : Type 0} (base_of : Value → Base) (story_of : Valu
         )
 
     -- what a look tells
-    look_tells : (s : State (Option Value) (View Base Entry)) (r : TurnRule base_of story_of actor s) → me.0.live ≡ true → get_elem? s.views id ≡ some me.0 → Looking actor me (get_or s.words 1 0) (looked_view r.story me.0, me.1)
+    look_tells : (s : State (Option Value) (View Base Entry)) (r : TurnRule base_of story_of actor s) → me.0.live ≡ true → get_elem? s.views id ≡ some me.0 → ReadingLength actor me (get_or s.words 1 0) (looked_view r.story me.0, me.1)
     look_tells s r live at =
         let fits = r.each id me.0 at in
         let own = fits.lives live in record {
@@ -200,7 +200,7 @@ module _ {Value Base Entry : Type 0} (base_of : Value → Base) (story_of : Valu
         is_first is = some-injective r.first.view me.0 (sym r.first.stands ∙ (ap (get_elem? s.views) (sym is ∙ ((r.each id me.0 at).lives live).number_is) ∙ at))
 
     -- kind 6, outside a turn
-    pub looks_idle : me.0.live ≡ true → me.0.stage ≡ Idle → Allows (TurnRule base_of story_of actor) slots id me 1 (λ n. n) (Looking actor me)
+    pub looks_idle : me.0.live ≡ true → me.0.stage ≡ Idle → Allows (TurnRule base_of story_of actor) slots id me 1 (λ n. n) (ReadingLength actor me)
     looks_idle live idle s r _ at _ =
         let view : View Base Entry = me.0 in
         let fits = r.each id view at in
@@ -237,7 +237,7 @@ module _ {Value Base Entry : Type 0} (base_of : Value → Base) (story_of : Valu
         )
 
     -- kind 6, in a turn
-    pub looks_entered : me.0.live ≡ true → me.0.stage ≡ Entered → Allows (TurnRule base_of story_of actor) slots id me 1 (λ n. n) (Looking actor me)
+    pub looks_entered : me.0.live ≡ true → me.0.stage ≡ Entered → Allows (TurnRule base_of story_of actor) slots id me 1 (λ n. n) (ReadingLength actor me)
     looks_entered live entered s r _ at _ =
         let view : View Base Entry = me.0 in
         let fits = r.each id view at in

@@ -48,7 +48,7 @@ abbrev pub Marking : {Value Base Entry : Type 0} → Knows Value Base Entry → 
 Marking before after = after ≡ before
 
 -- kind 6: the pass has seen the whole story, which continues what it had seen and was told, and in which its own entries are those that it made
-pub record Looking {Value Base Entry : Type 0} (actor : Entry → ℕ) (before : Knows Value Base Entry) (found : ℕ) (after : Knows Value Base Entry) : Type 0 where
+pub record ReadingLength {Value Base Entry : Type 0} (actor : Entry → ℕ) (before : Knows Value Base Entry) (found : ℕ) (after : Knows Value Base Entry) : Type 0 where
   pub story : List Entry
   pub slots : after.1 ≡ before.1
   pub view : after.0 ≡ looked_view story before.0

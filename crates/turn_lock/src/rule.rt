@@ -99,12 +99,12 @@ impl<S: Storied> Play<Option<S>, View<S::Base, S::Entry>> for Leave {
 }
 
 /// Kind 6: a load of the length, which shows the whole story.
-pub struct Look;
+pub struct ReadLength;
 
-impl<S: Storied> Play<Option<S>, View<S::Base, S::Entry>> for Look {
-    ghost use Rattle.turn_lock.specs.Steps.{Looking};
+impl<S: Storied> Play<Option<S>, View<S::Base, S::Entry>> for ReadLength {
+    ghost use Rattle.turn_lock.specs.Steps.{ReadingLength};
 
-    ghost then = { λ _ before found after. Looking S.actor before found after };
+    ghost then = { λ _ before found after. ReadingLength S.actor before found after };
 }
 
 /// Kind 9: word 0 goes from 1 to 2, which says that a thread may sleep until the turn ends, or stays as it is.

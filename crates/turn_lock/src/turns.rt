@@ -15,7 +15,7 @@ ghost use Rattle.turn_lock.specs.Passes.{IsPassOf, pass_number, pass_base, seen,
 
 use crate::lock::TurnLock;
 use crate::pass::Pass;
-use crate::rule::{Enter, Fork, Leave, Look, Mark, Publish, PutBack, TakeOut};
+use crate::rule::{Enter, Fork, Leave, Mark, Publish, PutBack, ReadLength, TakeOut};
 use atomic_table::Table;
 use rel_base::{NoMemory, Storied};
 use std::alloc::Global;
@@ -108,7 +108,7 @@ impl<S: Storied> TurnLock<S> {
         let mut taken = TAKEN;
         for _ in rt.forever() {
             if shared.compare_exchange::<Enter>(&mut pass.seat, TURN, FREE, taken) == FREE {
-                shared.load::<Look>(&mut pass.seat, LENGTH);
+                shared.load::<ReadLength>(&mut pass.seat, LENGTH);
                 shared.load::<TakeOut>(&mut pass.seat, TURN);
                 match shared.exchange(&mut pass.seat, 0, None) {
                     Some(state) => return state,
@@ -195,7 +195,7 @@ impl<S: Storied> TurnLock<S> {
             seat,
         } = other;
         self.table.shared.join_seat::<Fork>(&mut pass.seat, seat);
-        self.table.shared.load::<Look>(&mut pass.seat, LENGTH);
+        self.table.shared.load::<ReadLength>(&mut pass.seat, LENGTH);
     }
 
     /// Ends the lock, once each pass that was split off was joined: the value, whose story is what the pass has seen.

@@ -12,18 +12,18 @@ use Rattle.tx_text.specs.declared.arrival_reader.State.TheVariants as state
 use Rattle.tx_text.specs.Parts.{is_long, onto, parts_of}
 use Rattle.tx_text.specs.Listing.{Far, items_at, onward, walk, with_items}
 use Rattle.tx_text.specs.Arrivals.{arrivals, arrivals_form, arrived}
-use Rattle.tx_text.specs.Feeding.{Answers, Gives, Keeps, so_far, open_length}
+use Rattle.tx_text.specs.Feeding.{Answers, Gives, KeepsArrivals, so_far, open_length}
 use Rattle.tx_text.proofs.Listed.{far_on, fault_lasts, fault_stays}
 
 -- a reader that met a fault answers it again
-pub stays_stopped : (s : State) (line : ℕ) (bytes piece : List ℕ) → s ≡ state.Stopped line → Keeps s (arrived bytes) → arrived (bytes ++ piece) ≡ Err line
-stays_stopped s line bytes piece is keeps = fault_stays arrivals_form bytes piece line (subst (λ (x : State). Keeps x (arrived bytes)) is keeps)
+pub stays_stopped : (s : State) (line : ℕ) (bytes piece : List ℕ) → s ≡ state.Stopped line → KeepsArrivals s (arrived bytes) → arrived (bytes ++ piece) ≡ Err line
+stays_stopped s line bytes piece is keeps = fault_stays arrivals_form bytes piece line (subst (λ (x : State). KeepsArrivals x (arrived bytes)) is keeps)
 
 -- and one that did not goes on where it stopped
-pub goes_on : (s : State) (line : ℕ) (held bytes piece : List ℕ) (far : Result (Far Tx) ℕ) → s ≡ state.Open line held → walk arrivals_form line (onto held (parts_of piece)) ≡ far → Keeps s (arrived bytes)
+pub goes_on : (s : State) (line : ℕ) (held bytes piece : List ℕ) (far : Result (Far Tx) ℕ) → s ≡ state.Open line held → walk arrivals_form line (onto held (parts_of piece)) ≡ far → KeepsArrivals s (arrived bytes)
     → arrived (bytes ++ piece) ≡ with_items (so_far (arrived bytes)) far
 goes_on s line held bytes piece far is told keeps =
-    let opened : Keeps (state.Open line held) (arrived bytes) = subst (λ (x : State). Keeps x (arrived bytes)) is keeps in
+    let opened : KeepsArrivals (state.Open line held) (arrived bytes) = subst (λ (x : State). KeepsArrivals x (arrived bytes)) is keeps in
     far_on arrivals_form bytes piece (record { line = line; items = opened.0; rest = held }) opened.1
     ∙ ap (with_items opened.0) told ∙ ap (λ txs. with_items txs far) (sym (ap so_far opened.1))
 
@@ -49,9 +49,9 @@ walk_short n [] = omega arith
 walk_short n (rest ∷ []) = short_unless (is_long rest) n rest refl
 walk_short n (line ∷ part ∷ parts) = onward_short n (items_at arrivals_form n line) (walk arrivals_form (n + 1) (part ∷ parts)) (walk_short (n + 1) (part ∷ parts))
 
-pub few_held : (s : State) (line : ℕ) (held bytes : List ℕ) → s ≡ state.Open line held → Keeps s (arrived bytes) → length held ≤ 4096
+pub few_held : (s : State) (line : ℕ) (held bytes : List ℕ) → s ≡ state.Open line held → KeepsArrivals s (arrived bytes) → length held ≤ 4096
 few_held s line held bytes is keeps =
-    let opened : Keeps (state.Open line held) (arrived bytes) = subst (λ (x : State). Keeps x (arrived bytes)) is keeps in
+    let opened : KeepsArrivals (state.Open line held) (arrived bytes) = subst (λ (x : State). KeepsArrivals x (arrived bytes)) is keeps in
     let few : open_length (arrived bytes) ≤ 4096 = walk_short 1 (parts_of bytes) in
     let same : open_length (arrived bytes) ≡ length held = ap open_length opened.1 in
     omega (arith, few, same)

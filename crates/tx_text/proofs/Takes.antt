@@ -106,19 +106,19 @@ value_takes (b ∷ bs) =
     (spelled_kind signed_decimal value.Int (b ∷ bs) (int_at (b ∷ bs)) int_text (int_takes (b ∷ bs)))))
 
 -- the whole of the bytes
-abbrev pub IsWhole : {A : Type 0} → (A → List ℕ) → List ℕ → Option A → Type 0
-IsWhole text bytes None = Unit {0}
-IsWhole text bytes (Some found) = bytes ≡ text found
+abbrev pub SpelledWhole : {A : Type 0} → (A → List ℕ) → List ℕ → Option A → Type 0
+SpelledWhole text bytes None = Unit {0}
+SpelledWhole text bytes (Some found) = bytes ≡ text found
 
-alone_takes : (bytes : List ℕ) (v : Value) (rest : List ℕ) → bytes ≡ value_text v ++ rest → IsWhole value_text bytes (alone (v, rest))
+alone_takes : (bytes : List ℕ) (v : Value) (rest : List ℕ) → bytes ≡ value_text v ++ rest → SpelledWhole value_text bytes (alone (v, rest))
 alone_takes bytes v [] h = h ∙ append-nil (value_text v)
 alone_takes bytes v (b ∷ bs) h = tt
 
-whole_takes : (bytes : List ℕ) (found : Option (Value × List ℕ)) → Spelled value_text bytes found → IsWhole value_text bytes (option_and_then alone found)
+whole_takes : (bytes : List ℕ) (found : Option (Value × List ℕ)) → Spelled value_text bytes found → SpelledWhole value_text bytes (option_and_then alone found)
 whole_takes bytes None h = tt
 whole_takes bytes (Some found) h = alone_takes bytes found.0 found.1 h
 
-pub value_of_takes : (bytes : List ℕ) → IsWhole value_text bytes (value_of bytes)
+pub value_of_takes : (bytes : List ℕ) → SpelledWhole value_text bytes (value_of bytes)
 value_of_takes bytes = whole_takes bytes (value_at bytes) (value_takes bytes)
 
 -- arguments
@@ -133,15 +133,15 @@ arg_takes_if b bs false e = tt
 abbrev args_text : List Value → List ℕ
 args_text vs = flat_map arg_text vs
 
-more_takes : (bytes rest : List ℕ) (v : Value) (more : Option (List Value)) → bytes ≡ arg_text v ++ rest → IsWhole args_text rest more → IsWhole args_text bytes (option_map (λ values. v ∷ values) more)
+more_takes : (bytes rest : List ℕ) (v : Value) (more : Option (List Value)) → bytes ≡ arg_text v ++ rest → SpelledWhole args_text rest more → SpelledWhole args_text bytes (option_map (λ values. v ∷ values) more)
 more_takes bytes rest v None h hm = tt
 more_takes bytes rest v (Some values) h hm = h ∙ ap (λ xs. arg_text v ++ xs) hm
 
-first_takes : (bytes : List ℕ) (found : Option (Value × List ℕ)) (more : List ℕ → Option (List Value)) → Spelled arg_text bytes found → ((rest : List ℕ) → IsWhole args_text rest (more rest)) → IsWhole args_text bytes (first_and_more found more)
+first_takes : (bytes : List ℕ) (found : Option (Value × List ℕ)) (more : List ℕ → Option (List Value)) → Spelled arg_text bytes found → ((rest : List ℕ) → SpelledWhole args_text rest (more rest)) → SpelledWhole args_text bytes (first_and_more found more)
 first_takes bytes None more h hm = tt
 first_takes bytes (Some found) more h hm = more_takes bytes found.1 found.0 (more found.1) h (hm found.1)
 
-args_within_takes : (n : ℕ) (bytes : List ℕ) → IsWhole args_text bytes (args_within n bytes)
+args_within_takes : (n : ℕ) (bytes : List ℕ) → SpelledWhole args_text bytes (args_within n bytes)
 args_within_takes zero [] = refl
 args_within_takes (suc n) [] = refl
 args_within_takes zero (b ∷ bs) = tt
@@ -157,7 +157,7 @@ abbrev CallIs : List ℕ → ℕ → List ℕ → Option Tx → Type 0
 CallIs id height bytes None = Unit {0}
 CallIs id height bytes (Some tx) = (bytes ≡ tx.procedure ++ args_text tx.args) × (tx.id ≡ id) × (tx.height ≡ height)
 
-call_args : (id : List ℕ) (height : ℕ) (bytes name rest : List ℕ) (args : Option (List Value)) → bytes ≡ name ++ rest → IsWhole args_text rest args
+call_args : (id : List ℕ) (height : ℕ) (bytes name rest : List ℕ) (args : Option (List Value)) → bytes ≡ name ++ rest → SpelledWhole args_text rest args
     → CallIs id height bytes (option_map (λ args. record { id = id; height = height; procedure = name; args = args }) args)
 call_args id height bytes name rest None h ha = tt
 call_args id height bytes name rest (Some args) h ha = (h ∙ ap (λ xs. name ++ xs) ha, refl, refl)
@@ -193,36 +193,36 @@ height_takes : (id bytes : List ℕ) → HeightIs id bytes (height_and_call id b
 height_takes id bytes = height_found id bytes (u64_at bytes) (u64_takes bytes)
 
 -- the id, a space and the rest
-form_made : (line bytes id rest more : List ℕ) (made : Option Tx) → line ≡ codes "tx " ++ bytes → bytes ≡ id ++ rest → rest ≡ codes " " ++ more → HeightIs id more made → IsWhole tx_text line made
+form_made : (line bytes id rest more : List ℕ) (made : Option Tx) → line ≡ codes "tx " ++ bytes → bytes ≡ id ++ rest → rest ≡ codes " " ++ more → HeightIs id more made → SpelledWhole tx_text line made
 form_made line bytes id rest more None hl hb hr hm = tt
 form_made line bytes id rest more (Some tx) hl hb hr hm =
     hl ∙ ap (λ xs. codes "tx " ++ xs) (hb ∙ ap (λ xs. id ++ xs) (hr ∙ ap (λ xs. 32 ∷ xs) hm.0) ∙ ap (λ xs. xs ++ (32 ∷ (decimal tx.height ++ call_text tx))) (sym hm.1)
     ∙ sym (append_assoc tx.id (32 ∷ decimal tx.height) (call_text tx)))
 
-form_space : (line bytes id rest : List ℕ) (more : Option (List ℕ)) → line ≡ codes "tx " ++ bytes → bytes ≡ id ++ rest → IsInFront (codes " ") rest more → IsWhole tx_text line (option_and_then (height_and_call id) more)
+form_space : (line bytes id rest : List ℕ) (more : Option (List ℕ)) → line ≡ codes "tx " ++ bytes → bytes ≡ id ++ rest → IsInFront (codes " ") rest more → SpelledWhole tx_text line (option_and_then (height_and_call id) more)
 form_space line bytes id rest None hl hb hf = tt
 form_space line bytes id rest (Some more) hl hb hf = form_made line bytes id rest more (height_and_call id more) hl hb hf (height_takes id more)
 
 form_id : (line bytes : List ℕ) (found : Option (List ℕ × List ℕ)) → line ≡ codes "tx " ++ bytes → Spelled (λ w. w) bytes found
-    → IsWhole tx_text line (option_and_then (λ id. option_and_then (height_and_call id.0) (after (codes " ") id.1)) found)
+    → SpelledWhole tx_text line (option_and_then (λ id. option_and_then (height_and_call id.0) (after (codes " ") id.1)) found)
 form_id line bytes None hl hs = tt
 form_id line bytes (Some found) hl hs = form_space line bytes found.0 found.1 (after (codes " ") found.1) hl hs (after_takes (codes " ") found.1)
 
 form_front : (line : List ℕ) (bytes : Option (List ℕ)) → IsInFront (codes "tx ") line bytes
-    → IsWhole tx_text line (option_and_then (λ rest. option_and_then (λ id. option_and_then (height_and_call id.0) (after (codes " ") id.1)) (id_at rest)) bytes)
+    → SpelledWhole tx_text line (option_and_then (λ rest. option_and_then (λ id. option_and_then (height_and_call id.0) (after (codes " ") id.1)) (id_at rest)) bytes)
 form_front line None h = tt
 form_front line (Some bytes) h = form_id line bytes (id_at bytes) h (word_takes bytes (has_id_form (word bytes)))
 
-line_takes : (line : List ℕ) (test : Bool) → IsWhole tx_text line (cond test (tx_form line) None)
+line_takes : (line : List ℕ) (test : Bool) → SpelledWhole tx_text line (cond test (tx_form line) None)
 line_takes line true = form_front line (after (codes "tx ") line) (after_takes (codes "tx ") line)
 line_takes line false = tt
 
-pub tx_takes : (line : List ℕ) → IsWhole tx_text line (tx_of line)
+pub tx_takes : (line : List ℕ) → SpelledWhole tx_text line (tx_of line)
 tx_takes line = line_takes line (nat_le (length line) 4096)
 
 -- so a line that is read is that of its transaction, and so with a value
 pub tx_spelled : (line : List ℕ) (tx : Tx) → tx_of line ≡ Some tx → line ≡ tx_text tx
-tx_spelled line tx e = subst (IsWhole tx_text line) e (tx_takes line)
+tx_spelled line tx e = subst (SpelledWhole tx_text line) e (tx_takes line)
 
 pub value_of_spelled : (bytes : List ℕ) (v : Value) → value_of bytes ≡ Some v → bytes ≡ value_text v
-value_of_spelled bytes v e = subst (IsWhole value_text bytes) e (value_of_takes bytes)
+value_of_spelled bytes v e = subst (SpelledWhole value_text bytes) e (value_of_takes bytes)

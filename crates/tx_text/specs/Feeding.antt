@@ -29,13 +29,13 @@ HoldsOn (Err fault.NoMemory) line old new piece = Unit {0}
 HoldsOn (Err (fault.Bad wrong)) line old new piece = (wrong ≡ line) × (is_long (old ++ piece) ≡ true)
 
 -- what the reader keeps behind bytes: how far they go, but for their transactions; or their fault
-abbrev pub Keeps : State → Result (Far Tx) ℕ → Type 0
-Keeps (state.Open line held) meant = (txs : List Tx) × (meant ≡ Ok (record { line = line; items = txs; rest = held }))
-Keeps (state.Stopped line) meant = meant ≡ Err line
+abbrev pub KeepsArrivals : State → Result (Far Tx) ℕ → Type 0
+KeepsArrivals (state.Open line held) meant = (txs : List Tx) × (meant ≡ Ok (record { line = line; items = txs; rest = held }))
+KeepsArrivals (state.Stopped line) meant = meant ≡ Err line
 
 -- the reader was fed these bytes
 abbrev pub WasFed : ArrivalReader → List ℕ → Type 0
-WasFed reader bytes = Keeps reader.state (arrived bytes)
+WasFed reader bytes = KeepsArrivals reader.state (arrived bytes)
 
 -- the line of the fault that was met
 abbrev pub fault_in : State → Option ℕ

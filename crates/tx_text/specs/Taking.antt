@@ -4,7 +4,7 @@ use Rattle.std.specs.Option.{option_to_list}
 use Rattle.proc_syntax.specs.declared.call.Tx.{Tx}
 use Rattle.tx_text.specs.declared.arrivals.ArrivalFault.{ArrivalFault}
 use Rattle.tx_text.specs.declared.arrivals.ArrivalFault.TheVariants as fault
-use Rattle.tx_text.specs.declared.arrivals.Read.{Read}
+use Rattle.tx_text.specs.declared.arrivals.ReadArrivals.{ReadArrivals}
 use Rattle.tx_text.specs.Listing.{Far}
 
 -- the transaction that a line of this number gives, if it gives one, or its fault
@@ -14,11 +14,11 @@ GivesLine (Err fault.NoMemory) number meant = Unit {0}
 GivesLine (Err (fault.Bad line)) number meant = (meant ≡ None) × (line ≡ number)
 
 -- how far bytes go
-abbrev pub far_of : Read → Far Tx
+abbrev pub far_of : ReadArrivals → Far Tx
 far_of read = record { line = read.line; items = read.txs; rest = read.held }
 
 -- how far lines go, or their first fault
-abbrev pub GivesFar : Result Read ArrivalFault → Result (Far Tx) ℕ → Type 0
+abbrev pub GivesFar : Result ReadArrivals ArrivalFault → Result (Far Tx) ℕ → Type 0
 GivesFar (Ok read) meant = meant ≡ Ok (far_of read)
 GivesFar (Err fault.NoMemory) meant = Unit {0}
 GivesFar (Err (fault.Bad line)) meant = meant ≡ Err line

@@ -40,7 +40,7 @@ impl From<NoMemory> for ArrivalFault {
 
 /// How far bytes go: the transactions of the lines that end in them, and the number and the bytes of the line that does not.
 #[derive(Drop)]
-pub struct Read {
+pub struct ReadArrivals {
     pub txs: List<Tx>,
     pub line: u64,
     pub held: List<u8>,
@@ -97,14 +97,19 @@ fn push_tx_if(txs: &mut List<Tx>, tx: Option<Tx>) -> Result<(), NoMemory>
 }
 
 /// A copy of the bytes of a line that has not ended.
-fn take_rest(alloc: Global, txs: List<Tx>, line: u64, rest: &[u8]) -> Result<Read, ArrivalFault>
+fn take_rest(
+    alloc: Global,
+    txs: List<Tx>,
+    line: u64,
+    rest: &[u8],
+) -> Result<ReadArrivals, ArrivalFault>
     ensures { GivesFar result (with_items txs (ending line rest.now)) }
 {
     if rest.len() > MOST_LINE_BYTES {
         return Err(ArrivalFault::Bad { line });
     }
     let held = copy_of(alloc, rest)?;
-    Ok(Read { txs, line, held })
+    Ok(ReadArrivals { txs, line, held })
 }
 
 /// Reads lines behind those of some transactions, the first by its number.
@@ -113,7 +118,7 @@ fn read_lines(
     before: List<Tx>,
     number: u64,
     bytes: &[u8],
-) -> Result<Read, ArrivalFault>
+) -> Result<ReadArrivals, ArrivalFault>
     ensures { GivesFar result (with_items before (walk arrivals_form number (parts_of bytes.now))) }
 {
     let mut txs = before;
@@ -135,7 +140,7 @@ pub fn read_on(
     held: &[u8],
     end: &[u8],
     after: &[u8],
-) -> Result<Read, ArrivalFault>
+) -> Result<ReadArrivals, ArrivalFault>
     ensures { GivesFar result (walk arrivals_form line (onto held.now (end.now ∷ parts_of after.now))) }
 {
     let text = joined(alloc, held, end)?;

@@ -29,7 +29,7 @@ use Rattle.version_index.specs.Hits.{TellsFirst}
 use Rattle.version_index.specs.Log.{InOrder}
 use Rattle.version_index.specs.Rows.{covered_row, rows_of_keys, write_of}
 use Rattle.version_index.specs.Span.{IsWantedBy, distinct, is_again, keys_in}
-use Rattle.version_index.specs.View.{IsAsked, history_in, told_of}
+use Rattle.version_index.specs.View.{IsAsked, history_in, hit_told}
 use Rattle.version_index.specs.declared.view.TableView.{TableView}
 use Rattle.version_index.proofs.Distinct.{found_among}
 use Rattle.version_index.proofs.KeyRows.{AllAmong, All-found, among_keys, rows_of_all}
@@ -116,7 +116,7 @@ least_of_read defs def read after upto history found declared ordered first =
     agree s = ap (λ b. b && (nat_lt after s.0 && nat_le s.0 upto)) (sym (ap (λ found. where_declared found (λ d. hits_write d read s.1.write)) declared))
 
 -- what is told of a write is what the definition says
-told_by : (defs : List TableDef) (def : TableDef) (read : Read) (stamped : Stamped) → slice_get defs (read_table read) ≡ Some def → told_of def read stamped ≡ hit_by defs read stamped
+told_by : (defs : List TableDef) (def : TableDef) (read : Read) (stamped : Stamped) → slice_get defs (read_table read) ≡ Some def → hit_told def read stamped ≡ hit_by defs read stamped
 told_by defs def read stamped declared =
     ap (λ found. record { place = record { block = stamped.0; pos = stamped.1.pos }; key = stamped.1.write.key; stale = where_declared found (λ d. covers_some d read stamped.1.write.before) }) (sym declared)
 
@@ -125,6 +125,6 @@ pub told_least : (defs : List TableDef) (watch : Watch) (history : List Stamped)
 told_least defs watch history hit declared ordered (number, first, is) =
     is ∙ same (write_of history number) ∙ ap (option_map (hit_by defs watch.read.now)) (sym (least_of_read defs watch.def.now watch.read.now watch.after watch.upto history number declared ordered first))
   where
-    same : (found : Option Stamped) → option_map (told_of watch.def.now watch.read.now) found ≡ option_map (hit_by defs watch.read.now) found
+    same : (found : Option Stamped) → option_map (hit_told watch.def.now watch.read.now) found ≡ option_map (hit_by defs watch.read.now) found
     same None = refl
     same (Some stamped) = ap Some (told_by defs watch.def.now watch.read.now stamped declared)

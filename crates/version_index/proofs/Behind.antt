@@ -11,7 +11,7 @@ use Rattle.version_index.specs.Index.{AreNoted, IsIndex}
 use Rattle.version_index.specs.Left.{left_at}
 use Rattle.version_index.specs.Numbers.{passes, passes_at}
 use Rattle.version_index.specs.declared.chains.Chains.{Chains}
-use Rattle.version_index.specs.declared.column.Column.{Column}
+use Rattle.version_index.specs.declared.column.ColumnIndex.{ColumnIndex}
 use Rattle.version_index.specs.declared.index.TableIndex.{TableIndex}
 use Rattle.version_index.proofs.Passing.{passing_alike}
 
@@ -46,7 +46,7 @@ module _ (history more : List Stamped) (noted : ℕ) (within : noted ≤ length 
       let there = sym (get_front history more j (omega (arith, below, within))) in
       (λ i. touches table column value (past i) (there i))
 
-  pub column_behind : (table : ℕ) (chains : Chains) (column : Column) → IsColumn table history noted chains column → IsColumn table (history ++ more) noted chains column
+  pub column_behind : (table : ℕ) (chains : Chains) (column : ColumnIndex) → IsColumn table history noted chains column → IsColumn table (history ++ more) noted chains column
   column_behind table chains column is =
       record {
         living = λ key slot value own. is.living key slot value own ∙ ap (λ xs. has value (cell column.column (left_at (table, key) xs))) (sym front);

@@ -8,7 +8,7 @@ use Rattle.std.specs.declared.vec.Vec.{Vec}
 use Rattle.rel_base.specs.declared.value.Value.{Value}
 use Rattle.rel_base.specs.Value.{value_cmp-total, value_eq}
 use Rattle.version_index.specs.Columns.{HasRoomAt, IsHeld, IsRoomy, IsSameColumn, has, has_same, holds_slot}
-use Rattle.version_index.specs.declared.column.Column.{Column}
+use Rattle.version_index.specs.declared.column.ColumnIndex.{ColumnIndex}
 use Rattle.version_index.proofs.Marks.{same_value}
 
 -- a value is one with itself
@@ -82,10 +82,10 @@ not_from false fails = refl
 
 -- ---- columns that tell the same
 
-pub same_column : (column : Column) → IsSameColumn column column
+pub same_column : (column : ColumnIndex) → IsSameColumn column column
 same_column column = record { column = refl; living = λ value slot. refl; touched = λ value. refl }
 
-pub same_twice : (one two three : Column) → IsSameColumn one two → IsSameColumn two three → IsSameColumn one three
+pub same_twice : (one two three : ColumnIndex) → IsSameColumn one two → IsSameColumn two three → IsSameColumn one three
 same_twice one two three first second =
     record {
       column = second.column ∙ first.column;

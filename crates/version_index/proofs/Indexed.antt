@@ -6,14 +6,14 @@ use Rattle.std.proofs.lemmas.List.Elements.{All-weaker}
 use Rattle.rel_base.specs.declared.value.Value.{Value}
 use Rattle.rel_base.specs.Tables.{Stamped}
 use Rattle.row_sets.specs.Log.{history_of, stamped_of}
-use Rattle.row_sets.specs.declared.entry.Entry.{Entry}
+use Rattle.row_sets.specs.declared.entry.LogEntry.{LogEntry}
 use Rattle.version_index.specs.Chains.{AreChains, IsNoted, IsSame, lists_of, numbers_at, slot_of, slot_or}
 use Rattle.version_index.specs.Columns.{IsColumn, IsNotedIn, IsSameColumn, cell, has, has_slot}
 use Rattle.version_index.specs.Index.{IsIndex, IsIndexOf, row_by}
 use Rattle.version_index.specs.Left.{left_at}
 use Rattle.version_index.specs.declared.chains.Chains.{Chains}
-use Rattle.version_index.specs.declared.chains.Spot.{Spot}
-use Rattle.version_index.specs.declared.column.Column.{Column}
+use Rattle.version_index.specs.declared.chains.KeySlot.{KeySlot}
+use Rattle.version_index.specs.declared.column.ColumnIndex.{ColumnIndex}
 use Rattle.version_index.specs.declared.index.TableIndex.{TableIndex}
 use Rattle.version_index.proofs.Logged.{get_history}
 use Rattle.version_index.proofs.Noting.{chains_next, chains_stay}
@@ -27,11 +27,11 @@ in_any_case (Ok x) p = tt
 in_any_case (Err e) p = p
 
 -- where a key stands is at one of the slots
-pub spot_within : (spot : Option Spot) (slot : Option ℕ) (count : ℕ) → option_map (λ (s : Spot). s.slot) spot ≡ slot → ((s : ℕ) → slot ≡ Some s → s < count) → IfSome spot (λ s. s.slot < count)
+pub spot_within : (spot : Option KeySlot) (slot : Option ℕ) (count : ℕ) → option_map (λ (s : KeySlot). s.slot) spot ≡ slot → ((s : ℕ) → slot ≡ Some s → s < count) → IfSome spot (λ s. s.slot < count)
 spot_within None slot count is within = tt
 spot_within (Some spot) slot count is within = within spot.slot (sym is)
 
-module _ (entries : List Entry) (number : ℕ) (entry : Entry) (there : slice_get entries number ≡ Some entry) where
+module _ (entries : List LogEntry) (number : ℕ) (entry : LogEntry) (there : slice_get entries number ≡ Some entry) where
   abbrev table : ℕ
   table = entry.placed.write.table
 
@@ -63,7 +63,7 @@ module _ (entries : List Entry) (number : ℕ) (entry : Entry) (there : slice_ge
     own_place slot count own is_slot is_count is_own =
         is_own ∙ ap (λ n. slot_or n slot) is_count ∙ ap (slot_or (length (lists_of old.chains))) is_slot
 
-    module _ (held : List Column) (same : AllZip IsSameColumn old.columns.items held) where
+    module _ (held : List ColumnIndex) (same : AllZip IsSameColumn old.columns.items held) where
       held_columns : All (IsColumn table history number old.chains) held
       held_columns = all_zip (IsColumn table history number old.chains) (IsColumn table history number old.chains) IsSameColumn (column_stays table history number old.chains) old.columns.items held is.columns same
 
@@ -77,7 +77,7 @@ module _ (entries : List Entry) (number : ℕ) (entry : Entry) (there : slice_ge
                 (all_weaker held held_columns));
           }
         where
-          all_weaker : (columns : List Column) → All (IsColumn table history number old.chains) columns → All (IsColumn table history number chains) columns
+          all_weaker : (columns : List ColumnIndex) → All (IsColumn table history number old.chains) columns → All (IsColumn table history number chains) columns
           all_weaker columns all = All-weaker (IsColumn table history number old.chains) (IsColumn table history number chains) (λ c. column_with table history number old.chains chains kept c) columns all
 
       module _ (found : Option (List Value)) (is_found : found ≡ left_at (table, key) (take number history)) (own : ℕ) (is_own : own ≡ slot_or (length (lists_of old.chains)) (slot_of old.chains key)) where
@@ -85,16 +85,16 @@ module _ (entries : List Entry) (number : ℕ) (entry : Entry) (there : slice_ge
         pub was_held : All (λ c. (v : Value) → has_slot c.living.entries v own ≡ has v (cell c.column found)) held
         was_held = all_held held held_columns
           where
-            all_held : (columns : List Column) → All (IsColumn table history number old.chains) columns → All (λ c. (v : Value) → has_slot c.living.entries v own ≡ has v (cell c.column found)) columns
+            all_held : (columns : List ColumnIndex) → All (IsColumn table history number old.chains) columns → All (λ c. (v : Value) → has_slot c.living.entries v own ≡ has v (cell c.column found)) columns
             all_held columns are = All-weaker (IsColumn table history number old.chains) (λ c. (v : Value) → has_slot c.living.entries v own ≡ has v (cell c.column found)) step columns are
               where
-                step : (c : Column) → IsColumn table history number old.chains c → (v : Value) → has_slot c.living.entries v own ≡ has v (cell c.column found)
+                step : (c : ColumnIndex) → IsColumn table history number old.chains c → (v : Value) → has_slot c.living.entries v own ≡ has v (cell c.column found)
                 step c column v =
                     ap (has_slot c.living.entries v) is_own ∙ was_at table history number (stamped_of entry) stamped_there refl old.chains old.chains is.chains c column v
                     ∙ ap (λ row. has v (cell c.column row)) (sym is_found)
 
         -- the index with the write noted
-        pub noted_index : (chains : Chains) → IsNoted key (is_some entry.placed.write.after) number old.chains chains → (noted : List Column) → AllZip (IsNotedIn own found entry.placed.write number) held noted
+        pub noted_index : (chains : Chains) → IsNoted key (is_some entry.placed.write.after) number old.chains chains → (noted : List ColumnIndex) → AllZip (IsNotedIn own found entry.placed.write number) held noted
             → (index : TableIndex) → index.chains ≡ chains → index.columns.items ≡ noted → IsIndex table history (suc number) index
         noted_index chains is_noted noted zipped index is_chains is_columns =
             record {
@@ -104,7 +104,7 @@ module _ (entries : List Entry) (number : ℕ) (entry : Entry) (there : slice_ge
                   (all_zip (IsColumn table history number old.chains) (IsColumn table history (suc number) chains) (IsNotedIn own found entry.placed.write number) step held noted held_columns zipped));
             }
           where
-            step : (one two : Column) → IsColumn table history number old.chains one → IsNotedIn own found entry.placed.write number one two → IsColumn table history (suc number) chains two
+            step : (one two : ColumnIndex) → IsColumn table history number old.chains one → IsNotedIn own found entry.placed.write number one two → IsColumn table history (suc number) chains two
             step one two column more =
                 column_next table history number (stamped_of entry) stamped_there refl old.chains chains is.chains is_noted one two column
                 (subst (λ slot. IsNotedIn slot (left_at (table, key) (take number history)) entry.placed.write number one two) is_own (subst (λ row. IsNotedIn own row entry.placed.write number one two) is_found more))

@@ -14,14 +14,14 @@ use Rattle.rel_base.proofs.Bits.{no_both}
 use Rattle.row_sets.specs.Versions.{IsBefore, are_rising, stamped_at}
 use Rattle.row_sets.proofs.Histories.{fits_next, unwrapped}
 use Rattle.row_sets.specs.Log.{history_of, stamped_of}
-use Rattle.row_sets.specs.declared.entry.Entry.{Entry}
+use Rattle.row_sets.specs.declared.entry.LogEntry.{LogEntry}
 use Rattle.version_index.specs.Chains.{AreChains, lists_in, lists_of, numbers_at, slot_by, slot_in, slot_of}
 use Rattle.version_index.specs.Columns.{IsColumn, has_slot, touched_at}
 use Rattle.version_index.specs.Index.{AreNoted, HasColumns, IsEmptyColumn, IsEmptyIndex, IsIndex, columns_in, index_columns}
 use Rattle.version_index.specs.Kept.{IsStore}
 use Rattle.version_index.specs.Log.{InOrder}
 use Rattle.version_index.specs.View.{IsAsked, IsView}
-use Rattle.version_index.specs.declared.column.Column.{Column}
+use Rattle.version_index.specs.declared.column.ColumnIndex.{ColumnIndex}
 use Rattle.version_index.specs.declared.index.TableIndex.{TableIndex}
 use Rattle.version_index.specs.declared.view.TableView.{TableView}
 use Rattle.version_index.proofs.Behind.{noted_behind}
@@ -31,9 +31,9 @@ use Rattle.version_index.proofs.Ordered.{order_next}
 
 -- the column numbers of an index
 abbrev pub columns_of : TableIndex → List ℕ
-columns_of index = map (λ (column : Column). column.column) index.columns.items
+columns_of index = map (λ (column : ColumnIndex). column.column) index.columns.items
 
-module _ (defs : List TableDef) (entries : List Entry) (indexes : List TableIndex) (noted : ℕ) (kept : IsStore defs entries indexes noted) where
+module _ (defs : List TableDef) (entries : List LogEntry) (indexes : List TableIndex) (noted : ℕ) (kept : IsStore defs entries indexes noted) where
   -- each table has an index
   pub one_each : length indexes ≡ length defs
   one_each = sym (length-map indexes columns_of) ∙ ap length kept.columns ∙ length-map defs index_columns
@@ -42,13 +42,13 @@ module _ (defs : List TableDef) (entries : List Entry) (indexes : List TableInde
   pub entries_below : All (λ entry. entry.placed.write.table < length indexes) entries
   entries_below = go entries kept.fits
     where
-      go : (es : List Entry) → HistoryFits defs (history_of es) → All (λ (entry : Entry). entry.placed.write.table < length indexes) es
-      go [] fits = All-nil (λ (entry : Entry). entry.placed.write.table < length indexes)
+      go : (es : List LogEntry) → HistoryFits defs (history_of es) → All (λ (entry : LogEntry). entry.placed.write.table < length indexes) es
+      go [] fits = All-nil (λ (entry : LogEntry). entry.placed.write.table < length indexes)
       go (e ∷ es) fits =
           let Fit : Stamped → Type 0 = λ stamped. WriteFitsIn defs stamped.1.write in
           let below = below_of_get (λ def. WriteFits def e.placed.write) e.placed.write.table defs (All-head Fit (stamped_of e) (history_of es) fits) in
           let same = one_each in
-          All-cons (λ (entry : Entry). entry.placed.write.table < length indexes) e es (omega (arith, below, same)) (go es (All-tail Fit (stamped_of e) (history_of es) fits))
+          All-cons (λ (entry : LogEntry). entry.placed.write.table < length indexes) e es (omega (arith, below, same)) (go es (All-tail Fit (stamped_of e) (history_of es) fits))
 
   -- the table of a read has an index
   pub read_below : (read : Read) → ReadFitsIn defs read → read_table read < length indexes
@@ -93,7 +93,7 @@ module _ (defs : List TableDef) (entries : List Entry) (indexes : List TableInde
   -- ---- how it goes on
 
   -- a store that took in the writes of a later place
-  pub kept_next : (next : List Entry) (place : Place) (writes : List Write) → All (WriteFitsIn defs) writes → IsTrue (are_rising writes) → All (IsBefore place) (history_of entries)
+  pub kept_next : (next : List LogEntry) (place : Place) (writes : List Write) → All (WriteFitsIn defs) writes → IsTrue (are_rising writes) → All (IsBefore place) (history_of entries)
       → history_of next ≡ history_of entries ++ stamped_at place writes → noted ≤ length next → IsStore defs next indexes noted
   kept_next next place writes fit rise later history within =
       record {
@@ -106,14 +106,14 @@ module _ (defs : List TableDef) (entries : List Entry) (indexes : List TableInde
       }
 
   -- a store that noted more of its writes, which were lent for it
-  pub kept_noted : (new : List TableIndex) (more : ℕ) (lent after : List Entry) → lent ≡ entries → after ≡ entries → more ≤ length lent → AreNoted new (history_of lent) more → columns_in new ≡ columns_in indexes
+  pub kept_noted : (new : List TableIndex) (more : ℕ) (lent after : List LogEntry) → lent ≡ entries → after ≡ entries → more ≤ length lent → AreNoted new (history_of lent) more → columns_in new ≡ columns_in indexes
       → IsStore defs after new more
   kept_noted new more lent after was is within told same =
       subst (λ es. IsStore defs es new more) (sym is)
       (record {
         fits = kept.fits;
         in_order = kept.in_order;
-        within = subst (λ (es : List Entry). more ≤ length es) was within;
+        within = subst (λ (es : List LogEntry). more ≤ length es) was within;
         told = subst (λ es. AreNoted new (history_of es) more) was told;
         columns = same ∙ kept.columns;
       })
@@ -142,7 +142,7 @@ module _ (table : ℕ) (index : TableIndex) (empty : IsEmptyIndex index) where
         keyed = λ slot below. let none = ap (λ xs. length (lists_in xs)) empty.numbers in absurd (omega (arith, below, none));
       }
 
-  empty_column : (column : Column) → IsEmptyColumn column → IsColumn table [] 0 index.chains column
+  empty_column : (column : ColumnIndex) → IsEmptyColumn column → IsColumn table [] 0 index.chains column
   empty_column column none =
       record {
         living = λ key slot value is. absurd (some_slot key slot is);

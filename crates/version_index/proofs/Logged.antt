@@ -9,7 +9,7 @@ use Rattle.rel_base.specs.Access.{WriteFits}
 use Rattle.rel_base.specs.Tables.{Stamped, ref_cmp, ref_cmp-exact, write_ref}
 use Rattle.rel_base.proofs.Bits.{is_Equal}
 use Rattle.row_sets.proofs.Histories.{unwrapped}
-use Rattle.row_sets.specs.declared.entry.Entry.{Entry}
+use Rattle.row_sets.specs.declared.entry.LogEntry.{LogEntry}
 use Rattle.row_sets.specs.Log.{FitsTable, history_of, stamped_of}
 use Rattle.version_index.specs.Chain.{is_late, is_on}
 use Rattle.version_index.specs.Log.{InOrder, Precedes}
@@ -43,13 +43,13 @@ all_from P (y ∷ ys) (suc number) x there here after = all_from P ys number x t
 -- ---- entries
 
 -- the committed write of a number is that of the entry
-pub get_history : (entries : List Entry) (number : ℕ) (entry : Entry) → slice_get entries number ≡ Some entry → slice_get (history_of entries) number ≡ Some (stamped_of entry)
+pub get_history : (entries : List LogEntry) (number : ℕ) (entry : LogEntry) → slice_get entries number ≡ Some entry → slice_get (history_of entries) number ≡ Some (stamped_of entry)
 get_history [] number entry there = cc
 get_history (e ∷ es) zero entry there = ap (λ found. option_map stamped_of found) there
 get_history (e ∷ es) (suc number) entry there = get_history es number entry there
 
 -- an entry of the table of a read fits its declaration
-pub entry_fits : (def : TableDef) (entries : List Entry) (table number : ℕ) (entry : Entry) → FitsTable def table (history_of entries) → slice_get entries number ≡ Some entry → table ≡ entry.placed.write.table
+pub entry_fits : (def : TableDef) (entries : List LogEntry) (table number : ℕ) (entry : LogEntry) → FitsTable def table (history_of entries) → slice_get entries number ≡ Some entry → table ≡ entry.placed.write.table
     → WriteFits def entry.placed.write
 entry_fits def entries table number entry fits there same =
     All-contains (λ stamped. stamped.1.write.table ≡ table → WriteFits def stamped.1.write) (history_of entries) (stamped_of entry) fits
@@ -117,7 +117,7 @@ blocks_rise (x ∷ xs) (suc one) zero a b ordered here there up = absurd (omega 
 blocks_rise (x ∷ xs) (suc one) (suc other) a b ordered here there up = blocks_rise xs one other a b ordered.1 here there (omega (arith, up))
 
 -- the writes up to one that is low are low
-pub low_up_to : (entries : List Entry) (height start number : ℕ) (entry : Entry) → start ≡ suc number → InOrder (history_of entries) → slice_get entries number ≡ Some entry → entry.block ≤ height
+pub low_up_to : (entries : List LogEntry) (height start number : ℕ) (entry : LogEntry) → start ≡ suc number → InOrder (history_of entries) → slice_get entries number ≡ Some entry → entry.block ≤ height
     → All (λ stamped. stamped.0 ≤ height) (take start (history_of entries))
 low_up_to entries height start number entry next ordered there low =
     let P : Stamped → Type 0 = λ stamped. stamped.0 ≤ height in

@@ -12,7 +12,7 @@ use Rattle.version_index.specs.Found.{count_on, is_low}
 use Rattle.version_index.specs.Log.{InOrder, Precedes}
 use Rattle.version_index.specs.Numbers.{passes, passes_at, passing}
 use Rattle.row_sets.specs.Log.{history_of}
-use Rattle.row_sets.specs.declared.entry.Entry.{Entry}
+use Rattle.row_sets.specs.declared.entry.LogEntry.{LogEntry}
 use Rattle.version_index.proofs.Logged.{contains_got, get_history, same_ref}
 use Rattle.version_index.proofs.Passing.{IsTop, none_of, take_next, there_is, top_of}
 use Rattle.version_index.proofs.Points.{all_fails, at_below, below_or, drop_fails, fails_all, last_points, past_end, points_last, take_at, take_below, take_past}
@@ -317,7 +317,7 @@ last_of_noted test noted xs (Some number) last none =
 -- ---- one look
 
 -- where a write is in no block above a height, its number says so
-pub low_at : (entries : List Entry) (height number place : ℕ) (numbers : List ℕ) (entry : Entry) → slice_get numbers place ≡ Some number → slice_get entries number ≡ Some entry
+pub low_at : (entries : List LogEntry) (height number place : ℕ) (numbers : List ℕ) (entry : LogEntry) → slice_get numbers place ≡ Some number → slice_get entries number ≡ Some entry
     → passes_at (is_low (history_of entries) height) numbers place ≡ nat_le entry.block height
 low_at entries height number place numbers entry at there =
     ap (passes (is_low (history_of entries) height)) at ∙ ap (passes (λ (s : Stamped). nat_le s.0 height)) (get_history entries number entry there)

@@ -18,10 +18,10 @@ use Rattle.rel_base.proofs.Bits.{is_Equal}
 use Rattle.version_index.specs.Candidates.{HasSlot, IsBetween, IsListedAbove, IsMarked, IsMarkedBetween, IsTouchedAbove, StandsBetween, end_of}
 use Rattle.version_index.specs.Chains.{lists_of, numbers_at}
 use Rattle.version_index.specs.Hits.{IsNumberBetween}
-use Rattle.version_index.specs.Columns.{IsColumn, is_marked, items_in, mark_in, touched_at, touches_at}
+use Rattle.version_index.specs.Columns.{IsColumn, has_mark, items_in, mark_in, touched_at, touches_at}
 use Rattle.version_index.specs.Numbers.{ArePassing}
 use Rattle.version_index.specs.declared.chains.Chains.{Chains}
-use Rattle.version_index.specs.declared.column.Column.{Column}
+use Rattle.version_index.specs.declared.column.ColumnIndex.{ColumnIndex}
 use Rattle.version_index.specs.View.{history_in}
 use Rattle.version_index.specs.declared.view.TableView.{TableView}
 use Rattle.version_index.proofs.Adding.{ByOne}
@@ -33,7 +33,7 @@ abbrev pub WantsMark : TableView → ℕ × Bool → List Value → Type 0
 WantsMark view e key = (e.1 ≡ true) × HasSlot view e.0 key
 
 -- a mark is there
-mark_there : (found : Option Bool) → is_marked found ≡ true → found ≡ Some true
+mark_there : (found : Option Bool) → has_mark found ≡ true → found ≡ Some true
 mark_there None is = cc
 mark_there (Some true) is = refl
 mark_there (Some false) is = cc
@@ -48,7 +48,7 @@ pub by_values : (view : TableView) (living : List (Value × BTreeMap ℕ Bool)) 
     → ByOne (filter (λ e. range_contains value_cmp (end_of low) (end_of high) e.0) living) (λ e k. IsMarked view e.1 k) key
 by_values view living low high key (slot, value, has, between, is) = go (lookup (is_at (value_cmp value)) living) refl is
   where
-    go : (found : Option (BTreeMap ℕ Bool)) → lookup (is_at (value_cmp value)) living ≡ found → is_marked (mark_in found slot) ≡ true
+    go : (found : Option (BTreeMap ℕ Bool)) → lookup (is_at (value_cmp value)) living ≡ found → has_mark (mark_in found slot) ≡ true
         → ByOne (filter (λ e. range_contains value_cmp (end_of low) (end_of high) e.0) living) (λ e k. IsMarked view e.1 k) key
     go None there is = cc
     go (Some marks) there is = (
@@ -94,13 +94,13 @@ by_numbers touched low high value number between inside = go (lookup (is_at (val
     )
 
 -- the numbers of an entry between two ends that stands behind others are those of the noted writes that touched its value
-pub numbers_pass : (table : ℕ) (history : List Stamped) (noted : ℕ) (chains : Chains) (column : Column) → IsColumn table history noted chains column → (p : Value × Vec ℕ Global → Bool) (done rest left all : List (Value × Vec ℕ Global)) (e : Value × Vec ℕ Global)
+pub numbers_pass : (table : ℕ) (history : List Stamped) (noted : ℕ) (chains : Chains) (column : ColumnIndex) → IsColumn table history noted chains column → (p : Value × Vec ℕ Global → Bool) (done rest left all : List (Value × Vec ℕ Global)) (e : Value × Vec ℕ Global)
     → IsStrictlySortedBy value_cmp (keys_of column.touched.entries) → done ++ left ≡ all → all ≡ filter p column.touched.entries → left ≡ e ∷ rest → ArePassing noted e.1.items
 numbers_pass table history noted chains column is p done rest left all e rise whole kept next =
     (touches_at table column.column e.0 history, sym (ap items_in (found_next value_cmp value_cmp-total column.touched.entries p done rest left all e rise whole kept next)) ∙ is.touched e.0)
 
 -- a key of a write that touched a value is one of the writes of the numbers at it
-pub listed_at : (view : TableView) (column : Column) (value : Value) (height : ℕ) (key : List Value) → IsColumn view.table (history_in view) view.noted view.index.now.chains column
+pub listed_at : (view : TableView) (column : ColumnIndex) (value : Value) (height : ℕ) (key : List Value) → IsColumn view.table (history_in view) view.noted view.index.now.chains column
     → IsTouchedAbove view column.column value height key → IsListedAbove view (touched_at column.touched.entries value) height key
 listed_at view column value height key is above = (
   above.0,
@@ -112,7 +112,7 @@ listed_at view column value height key is above = (
 )
 
 -- and of one of the entries between two ends, where the value lies there
-pub by_listed : (view : TableView) (column : Column) (low high : Option Value) (value : Value) (height : ℕ) (key : List Value) → IsBetween low high value → IsListedAbove view (touched_at column.touched.entries value) height key
+pub by_listed : (view : TableView) (column : ColumnIndex) (low high : Option Value) (value : Value) (height : ℕ) (key : List Value) → IsBetween low high value → IsListedAbove view (touched_at column.touched.entries value) height key
     → ByOne (filter (λ e. range_contains value_cmp (end_of low) (end_of high) e.0) column.touched.entries) (λ e k. IsListedAbove view e.1.items height k) key
 by_listed view column low high value height key between above =
     let found = by_numbers column.touched.entries low high value above.0 between above.2 in

@@ -10,7 +10,7 @@ use Rattle.std.specs.declared.vec.Vec.{Vec}
 use Rattle.rel_base.specs.declared.value.Value.{Value}
 use Rattle.rel_base.specs.Value.{value_cmp, value_cmp-exact, value_cmp-total, value_eq}
 use Rattle.rel_base.proofs.Bits.{is_Equal}
-use Rattle.version_index.specs.Columns.{HasRoomAt, has_slot, is_marked, items_in, mark_in, touched_at}
+use Rattle.version_index.specs.Columns.{HasRoomAt, has_mark, has_slot, items_in, mark_in, touched_at}
 
 -- values that are one in the order are one
 pub same_value : (a b : Value) → value_eq a b ≡ true → a ≡ b
@@ -40,34 +40,34 @@ module _ {X : Type 0} where
 
 module _ (old new : List (Value × BTreeMap ℕ Bool)) (value : Value) where
   -- what a test of the mark of a slot tells at each value
-  marks_told : (now : Option (BTreeMap ℕ Bool)) → SetAt old new value now → (v : Value) (s : ℕ) → has_slot new v s ≡ cond (value_eq v value) (is_marked (mark_in now s)) (has_slot old v s)
-  marks_told now sets v s = told_at (λ found. is_marked (mark_in found s)) old new value now sets v
+  marks_told : (now : Option (BTreeMap ℕ Bool)) → SetAt old new value now → (v : Value) (s : ℕ) → has_slot new v s ≡ cond (value_eq v value) (has_mark (mark_in now s)) (has_slot old v s)
+  marks_told now sets v s = told_at (λ found. has_mark (mark_in found s)) old new value now sets v
 
   -- the same at each value, where it is the same at the one that changed
-  pub marks_same : (was now : Option (BTreeMap ℕ Bool)) → lookup (is_at (value_cmp value)) old ≡ was → SetAt old new value now → ((s : ℕ) → is_marked (mark_in now s) ≡ is_marked (mark_in was s))
+  pub marks_same : (was now : Option (BTreeMap ℕ Bool)) → lookup (is_at (value_cmp value)) old ≡ was → SetAt old new value now → ((s : ℕ) → has_mark (mark_in now s) ≡ has_mark (mark_in was s))
       → (v : Value) (s : ℕ) → has_slot new v s ≡ has_slot old v s
   marks_same was now there sets same v s =
-      marks_told now sets v s ∙ elim (value_eq v value) as (λ b. value_eq v value ≡ b → cond b (is_marked (mark_in now s)) (has_slot old v s) ≡ has_slot old v s) [
-        | true ↦ λ tied. same s ∙ ap (λ found. is_marked (mark_in found s)) (sym (had_at old value was v there tied))
+      marks_told now sets v s ∙ elim (value_eq v value) as (λ b. value_eq v value ≡ b → cond b (has_mark (mark_in now s)) (has_slot old v s) ≡ has_slot old v s) [
+        | true ↦ λ tied. same s ∙ ap (λ found. has_mark (mark_in found s)) (sym (had_at old value was v there tied))
         | false ↦ λ apart. refl
       ] refl
 
   -- one slot more
   pub marks_put : (was now : BTreeMap ℕ Bool) (slot : ℕ) → lookup (is_at (value_cmp value)) old ≡ Some was → SetAt old new value (Some now)
-      → ((s : ℕ) → is_marked (mark_in (Some now) s) ≡ (s == slot || is_marked (mark_in (Some was) s))) → (v : Value) (s : ℕ) → has_slot new v s ≡ ((value_eq v value && s == slot) || has_slot old v s)
+      → ((s : ℕ) → has_mark (mark_in (Some now) s) ≡ (s == slot || has_mark (mark_in (Some was) s))) → (v : Value) (s : ℕ) → has_slot new v s ≡ ((value_eq v value && s == slot) || has_slot old v s)
   marks_put was now slot there sets put v s =
-      marks_told (Some now) sets v s ∙ elim (value_eq v value) as (λ b. value_eq v value ≡ b → cond b (is_marked (mark_in (Some now) s)) (has_slot old v s) ≡ ((b && s == slot) || has_slot old v s)) [
-        | true ↦ λ tied. put s ∙ ap (λ found. s == slot || is_marked (mark_in found s)) (sym (had_at old value (Some was) v there tied))
+      marks_told (Some now) sets v s ∙ elim (value_eq v value) as (λ b. value_eq v value ≡ b → cond b (has_mark (mark_in (Some now) s)) (has_slot old v s) ≡ ((b && s == slot) || has_slot old v s)) [
+        | true ↦ λ tied. put s ∙ ap (λ found. s == slot || has_mark (mark_in found s)) (sym (had_at old value (Some was) v there tied))
         | false ↦ λ apart. refl
       ] refl
 
   -- one slot less
   pub marks_taken : (was now : BTreeMap ℕ Bool) (slot : ℕ) → lookup (is_at (value_cmp value)) old ≡ Some was → SetAt old new value (Some now)
-      → ((s : ℕ) → is_marked (mark_in (Some now) s) ≡ cond (s == slot) false (is_marked (mark_in (Some was) s)))
+      → ((s : ℕ) → has_mark (mark_in (Some now) s) ≡ cond (s == slot) false (has_mark (mark_in (Some was) s)))
       → (v : Value) (s : ℕ) → has_slot new v s ≡ cond (value_eq v value && s == slot) false (has_slot old v s)
   marks_taken was now slot there sets taken v s =
-      marks_told (Some now) sets v s ∙ elim (value_eq v value) as (λ b. value_eq v value ≡ b → cond b (is_marked (mark_in (Some now) s)) (has_slot old v s) ≡ cond (b && s == slot) false (has_slot old v s)) [
-        | true ↦ λ tied. taken s ∙ ap (λ found. cond (s == slot) false (is_marked (mark_in found s))) (sym (had_at old value (Some was) v there tied))
+      marks_told (Some now) sets v s ∙ elim (value_eq v value) as (λ b. value_eq v value ≡ b → cond b (has_mark (mark_in (Some now) s)) (has_slot old v s) ≡ cond (b && s == slot) false (has_slot old v s)) [
+        | true ↦ λ tied. taken s ∙ ap (λ found. cond (s == slot) false (has_mark (mark_in found s))) (sym (had_at old value (Some was) v there tied))
         | false ↦ λ apart. refl
       ] refl
 
@@ -76,7 +76,7 @@ pub marks_absent : (old : List (Value × BTreeMap ℕ Bool)) (value : Value) (sl
 marks_absent old value slot there v s =
     elim (value_eq v value) as (λ b. value_eq v value ≡ b → has_slot old v s ≡ cond (b && s == slot) false (has_slot old v s)) [
       | true ↦ λ tied.
-          let none : has_slot old v s ≡ false = ap (λ found. is_marked (mark_in found s)) (had_at old value None v there tied) in
+          let none : has_slot old v s ≡ false = ap (λ found. has_mark (mark_in found s)) (had_at old value None v there tied) in
           none ∙ sym (ap (cond (s == slot) false) none ∙ either (s == slot))
       | false ↦ λ apart. refl
     ] refl

@@ -6,7 +6,7 @@ use Rattle.rel_base.specs.Tables.{Stamped}
 use Rattle.rel_base.specs.declared.value.Value.{Value}
 use Rattle.rel_base.proofs.Bits.{no_both}
 use Rattle.row_sets.specs.Log.{stamped_of}
-use Rattle.row_sets.specs.declared.entry.Entry.{Entry}
+use Rattle.row_sets.specs.declared.entry.LogEntry.{LogEntry}
 use Rattle.version_index.specs.Candidates.{HasSlot, HasSlotAt, IsKeyOf, IsListedAbove, IsOwnKeyOf, IsWrittenFrom}
 use Rattle.version_index.specs.Chain.{is_on}
 use Rattle.version_index.specs.Chains.{lists_of, list_or_none, numbers_at, slot_of}
@@ -116,7 +116,7 @@ module _ (view : TableView) (test : ℕ → Bool) where
             inr (subst (λ found. IsSomeAnd found (λ stamped. stamped.1.write.key ≡ key)) (sym (ap (slice_get (history_in view)) (sym same) ∙ from.4)) from.6)
 
     -- where it is in no block above a height, those above it were walked
-    pub passed_stop : (numbers : List ℕ) → numbers ≡ passing test view.noted → (height : ℕ) (entry : Entry) → InOrder (history_in view) → slice_get view.entries.now last ≡ Some entry → entry.block ≤ height → (key : List Value)
+    pub passed_stop : (numbers : List ℕ) → numbers ≡ passing test view.noted → (height : ℕ) (entry : LogEntry) → InOrder (history_in view) → slice_get view.entries.now last ≡ Some entry → entry.block ≤ height → (key : List Value)
         → IsListedAbove view numbers height key → PassedFrom view test end key
     passed_stop numbers all height entry ordered there low key above = either (below_or last above.0) (below_or above.0 end)
       where

@@ -7,7 +7,7 @@ use Rattle.rel_base.specs.Tables.{Stamped}
 use Rattle.rel_base.proofs.Bits.{no_both}
 use Rattle.row_sets.proofs.Histories.{unwrapped}
 use Rattle.row_sets.specs.Log.{history_of, stamped_of}
-use Rattle.row_sets.specs.declared.entry.Entry.{Entry}
+use Rattle.row_sets.specs.declared.entry.LogEntry.{LogEntry}
 use Rattle.version_index.specs.Columns.{IsColumn}
 use Rattle.version_index.specs.Index.{AreNoted, IsIndex}
 use Rattle.version_index.specs.declared.index.TableIndex.{TableIndex}
@@ -26,7 +26,7 @@ index_skip table history number stamped there other index is =
           All-weaker (IsColumn table history number index.chains) (IsColumn table history (suc number) index.chains) (λ column. column_skip table history number stamped there other index.chains column) index.columns.items is.columns;
     }
 
-module _ (entries : List Entry) (number : ℕ) (entry : Entry) (indexes : List TableIndex) (new : TableIndex) where
+module _ (entries : List LogEntry) (number : ℕ) (entry : LogEntry) (indexes : List TableIndex) (new : TableIndex) where
   -- an index after the one of the table was set
   set_cases : (P : ℕ → TableIndex → Type 0) → P entry.placed.write.table new → ((t : ℕ) (index : TableIndex) → (t ≡ entry.placed.write.table → ⊥) → slice_get indexes t ≡ Some index → P t index)
       → (t : ℕ) (index : TableIndex) → slice_get (slice_set indexes entry.placed.write.table new) t ≡ Some index → P t index

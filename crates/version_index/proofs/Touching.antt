@@ -15,7 +15,7 @@ use Rattle.version_index.specs.Columns.{IsColumn, IsNotedIn, IsSameColumn, cell,
 use Rattle.version_index.specs.Left.{left_at}
 use Rattle.version_index.specs.Numbers.{passing}
 use Rattle.version_index.specs.declared.chains.Chains.{Chains}
-use Rattle.version_index.specs.declared.column.Column.{Column}
+use Rattle.version_index.specs.declared.column.ColumnIndex.{ColumnIndex}
 use Rattle.version_index.proofs.Noting.{on_none, on_own, others_within, own_within, place_apart, slot_stays}
 use Rattle.version_index.proofs.Passing.{left_by_numbers, left_next}
 use Rattle.version_index.proofs.Slots.{below_got}
@@ -38,7 +38,7 @@ map_zip f R step (x ∷ xs) (y ∷ ys) zipped = (λ i. step x y zipped.0 i ∷ m
 -- ---- nothing changed
 
 module _ (table : ℕ) (history : List Stamped) (noted : ℕ) where
-  pub column_stays : (chains : Chains) (old new : Column) → IsColumn table history noted chains old → IsSameColumn old new → IsColumn table history noted chains new
+  pub column_stays : (chains : Chains) (old new : ColumnIndex) → IsColumn table history noted chains old → IsSameColumn old new → IsColumn table history noted chains new
   column_stays chains old new is same =
       record {
         living = λ key slot value own. same.living value slot ∙ is.living key slot value own ∙ ap (λ column. has value (cell column (left_at (table, key) (take noted history)))) (sym same.column);
@@ -46,7 +46,7 @@ module _ (table : ℕ) (history : List Stamped) (noted : ℕ) where
         touched = λ value. same.touched value ∙ is.touched value ∙ ap (λ column. passing (touches_at table column value history) noted) (sym same.column);
       }
 
-  pub column_with : (old new : Chains) → IsSame old new → (column : Column) → IsColumn table history noted old column → IsColumn table history noted new column
+  pub column_with : (old new : Chains) → IsSame old new → (column : ColumnIndex) → IsColumn table history noted old column → IsColumn table history noted new column
   column_with old new same column is =
       record {
         living = λ key slot value own. is.living key slot value (sym (slot_stays old new same key) ∙ own);
@@ -70,7 +70,7 @@ module _ (table : ℕ) (history : List Stamped) (number : ℕ) (stamped : Stampe
     found = left_at (table, key) (take number history)
 
     -- the slot of the write is at the value of the row that it found alone
-    pub was_at : (column : Column) → IsColumn table history number old column → (value : Value) → has_slot column.living.entries value place ≡ has value (cell column.column found)
+    pub was_at : (column : ColumnIndex) → IsColumn table history number old column → (value : Value) → has_slot column.living.entries value place ≡ has value (cell column.column found)
     was_at column is value = go (slot_of old key) refl
       where
         none_at : slot_of old key ≡ None → found ≡ None
@@ -92,7 +92,7 @@ module _ (table : ℕ) (history : List Stamped) (number : ℕ) (stamped : Stampe
         ((Decides-eqb table stamped.1.write.table).1 own)
         ∙ ap (λ t. has value (cell column (left_at (t, key) (take number history))) || has value (cell column stamped.1.write.before) || has value (cell column stamped.1.write.after)) (sym own)
 
-    module _ (noted : IsNoted key (is_some stamped.1.write.after) number old new) (one two : Column) (is : IsColumn table history number old one) (more : IsNotedIn place found stamped.1.write number one two) where
+    module _ (noted : IsNoted key (is_some stamped.1.write.after) number old new) (one two : ColumnIndex) (is : IsColumn table history number old one) (more : IsNotedIn place found stamped.1.write number one two) where
       left_here : (k : List Value) (b : Bool) → key_eq k key ≡ b → left_at (table, k) (take (suc number) history) ≡ cond b stamped.1.write.after (left_at (table, k) (take number history))
       left_here k b test = left_next (table, k) history number stamped there ∙ ap (λ t. cond t stamped.1.write.after (left_at (table, k) (take number history))) (on_own table stamped k own ∙ test)
 
@@ -139,7 +139,7 @@ module _ (table : ℕ) (history : List Stamped) (number : ℕ) (stamped : Stampe
 
   -- ---- a write of another table
 
-  pub column_skip : (table ≡ stamped.1.write.table → ⊥) → (chains : Chains) (column : Column) → IsColumn table history number chains column → IsColumn table history (suc number) chains column
+  pub column_skip : (table ≡ stamped.1.write.table → ⊥) → (chains : Chains) (column : ColumnIndex) → IsColumn table history number chains column → IsColumn table history (suc number) chains column
   column_skip other chains column is =
       record {
         living = λ key slot value here.

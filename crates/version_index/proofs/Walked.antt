@@ -7,7 +7,7 @@ use Rattle.std.proofs.lemmas.List.Elements.{All-weaker}
 use Rattle.rel_base.specs.Tables.{Stamped}
 use Rattle.rel_base.specs.declared.value.Value.{Value}
 use Rattle.row_sets.specs.Log.{history_of, stamped_of}
-use Rattle.row_sets.specs.declared.entry.Entry.{Entry}
+use Rattle.row_sets.specs.declared.entry.LogEntry.{LogEntry}
 use Rattle.version_index.specs.Chain.{IsFirst, IsLast, IsLastFrom, is_late, is_on}
 use Rattle.version_index.specs.Log.{InOrder}
 use Rattle.version_index.specs.Numbers.{lesser, passes_at, passing}
@@ -110,16 +110,16 @@ module _ (view : TableView) (key : List Value) where
 -- ---- walks
 
 -- the number of a write that may be there
-abbrev pub number_of : Option Back → Option ℕ
-number_of found = option_map (λ back. back.number) found
+abbrev pub number_of_back : Option Back → Option ℕ
+number_of_back found = option_map (λ back. back.number) found
 
 -- the noted writes on a key before one that may be there
 abbrev pub LeftOf : TableView → List Value → Option Back → Type 0
 LeftOf view key found = IfSome found (λ back. back.left.now ≡ noted_below view key back.number)
 
-module _ (entries : List Entry) (ref : ℕ × List Value) where
+module _ (entries : List LogEntry) (ref : ℕ × List Value) where
   -- an entry of a number that is walked on
-  walked_on : (part number : ℕ) (entry : Entry) → slice_get entries number ≡ Some entry → IsLast (is_on ref) (take part (history_of entries)) (Some number) → is_on ref (stamped_of entry) ≡ true
+  walked_on : (part number : ℕ) (entry : LogEntry) → slice_get entries number ≡ Some entry → IsLast (is_on ref) (take part (history_of entries)) (Some number) → is_on ref (stamped_of entry) ≡ true
   walked_on part number entry there last =
       subst (λ found. IsSomeAnd found (λ s. is_on ref s ≡ true)) (get_of_part (λ s. is_on ref s ≡ true) part number (history_of entries) last.0 ∙ get_history entries number entry there) last.0
 
@@ -138,7 +138,7 @@ module _ (entries : List Entry) (ref : ℕ × List Value) where
     pub key_below : (number : ℕ) (first : Option ℕ) → KeyWalk (Some number) first → number < length entries
     key_below number first walk = walked_below walk.0 number walk.1
 
-    pub key_stop : (number : ℕ) (entry : Entry) (first : Option ℕ) → InOrder (history_of entries) → slice_get entries number ≡ Some entry → entry.block ≤ after → KeyWalk (Some number) first
+    pub key_stop : (number : ℕ) (entry : LogEntry) (first : Option ℕ) → InOrder (history_of entries) → slice_get entries number ≡ Some entry → entry.block ≤ after → KeyWalk (Some number) first
         → IsFirst (is_late ref after upto) (history_of entries) first
     key_stop number entry first ordered there low walk =
         let here = get_history entries number entry there in
@@ -147,7 +147,7 @@ module _ (entries : List Entry) (ref : ℕ × List Value) where
         (subst (λ found. IsSomeAnd found (λ s. is_late ref after upto s ≡ false)) (sym here) (early (stamped_of entry) (omega arith)))
         (All-weaker (λ s. s.0 ≤ entry.block) (λ s. is_late ref after upto s ≡ false) early (take number (history_of entries)) (blocks_before (history_of entries) number (stamped_of entry) ordered here))
 
-    pub key_back : (number : ℕ) (entry : Entry) (earlier first : Option ℕ) → slice_get entries number ≡ Some entry → after < entry.block → IsLast (is_on ref) (take number (history_of entries)) earlier → KeyWalk (Some number) first
+    pub key_back : (number : ℕ) (entry : LogEntry) (earlier first : Option ℕ) → slice_get entries number ≡ Some entry → after < entry.block → IsLast (is_on ref) (take number (history_of entries)) earlier → KeyWalk (Some number) first
         → KeyWalk earlier (cond (nat_le entry.block upto) (Some number) first)
     key_back number entry earlier first there high link walk =
         let here = get_history entries number entry there in

@@ -28,7 +28,7 @@ use Rattle.version_index.specs.Left.{left_at}
 use Rattle.version_index.specs.Span.{HasCellAt, IsChangedAbove, IsChangedBetween, IsWantedBy}
 use Rattle.version_index.specs.View.{IsAsked, IsView, history_in}
 use Rattle.version_index.specs.declared.chains.Chains.{Chains}
-use Rattle.version_index.specs.declared.column.Column.{Column}
+use Rattle.version_index.specs.declared.column.ColumnIndex.{ColumnIndex}
 use Rattle.version_index.specs.declared.view.TableView.{TableView}
 use Rattle.version_index.proofs.KeyRows.{All-found}
 use Rattle.version_index.proofs.Logged.{same_ref}
@@ -91,7 +91,7 @@ module _ (view : TableView) (is : IsView view) (height : ℕ) where
 
   -- ---- by the index of a column
 
-  module _ (column : Column) (own : IsColumn view.table (history_in view) view.noted view.index.now.chains column) (low high : Option Value) (key : List Value) where
+  module _ (column : ColumnIndex) (own : IsColumn view.table (history_in view) view.noted view.index.now.chains column) (low high : Option Value) (key : List Value) where
     marked_still : (row : List Value) (value : Value) → cell column.column (Some row) ≡ Some value → IsBetween low high value → left_at (view.table, key) (take view.noted history) ≡ Some row
         → IsMarkedBetween view column.living.entries low high key
     marked_still row value here between left =
@@ -150,7 +150,7 @@ cell_in (v ∷ row) zero within = refl
 cell_in (v ∷ row) (suc column) within = cell_in row column (omega (arith, within))
 
 -- a column that is the number of none is not among the numbers
-none_has : (column : ℕ) (columns : List Column) → All (λ own. own.column ≡ column → ⊥) columns → Contains (map (λ own. own.column) columns) column → ⊥
+none_has : (column : ℕ) (columns : List ColumnIndex) → All (λ own. own.column ≡ column → ⊥) columns → Contains (map (λ own. own.column) columns) column → ⊥
 none_has column [] none inside = let below = inside.1 in absurd (omega (arith, below))
 none_has column (own ∷ columns) none (zero, below, is) = All-head (λ c. c.column ≡ column → ⊥) own columns none is
 none_has column (own ∷ columns) none (suc k, below, is) = none_has column columns (All-tail (λ c. c.column ≡ column → ⊥) own columns none) (k, omega (arith, below), is)

@@ -16,7 +16,7 @@ use Rattle.rel_base.proofs.Bits.{both_true, first_true, no_both, not_true, secon
 use Rattle.rel_base.proofs.Columns.{span_column_below}
 use Rattle.row_sets.specs.Watched.{is_watched}
 use Rattle.row_sets.specs.Log.{FitsTable, history_of, stamped_of}
-use Rattle.row_sets.specs.declared.entry.Entry.{Entry}
+use Rattle.row_sets.specs.declared.entry.LogEntry.{LogEntry}
 use Rattle.row_sets.specs.declared.hits.Watch.{Watch}
 use Rattle.version_index.specs.Candidates.{IsBetween, is_forward}
 use Rattle.version_index.specs.Chain.{IsFirst, is_late}
@@ -26,7 +26,7 @@ use Rattle.version_index.specs.Left.{left_at}
 use Rattle.version_index.specs.Log.{InOrder}
 use Rattle.version_index.specs.Numbers.{ArePassing, least_with, passes, passes_at, passing}
 use Rattle.version_index.specs.View.{IsAsked, history_in}
-use Rattle.version_index.specs.declared.column.Column.{Column}
+use Rattle.version_index.specs.declared.column.ColumnIndex.{ColumnIndex}
 use Rattle.version_index.specs.declared.view.TableView.{TableView}
 use Rattle.version_index.proofs.LeastHits.{first_agrees, hits_point}
 use Rattle.version_index.proofs.Logged.{all_fail, blocks_rise, contains_got, get_history, le_false, lt_false}
@@ -96,7 +96,7 @@ low_numbers watch history start low =
     take_fails (is_watched watch) start history (All-weaker (λ stamped. stamped.0 ≤ watch.after) (λ stamped. is_watched watch stamped ≡ false) (low_unwatched watch) (take start history) low)
 
 -- no write up to one in no block above the height is watched
-pub low_before : (watch : Watch) (entries : List Entry) (number : ℕ) (entry : Entry) → InOrder (history_of entries) → slice_get entries number ≡ Some entry → entry.block ≤ watch.after → (j : ℕ) → j ≤ number
+pub low_before : (watch : Watch) (entries : List LogEntry) (number : ℕ) (entry : LogEntry) → InOrder (history_of entries) → slice_get entries number ≡ Some entry → entry.block ≤ watch.after → (j : ℕ) → j ≤ number
     → passes_at (is_watched watch) (history_of entries) j ≡ false
 low_before watch entries number entry ordered there low j down = go (slice_get (history_of entries) j) refl
   where
@@ -172,7 +172,7 @@ module _ (watch : Watch) (view : TableView) (column : ℕ) (low high : Option Va
       fails_all (is_watched watch) (history_in view)
       (λ j. not_true (passes_at (is_watched watch) (history_in view) j) (λ is. let touched = watched_touches j is in none_in low high touched.0 backward touched.1))
 
-  module _ (own : Column) (is : IsColumn view.table (history_in view) view.noted view.index.now.chains own) (same : own.column ≡ column) where
+  module _ (own : ColumnIndex) (is : IsColumn view.table (history_in view) view.noted view.index.now.chains own) (same : own.column ≡ column) where
     -- a noted write that is watched is among those that touched a value between the ends
     pub watched_noted : (j : ℕ) → passes_at (is_watched watch) (history_in view) j ≡ true → j < view.noted → (value : Value) × IsBetween low high value × Contains (touched_at own.touched.entries value) j
     watched_noted j passing_it below =
@@ -216,7 +216,7 @@ module _ (watch : Watch) (view : TableView) where
       pub hit_below : last < view.noted
       hit_below = let low = top.below in let within = walk.within in omega (arith, low, within)
 
-      pub hit_back : (entry : Entry) → slice_get view.entries.now last ≡ Some entry
+      pub hit_back : (entry : LogEntry) → slice_get view.entries.now last ≡ Some entry
           → HitWalk watch view numbers earlier found (cond (is_watched watch (stamped_of entry)) (Some (least_with last first)) first)
       hit_back entry there = record {
         test = walk.test;
@@ -234,7 +234,7 @@ module _ (watch : Watch) (view : TableView) where
           either j on (inl up) (inl below) = absurd (no_both (walk.test j) on.0 (top.none j up below))
           either j on (inl up) (inr past) = inl (on.0, past, on.2)
 
-      pub hit_stop : (entry : Entry) → InOrder (history_in view) → slice_get view.entries.now last ≡ Some entry → entry.block ≤ watch.after → Lowers hit found first (Contains numbers)
+      pub hit_stop : (entry : LogEntry) → InOrder (history_in view) → slice_get view.entries.now last ≡ Some entry → entry.block ≤ watch.after → Lowers hit found first (Contains numbers)
       hit_stop entry ordered there low =
           lowers_weaker hit found first (λ j. (walk.test j ≡ true) × (walk.end ≤ j) × (j < view.noted)) (Contains numbers)
           (λ j inside is. let on = passing_has walk.test view.noted j (subst (λ ns. Contains ns j) walk.all inside) in either j on is (below_or last j) (below_or j walk.end)) walk.lowers

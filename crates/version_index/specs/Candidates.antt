@@ -13,7 +13,7 @@ use Rattle.rel_base.specs.Tables.{Stamped}
 use Rattle.rel_base.specs.Value.{key_cmp, key_eq, value_cmp, value_eq}
 use Rattle.rel_base.specs.declared.value.Value.{Value}
 use Rattle.version_index.specs.Chains.{slot_in, slot_of}
-use Rattle.version_index.specs.Columns.{has_slot, is_marked, mark_in, touches_at}
+use Rattle.version_index.specs.Columns.{has_mark, has_slot, mark_in, touches_at}
 use Rattle.version_index.specs.Left.{left_at}
 use Rattle.version_index.specs.View.{history_in}
 use Rattle.version_index.specs.declared.chains.Chains.{Chains}
@@ -55,7 +55,7 @@ HasSlot view slot key = HasRow view key × (slot_of view.index.now.chains key �
 
 -- its slot is marked
 abbrev pub IsMarked : TableView → BTreeMap ℕ Bool → List Value → Type 0
-IsMarked view marks key = (slot : ℕ) × HasSlot view slot key × (is_marked (mark_in (Some marks) slot) ≡ true)
+IsMarked view marks key = (slot : ℕ) × HasSlot view slot key × (has_mark (mark_in (Some marks) slot) ≡ true)
 
 -- a value lies between the ends that are given
 abbrev pub IsBetween : Option Value → Option Value → Value → Type 0

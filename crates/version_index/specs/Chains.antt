@@ -51,8 +51,8 @@ abbrev pub lists_of : Chains → List (List ℕ)
 lists_of chains = lists_in chains.numbers.items
 
 -- the list of a slot has room for one more number
-abbrev pub HasRoom : List (Vec ℕ Global) → ℕ → Type 0
-HasRoom lists slot = IsSomeAnd (slice_get lists slot) (λ numbers. vec_len numbers < vec_capacity numbers)
+abbrev pub HasRoomForNumber : List (Vec ℕ Global) → ℕ → Type 0
+HasRoomForNumber lists slot = IsSomeAnd (slice_get lists slot) (λ numbers. vec_len numbers < vec_capacity numbers)
 
 -- a list that may be there, and no numbers where it is not
 abbrev pub list_or_none : Option (List ℕ) → List ℕ

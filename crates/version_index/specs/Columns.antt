@@ -15,7 +15,7 @@ use Rattle.version_index.specs.Chains.{lists_of, slot_of}
 use Rattle.version_index.specs.Left.{left_at}
 use Rattle.version_index.specs.Numbers.{passing}
 use Rattle.version_index.specs.declared.chains.Chains.{Chains}
-use Rattle.version_index.specs.declared.column.Column.{Column}
+use Rattle.version_index.specs.declared.column.ColumnIndex.{ColumnIndex}
 
 -- ---- the value of a row in a column
 
@@ -43,13 +43,13 @@ mark_in (Some slots) slot = lookup (is_at (nat_cmp slot)) slots.entries
 abbrev pub mark_of : List (Value × BTreeMap ℕ Bool) → Value → ℕ → Option Bool
 mark_of living value slot = mark_in (lookup (is_at (value_cmp value)) living) slot
 
-abbrev pub is_marked : Option Bool → Bool
-is_marked None = false
-is_marked (Some mark) = mark
+abbrev pub has_mark : Option Bool → Bool
+has_mark None = false
+has_mark (Some mark) = mark
 
 -- whether a slot is marked at a value
 abbrev pub has_slot : List (Value × BTreeMap ℕ Bool) → Value → ℕ → Bool
-has_slot living value slot = is_marked (mark_of living value slot)
+has_slot living value slot = has_mark (mark_of living value slot)
 
 -- whether a slot is held at a value
 abbrev pub holds_slot : List (Value × BTreeMap ℕ Bool) → Value → ℕ → Bool
@@ -95,7 +95,7 @@ abbrev pub touches_at : ℕ → ℕ → Value → List Stamped → ℕ → Bool
 touches_at table column value history number = touches table column value (take number history) (slice_get history number)
 
 -- an index tells of the first writes of a history, as many as are noted, which keys have a row with each value, and which writes touched it
-pub record IsColumn (table : ℕ) (history : List Stamped) (noted : ℕ) (chains : Chains) (column : Column) : Type 0 where
+pub record IsColumn (table : ℕ) (history : List Stamped) (noted : ℕ) (chains : Chains) (column : ColumnIndex) : Type 0 where
   pub living : (key : List Value) (slot : ℕ) (value : Value) → slot_of chains key ≡ Some slot
       → has_slot column.living.entries value slot ≡ has value (cell column.column (left_at (table, key) (take noted history)))
   pub within : (value : Value) (slot : ℕ) → has_slot column.living.entries value slot ≡ true → slot < length (lists_of chains)
@@ -104,20 +104,20 @@ pub record IsColumn (table : ℕ) (history : List Stamped) (noted : ℕ) (chains
 -- ---- one more write
 
 -- nothing that an index tells has changed
-pub record IsSameColumn (old new : Column) : Type 0 where
+pub record IsSameColumn (old new : ColumnIndex) : Type 0 where
   pub column : new.column ≡ old.column
   pub living : (value : Value) (slot : ℕ) → has_slot new.living.entries value slot ≡ has_slot old.living.entries value slot
   pub touched : (value : Value) → touched_at new.touched.entries value ≡ touched_at old.touched.entries value
 
 -- a write on the key of a slot, which found a row, can be noted without memory: its slot stands at the value that was found already
-pub record IsReady (slot : ℕ) (found : Option (List Value)) (write : Write) (column : Column) : Type 0 where
+pub record IsReady (slot : ℕ) (found : Option (List Value)) (write : Write) (column : ColumnIndex) : Type 0 where
   pub held : IsHeldUnless column.living.entries (cell column.column write.after) (cell column.column found) slot
   pub found_room : IsRoomy column.touched.entries (cell column.column found)
   pub before_room : IsRoomy column.touched.entries (cell column.column write.before)
   pub after_room : IsRoomy column.touched.entries (cell column.column write.after)
 
 -- the slot of its key is at the value of its row after alone, and its number is the last one at each value that it touches
-pub record IsNotedIn (slot : ℕ) (found : Option (List Value)) (write : Write) (number : ℕ) (old new : Column) : Type 0 where
+pub record IsNotedIn (slot : ℕ) (found : Option (List Value)) (write : Write) (number : ℕ) (old new : ColumnIndex) : Type 0 where
   pub column : new.column ≡ old.column
   pub living : (value : Value) (s : ℕ) → has_slot new.living.entries value s ≡ cond (s == slot) (has value (cell old.column write.after)) (has_slot old.living.entries value s)
   pub touched : (value : Value) → touched_at new.touched.entries value

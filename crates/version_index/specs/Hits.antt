@@ -15,7 +15,7 @@ use Rattle.version_index.specs.declared.chains.Chains.{Chains}
 use Rattle.version_index.specs.declared.view.TableView.{TableView}
 use Rattle.version_index.specs.Numbers.{passes_at}
 use Rattle.version_index.specs.Rows.{write_of}
-use Rattle.version_index.specs.View.{told_of}
+use Rattle.version_index.specs.View.{hit_told}
 
 -- the number of the first item from a number on that passes a test
 abbrev pub IsFirstFrom : {X : Type 0} → (X → Bool) → ℕ → List X → Option ℕ → Type 0
@@ -45,4 +45,4 @@ IsOnKeyBetween view low high number =
 
 -- what is told of a hit is told of the first write that the read hits, where there is one
 abbrev pub TellsFirst : Watch → List Stamped → Option Hit → Type 0
-TellsFirst watch history hit = (number : Option ℕ) × IsFirst (is_watched watch) history number × (hit ≡ option_map (told_of watch.def.now watch.read.now) (write_of history number))
+TellsFirst watch history hit = (number : Option ℕ) × IsFirst (is_watched watch) history number × (hit ≡ option_map (hit_told watch.def.now watch.read.now) (write_of history number))

@@ -5,10 +5,10 @@ use Rattle.rel_base.specs.Tables.{Stamped}
 use Rattle.rel_base.specs.declared.schema.TableDef.{TableDef}
 use Rattle.rel_base.specs.declared.value.Value.{Value}
 use Rattle.row_sets.specs.Log.{history_of}
-use Rattle.row_sets.specs.declared.entry.Entry.{Entry}
+use Rattle.row_sets.specs.declared.entry.LogEntry.{LogEntry}
 use Rattle.version_index.specs.Chains.{AreChains}
 use Rattle.version_index.specs.Columns.{IsColumn}
-use Rattle.version_index.specs.declared.column.Column.{Column}
+use Rattle.version_index.specs.declared.column.ColumnIndex.{ColumnIndex}
 use Rattle.version_index.specs.declared.index.TableIndex.{TableIndex}
 
 -- the columns of a table that have an index by their values: the declared ones, and the first key column where the key has more
@@ -49,7 +49,7 @@ abbrev pub row_by : List Stamped → List ℕ → Option (List Value)
 row_by history numbers = row_after (option_and_then (slice_get history) (last_in numbers))
 
 -- an index that tells of no write
-abbrev pub IsEmptyColumn : Column → Type 0
+abbrev pub IsEmptyColumn : ColumnIndex → Type 0
 IsEmptyColumn column = (column.living.entries ≡ []) × (column.touched.entries ≡ [])
 
 pub record IsEmptyIndex (index : TableIndex) : Type 0 where
@@ -59,5 +59,5 @@ pub record IsEmptyIndex (index : TableIndex) : Type 0 where
   pub columns : All IsEmptyColumn index.columns.items
 
 -- the index of the table of the entry of a number tells the first entries, as many as are noted
-abbrev pub IsIndexOf : List Entry → ℕ → ℕ → TableIndex → Type 0
+abbrev pub IsIndexOf : List LogEntry → ℕ → ℕ → TableIndex → Type 0
 IsIndexOf entries number noted index = IsSomeAnd (slice_get entries number) (λ entry. IsIndex entry.placed.write.table (history_of entries) noted index)

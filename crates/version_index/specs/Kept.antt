@@ -3,13 +3,13 @@ use Rattle.std.specs.Prelude.{◌≡◌, ◌≤◌, ℕ, List, length, map}
 use Rattle.rel_base.specs.declared.schema.TableDef.{TableDef}
 use Rattle.rel_base.specs.Tables.{HistoryFits, Stamped}
 use Rattle.row_sets.specs.Log.{history_of}
-use Rattle.row_sets.specs.declared.entry.Entry.{Entry}
+use Rattle.row_sets.specs.declared.entry.LogEntry.{LogEntry}
 use Rattle.version_index.specs.Index.{AreNoted, columns_in, index_columns}
 use Rattle.version_index.specs.Log.{InOrder}
 use Rattle.version_index.specs.declared.index.TableIndex.{TableIndex}
 
 -- the writes fit their tables and stand in order, and the indexes, one for each table, tell of the first of them, as many as are noted
-pub record IsStore (defs : List TableDef) (entries : List Entry) (indexes : List TableIndex) (noted : ℕ) : Type 0 where
+pub record IsStore (defs : List TableDef) (entries : List LogEntry) (indexes : List TableIndex) (noted : ℕ) : Type 0 where
   pub fits : HistoryFits defs (history_of entries)
   pub in_order : InOrder (history_of entries)
   pub within : noted ≤ length entries

@@ -43,8 +43,8 @@ IsBack numbers None = numbers ≡ []
 IsBack numbers (Some back) = numbers ≡ back.left.now ++ back.number ∷ []
 
 -- what a read of a declared table is told of a write that it hits
-abbrev pub told_of : TableDef → Read → Stamped → Hit
-told_of def read stamped = record {
+abbrev pub hit_told : TableDef → Read → Stamped → Hit
+hit_told def read stamped = record {
   place = record { block = stamped.0; pos = stamped.1.pos };
   key = stamped.1.write.key;
   stale = covers_some def read stamped.1.write.before;

@@ -27,24 +27,24 @@ pub struct Chains {
 
 /// Where a key that was ever written stands: at a slot, and among the keys with a row or among those whose row was deleted.
 #[derive(Clone, Copy)]
-pub struct Spot {
+pub struct KeySlot {
     pub slot: usize,
     pub lives: bool,
 }
 
 /// Where a key stands whose slot may be there, among the keys with a row or not.
-fn spot_in(slot: Option<usize>, lives: bool) -> Option<Spot>
+fn spot_in(slot: Option<usize>, lives: bool) -> Option<KeySlot>
     ensures slot { option_map (λ spot. spot.slot) result ≡ slot }
     ensures lives { IfSome result (λ spot. spot.lives ≡ lives) }
 {
     match slot {
         None => None,
-        Some(slot) => Some(Spot { slot, lives }),
+        Some(slot) => Some(KeySlot { slot, lives }),
     }
 }
 
 /// The slot of a key that may stand somewhere.
-pub fn slot_at(spot: Option<Spot>) -> Option<usize>
+pub fn slot_at(spot: Option<KeySlot>) -> Option<usize>
     ensures { result ≡ option_map (λ spot. spot.slot) spot }
 {
     match spot {
@@ -127,7 +127,7 @@ fn place_key(
     ended: &mut BTreeMap<Key, usize>,
     alloc: Global,
     key: &Key,
-    spot: Spot,
+    spot: KeySlot,
     lives: bool,
 ) -> Result<(), NoMemory>
     requires own { slot_by living.old.entries ended.old.entries key.now ≡ Some spot.slot }
@@ -164,13 +164,13 @@ impl Chains {
     }
 
     /// Where a key stands, where it was ever written.
-    pub fn spot(&self, key: &Key) -> Option<Spot>
+    pub fn spot(&self, key: &Key) -> Option<KeySlot>
         ensures slot { option_map (λ spot. spot.slot) result ≡ slot_of self.now key.now }
         ensures lives { IfSome result (λ spot. spot.lives ≡ lives_in self.now key.now) }
     {
         match find_slot(&self.living, key) {
             None => spot_in(find_slot(&self.ended, key), false),
-            Some(slot) => Some(Spot { slot, lives: true }),
+            Some(slot) => Some(KeySlot { slot, lives: true }),
         }
     }
 
@@ -227,7 +227,7 @@ impl Chains {
         &mut self,
         alloc: Global,
         key: &Key,
-        spot: Spot,
+        spot: KeySlot,
         lives: bool,
         number: usize,
     ) -> Result<(), NoMemory>
@@ -250,7 +250,7 @@ impl Chains {
         &mut self,
         alloc: Global,
         key: &Key,
-        spot: Option<Spot>,
+        spot: Option<KeySlot>,
         lives: bool,
         number: usize,
     ) -> Result<(), NoMemory>

@@ -13,7 +13,7 @@ use std::collections::BTreeMap;
 
 /// An index by the values of a column.
 #[derive(Drop)]
-pub struct Column {
+pub struct ColumnIndex {
     /// The number of the column.
     pub column: u32,
     /// For each value the slots of the keys that have a row with it.
@@ -165,14 +165,14 @@ fn move_slot(living: &mut Living, found: Option<&Value>, after: Option<&Value>, 
     leave(living, unless(found, after), slot);
 }
 
-impl Column {
+impl ColumnIndex {
     /// No values.
-    pub fn new(alloc: Global, column: u32) -> Column
+    pub fn new(alloc: Global, column: u32) -> ColumnIndex
         ensures column { result.column ≡ column }
         ensures living { result.living.entries ≡ [] }
         ensures touched { result.touched.entries ≡ [] }
     {
-        Column {
+        ColumnIndex {
             column,
             living: BTreeMap::new(alloc),
             touched: BTreeMap::new(alloc),

@@ -14,13 +14,13 @@ use crate::chains::Chains;
 use crate::steps::Steps;
 use crate::view::TableView;
 use rel_base::Key;
-use row_sets::entry::{Entry, entry_at, is_on_key};
+use row_sets::entry::{LogEntry, entry_at, is_on_key};
 use std::sync::ledger::Ledger;
 
 /// How many of the writes on the key of a slot are in no block above a height. They are the first ones, so each look halves what is
 /// left.
 fn count_low<L: Ledger>(
-    entries: &[Entry],
+    entries: &[LogEntry],
     chains: &Chains,
     slot: Option<usize>,
     height: u64,
@@ -129,7 +129,7 @@ pub fn last_seen<L: Ledger>(
 }
 
 /// The number of a write, where it left a row.
-fn if_row(entry: &Entry, number: usize) -> Option<usize>
+fn if_row(entry: &LogEntry, number: usize) -> Option<usize>
     ensures { result ≡ cond (is_some entry.now.placed.write.after) (Some number) None }
 {
     match &entry.placed.write.after {

@@ -6,14 +6,14 @@ ghost use Rattle.version_index.specs.Index.{AreNoted, columns_in};
 
 use crate::index::TableIndex;
 use rel_base::NoMemory;
-use row_sets::entry::{Entry, entry_at};
+use row_sets::entry::{LogEntry, entry_at};
 use std::alloc::Global;
 
 /// Notes the write of the entry of a number, the next one to note. Where memory is wanting, what the indexes tell stays as it was.
 fn note_one(
     alloc: Global,
     indexes: &mut Vec<TableIndex>,
-    entries: &[Entry],
+    entries: &[LogEntry],
     number: usize,
 ) -> Result<(), NoMemory>
     requires there { number < length entries.now }
@@ -31,7 +31,7 @@ fn note_one(
 pub fn note_tail(
     alloc: Global,
     indexes: &mut Vec<TableIndex>,
-    entries: &[Entry],
+    entries: &[LogEntry],
     noted: &mut usize,
 ) -> Result<(), NoMemory>
     requires within { noted.old ≤ length entries.now }

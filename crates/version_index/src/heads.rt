@@ -9,7 +9,7 @@ ghost use Rattle.version_index.specs.Chain.{is_on};
 ghost use Rattle.version_index.specs.Heads.{head_of, holds_key};
 
 use rel_base::{Key, NoMemory, Twin};
-use row_sets::entry::Entry;
+use row_sets::entry::LogEntry;
 use std::alloc::Global;
 use std::collections::BTreeMap;
 use std::marker::Model;
@@ -87,7 +87,7 @@ impl Heads {
         &mut self,
         alloc: Global,
         table: u32,
-        entry: &Entry,
+        entry: &LogEntry,
         number: usize,
     ) -> Result<(), NoMemory>
         ensures { OnOk result ((q : List Cell) → head_of self.new q ≡ cond (is_on (table, q) (stamped_of entry.now)) (Some number) (head_of self.old q)) }

@@ -13,16 +13,16 @@ ghost use Rattle.version_index.specs.Numbers.{ArePassing, least_with, passes_at}
 ghost use Rattle.version_index.specs.View.{IsAsked, IsView, history_in};
 
 use crate::candidates::{end, is_in_order};
-use crate::column::Column;
+use crate::column::ColumnIndex;
 use crate::keyed::first_of;
 use crate::span::{first_above, one_value};
 use crate::view::TableView;
 use rel_base::Value;
-use row_sets::entry::{Entry, entry_at};
+use row_sets::entry::{LogEntry, entry_at};
 use row_sets::hits::{Watch, is_hit};
 
 /// The number of the first write from a number on that a read hits.
-pub fn first_hit(entries: &[Entry], watch: &Watch<'_>, start: usize) -> Option<usize>
+pub fn first_hit(entries: &[LogEntry], watch: &Watch<'_>, start: usize) -> Option<usize>
     requires fits { FitsTable watch.now.def.now (read_table watch.now.read.now) (history_of entries.now) }
     requires read_fits { ReadFits watch.now.def.now watch.now.read.now }
     ensures { IsFirstFrom (is_watched watch.now) start (history_of entries.now) result }
@@ -75,7 +75,7 @@ pub fn first_among(
 fn first_touching(
     view: &TableView<'_>,
     watch: &Watch<'_>,
-    column: &Column,
+    column: &ColumnIndex,
     value: &Value,
 ) -> Option<usize>
     requires view { IsView view.now }
@@ -93,7 +93,7 @@ fn first_touching(
 fn first_between(
     view: &TableView<'_>,
     watch: &Watch<'_>,
-    column: &Column,
+    column: &ColumnIndex,
     low: &Option<Value>,
     high: &Option<Value>,
 ) -> Option<usize>
@@ -121,7 +121,7 @@ fn first_between(
 pub fn first_by_column(
     view: &TableView<'_>,
     watch: &Watch<'_>,
-    column: &Column,
+    column: &ColumnIndex,
     low: &Option<Value>,
     high: &Option<Value>,
 ) -> Option<usize>

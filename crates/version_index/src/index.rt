@@ -10,9 +10,9 @@ ghost use Rattle.version_index.specs.Columns.{IsNotedIn, IsReady, IsSameColumn, 
 ghost use Rattle.version_index.specs.Index.{HasColumns, IsEmptyColumn, IsEmptyIndex, IsIndexOf, index_columns, last_in, row_after, row_by};
 
 use crate::chains::{Chains, slot_at};
-use crate::column::Column;
+use crate::column::ColumnIndex;
 use rel_base::{NoMemory, Row, TableDef, Write};
-use row_sets::entry::{Entry, entry_at};
+use row_sets::entry::{LogEntry, entry_at};
 use std::alloc::Global;
 
 /// The index of a table: the writes on each of its keys, and an index by the values of each column by which spans are read. A span of
@@ -20,11 +20,11 @@ use std::alloc::Global;
 #[derive(Drop)]
 pub struct TableIndex {
     pub chains: Chains,
-    pub columns: Vec<Column>,
+    pub columns: Vec<ColumnIndex>,
 }
 
 /// Indexes by the values of the columns of a table that are to have one.
-fn columns_of(alloc: Global, def: &TableDef) -> Result<Vec<Column>, NoMemory>
+fn columns_of(alloc: Global, def: &TableDef) -> Result<Vec<ColumnIndex>, NoMemory>
     ensures columns { IfOk result (λ columns. map (λ c. c.column) columns.items ≡ index_columns def.now) }
     ensures empty { IfOk result (λ columns. All IsEmptyColumn columns.items) }
 {
@@ -47,13 +47,17 @@ fn first_of(numbers: &[u32]) -> &[u32]
 }
 
 /// Adds indexes by the values of columns, which have no values yet.
-fn push_columns(alloc: Global, columns: &mut Vec<Column>, numbers: &[u32]) -> Result<(), NoMemory>
+fn push_columns(
+    alloc: Global,
+    columns: &mut Vec<ColumnIndex>,
+    numbers: &[u32],
+) -> Result<(), NoMemory>
     requires empty { All IsEmptyColumn columns.old.items }
     ensures columns { OnOk result (map (λ c. c.column) columns.new.items ≡ map (λ c. c.column) columns.old.items ++ numbers.now) }
     ensures empty { OnOk result (All IsEmptyColumn columns.new.items) }
 {
     for number in numbers {
-        columns.push(Column::new(alloc, *number))?;
+        columns.push(ColumnIndex::new(alloc, *number))?;
     }
     Ok(())
 }
@@ -69,7 +73,7 @@ fn last_of(numbers: &[usize]) -> Option<usize>
 }
 
 /// The row that the write of a number left, where there is such a write.
-fn row_at(entries: &[Entry], number: usize) -> Option<&Row>
+fn row_at(entries: &[LogEntry], number: usize) -> Option<&Row>
     ensures { option_copied result ≡ row_after (slice_get (history_of entries.now) number) }
 {
     match entries.get(number) {
@@ -79,7 +83,7 @@ fn row_at(entries: &[Entry], number: usize) -> Option<&Row>
 }
 
 /// The row that the last of some writes left, by their numbers.
-fn found_row<'a>(entries: &'a [Entry], numbers: &[usize]) -> Option<&'a Row>
+fn found_row<'a>(entries: &'a [LogEntry], numbers: &[usize]) -> Option<&'a Row>
     ensures { option_copied result ≡ row_by (history_of entries.now) numbers.now }
 {
     match last_of(numbers) {
@@ -101,7 +105,7 @@ fn own_slot(slot: Option<usize>, next: usize) -> usize
 /// Takes the memory in all columns that a write on the key of a slot needs, which found a row.
 fn hold_all(
     alloc: Global,
-    columns: &mut Vec<Column>,
+    columns: &mut Vec<ColumnIndex>,
     slot: usize,
     found: Option<&Row>,
     write: &Write,
@@ -117,7 +121,7 @@ fn hold_all(
 
 /// Notes the write of a number on the key of a slot in all columns. It found a row. Takes no memory.
 fn note_all(
-    columns: &mut Vec<Column>,
+    columns: &mut Vec<ColumnIndex>,
     slot: usize,
     found: Option<&Row>,
     write: &Write,
@@ -146,7 +150,12 @@ impl TableIndex {
 
     /// Notes the write of the entry of a number, which is on the table and the next one to note. Where memory is wanting, what the
     /// index tells stays as it was.
-    pub fn note(&mut self, alloc: Global, entries: &[Entry], number: usize) -> Result<(), NoMemory>
+    pub fn note(
+        &mut self,
+        alloc: Global,
+        entries: &[LogEntry],
+        number: usize,
+    ) -> Result<(), NoMemory>
         requires there { number < length entries.now }
         requires old { IsIndexOf entries.now number number self.old }
         ensures new { OnOk result (IsIndexOf entries.now number (number + 1) self.new) }

@@ -12,6 +12,7 @@ pub mod hits;
 pub mod index;
 pub mod key_spans;
 pub mod keyed;
+pub mod lifespans;
 pub mod lists;
 pub mod living;
 pub mod reading;
@@ -20,7 +21,6 @@ pub mod span;
 pub mod steps;
 pub mod store;
 pub mod touched;
-pub mod versions;
 pub mod view;
 
 pub use steps::Steps;

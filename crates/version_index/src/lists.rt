@@ -1,7 +1,7 @@
 //! Lists of numbers, one for each slot.
 
 ghost use Rattle.std.specs.Prelude.{◌≡◌, ◌<◌, ◌++◌, ◌∷◌, [], IfOk, OnOk, Some, length, slice_get, slice_set};
-ghost use Rattle.version_index.specs.Chains.{HasRoom, list_or_none, lists_in, numbers_at};
+ghost use Rattle.version_index.specs.Chains.{HasRoomForNumber, list_or_none, lists_in, numbers_at};
 
 use rel_base::NoMemory;
 use std::alloc::Global;
@@ -29,7 +29,7 @@ pub fn list_at(lists: &[Vec<usize>], slot: usize) -> &[usize]
 pub fn hold_room(lists: &mut Vec<Vec<usize>>, slot: usize) -> Result<(), NoMemory>
     requires { slot < length lists.old.items }
     ensures same { lists_in lists.new.items ≡ lists_in lists.old.items }
-    ensures room { OnOk result (HasRoom lists.new.items slot) }
+    ensures room { OnOk result (HasRoomForNumber lists.new.items slot) }
 {
     lists[slot].reserve(1)?;
     Ok(())
@@ -37,7 +37,7 @@ pub fn hold_room(lists: &mut Vec<Vec<usize>>, slot: usize) -> Result<(), NoMemor
 
 /// Adds a number to the list of a slot, which has room for it.
 pub fn push_at(lists: &mut Vec<Vec<usize>>, slot: usize, number: usize)
-    requires { HasRoom lists.old.items slot }
+    requires { HasRoomForNumber lists.old.items slot }
     ensures { lists_in lists.new.items ≡ slice_set (lists_in lists.old.items) slot (numbers_at (lists_in lists.old.items) (Some slot) ++ number ∷ []) }
 {
     lists[slot].push_reserved(number);

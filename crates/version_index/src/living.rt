@@ -3,7 +3,7 @@
 ghost use Rattle.std.specs.Prelude.{◌≡◌, ◌==◌, ◌&&◌, ◌||◌, IfOk, IsTrue, OnOk, Some, cond, false, is_some, ℕ};
 ghost use Rattle.rel_base.specs.Value.{value_eq};
 ghost use Rattle.rel_base.specs.declared.value.Value.{Value as Cell};
-ghost use Rattle.version_index.specs.Columns.{has_slot, holds_slot, is_marked, mark_in};
+ghost use Rattle.version_index.specs.Columns.{has_mark, has_slot, holds_slot, mark_in};
 
 use rel_base::{NoMemory, Twin, Value};
 use std::alloc::Global;
@@ -18,7 +18,7 @@ pub type Living = BTreeMap<Value, Marks>;
 /// Holds a slot.
 fn hold_mark(marks: &mut Marks, slot: usize) -> Result<(), NoMemory>
     ensures held { OnOk result (IsTrue (is_some (mark_in (Some marks.new) slot))) }
-    ensures same { (s : ℕ) → is_marked (mark_in (Some marks.new) s) ≡ is_marked (mark_in (Some marks.old) s) }
+    ensures same { (s : ℕ) → has_mark (mark_in (Some marks.new) s) ≡ has_mark (mark_in (Some marks.old) s) }
 {
     if marks.contains_key(&slot) {
         return Ok(());
@@ -30,7 +30,7 @@ fn hold_mark(marks: &mut Marks, slot: usize) -> Result<(), NoMemory>
 /// One slot that is held.
 fn one_mark(alloc: Global, slot: usize) -> Result<Marks, NoMemory>
     ensures held { IfOk result (λ marks. IsTrue (is_some (mark_in (Some marks) slot))) }
-    ensures none { IfOk result (λ marks. (s : ℕ) → is_marked (mark_in (Some marks) s) ≡ false) }
+    ensures none { IfOk result (λ marks. (s : ℕ) → has_mark (mark_in (Some marks) s) ≡ false) }
 {
     let mut marks = BTreeMap::new(alloc);
     hold_mark(&mut marks, slot)?;
@@ -59,7 +59,7 @@ pub fn hold_slot(
 /// Marks a slot that is held.
 fn set_mark(marks: &mut Marks, slot: usize)
     requires { IsTrue (is_some (mark_in (Some marks.old) slot)) }
-    ensures { (s : ℕ) → is_marked (mark_in (Some marks.new) s) ≡ (s == slot || is_marked (mark_in (Some marks.old) s)) }
+    ensures { (s : ℕ) → has_mark (mark_in (Some marks.new) s) ≡ (s == slot || has_mark (mark_in (Some marks.old) s)) }
 {
     if let Some(mark) = marks.get_mut(&slot) {
         *mark = true;
@@ -78,8 +78,8 @@ pub fn put_slot(living: &mut Living, value: &Value, slot: usize)
 
 /// Takes a slot out.
 fn take_mark(marks: &mut Marks, slot: usize) -> bool
-    ensures taken { (s : ℕ) → is_marked (mark_in (Some marks.new) s) ≡ cond (s == slot) false (is_marked (mark_in (Some marks.old) s)) }
-    ensures empty { IsTrue result → (s : ℕ) → is_marked (mark_in (Some marks.new) s) ≡ false }
+    ensures taken { (s : ℕ) → has_mark (mark_in (Some marks.new) s) ≡ cond (s == slot) false (has_mark (mark_in (Some marks.old) s)) }
+    ensures empty { IsTrue result → (s : ℕ) → has_mark (mark_in (Some marks.new) s) ≡ false }
 {
     let _ = marks.remove(&slot);
     marks.is_empty()

@@ -11,17 +11,17 @@ ghost use Rattle.row_sets.specs.Log.{stamped_of};
 ghost use Rattle.version_index.specs.Chain.{IsFirst};
 ghost use Rattle.version_index.specs.Hits.{TellsFirst};
 ghost use Rattle.version_index.specs.Rows.{rows_of_keys};
-ghost use Rattle.version_index.specs.View.{IsAsked, IsView, history_in, told_of};
+ghost use Rattle.version_index.specs.View.{IsAsked, IsView, history_in, hit_told};
 
 use crate::hits::first_by_column;
 use crate::key_spans::first_by_key;
 use crate::keyed::first_late;
 use crate::rows::add_key;
 use crate::span::{column_of, rows_of_span};
-use crate::view::{Look, TableView};
+use crate::view::{ReadAtHeight, TableView};
 use rel_base::{Key, List, NoMemory, Read, Seen, TableDef, Value};
 use row_sets::HitRef;
-use row_sets::entry::{Entry, entry_at, place_at};
+use row_sets::entry::{LogEntry, entry_at, place_at};
 use row_sets::hits::{Watch, covers_part};
 use std::alloc::Global;
 
@@ -29,7 +29,7 @@ use std::alloc::Global;
 fn rows_of_key(
     alloc: Global,
     view: &TableView<'_>,
-    look: &Look<'_>,
+    look: &ReadAtHeight<'_>,
     key: &Key,
 ) -> Result<List<Seen>, NoMemory>
     requires view { IsView view.now }
@@ -43,7 +43,11 @@ fn rows_of_key(
 }
 
 /// The rows that a read gets of the tables after the block of a height.
-pub fn rows_at(alloc: Global, view: &TableView<'_>, look: &Look<'_>) -> Result<List<Seen>, NoMemory>
+pub fn rows_at(
+    alloc: Global,
+    view: &TableView<'_>,
+    look: &ReadAtHeight<'_>,
+) -> Result<List<Seen>, NoMemory>
     requires view { IsView view.now }
     requires look { IsAsked look.now.def.now look.now.read.now view.now }
     ensures { IfOk result (λ seen. seen ≡ rows look.now.def.now look.now.read.now (tables_at look.now.height (history_in view.now))) }
@@ -106,10 +110,10 @@ fn hit_at(view: &TableView<'_>, watch: &Watch<'_>) -> Option<usize>
 }
 
 /// What is told of a write that a read hits.
-fn hit_ref<'a>(def: &TableDef, read: &Read, entry: &'a Entry) -> HitRef<'a>
+fn hit_ref<'a>(def: &TableDef, read: &Read, entry: &'a LogEntry) -> HitRef<'a>
     requires read_fits { ReadFits def.now read.now }
     requires write_fits { WriteFits def.now entry.now.placed.write }
-    ensures { hit_of result ≡ told_of def.now read.now (stamped_of entry.now) }
+    ensures { hit_of result ≡ hit_told def.now read.now (stamped_of entry.now) }
 {
     let stale = covers_part(read, def, &entry.placed.write.before);
     HitRef {

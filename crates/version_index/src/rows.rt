@@ -16,9 +16,9 @@ ghost use Rattle.version_index.specs.View.{IsAsked, IsView, history_in};
 
 use crate::candidates::Candidate;
 use crate::keyed::last_up_to;
-use crate::view::{Look, TableView};
+use crate::view::{ReadAtHeight, TableView};
 use rel_base::{Key, List, NoMemory, Place, Read, Row, Seen, Twin, Value};
-use row_sets::entry::{Entry, entry_at, place_at};
+use row_sets::entry::{LogEntry, entry_at, place_at};
 use std::alloc::Global;
 
 /// Whether a row has a value in a column.
@@ -30,7 +30,7 @@ fn has_value(row: &[Value], column: u32, value: &Value) -> bool
 }
 
 /// Whether a read covers a row. The one value of a span may be given: then the row is covered where it has this value.
-fn covers(look: &Look<'_>, value: Option<&Value>, row: &Row) -> bool
+fn covers(look: &ReadAtHeight<'_>, value: Option<&Value>, row: &Row) -> bool
     requires read_fits { ReadFits look.now.def.now look.now.read.now }
     requires row_fits { RowFits look.now.def.now row.now }
     requires value { IsValueOf look.now.read.now (option_copied value) }
@@ -46,7 +46,7 @@ fn covers(look: &Look<'_>, value: Option<&Value>, row: &Row) -> bool
 fn add_covered(
     alloc: Global,
     rows: &mut List<Seen>,
-    look: &Look<'_>,
+    look: &ReadAtHeight<'_>,
     value: Option<&Value>,
     row: &Row,
     place: Place,
@@ -69,9 +69,9 @@ fn add_covered(
 fn add_row(
     alloc: Global,
     rows: &mut List<Seen>,
-    look: &Look<'_>,
+    look: &ReadAtHeight<'_>,
     value: Option<&Value>,
-    entry: &Entry,
+    entry: &LogEntry,
 ) -> Result<(), NoMemory>
     requires read_fits { ReadFits look.now.def.now look.now.read.now }
     requires row_fits { IfSome entry.now.placed.write.after (λ row. RowFits look.now.def.now row) }
@@ -90,7 +90,7 @@ pub fn add_key_with(
     alloc: Global,
     rows: &mut List<Seen>,
     view: &TableView<'_>,
-    look: &Look<'_>,
+    look: &ReadAtHeight<'_>,
     value: Option<&Value>,
     candidate: Candidate<'_>,
 ) -> Result<(), NoMemory>
@@ -112,7 +112,7 @@ pub fn add_key(
     alloc: Global,
     rows: &mut List<Seen>,
     view: &TableView<'_>,
-    look: &Look<'_>,
+    look: &ReadAtHeight<'_>,
     key: &Key,
     slot: Option<usize>,
 ) -> Result<(), NoMemory>

@@ -16,13 +16,13 @@ ghost use Rattle.version_index.specs.Span.{HasCellAt, IsChangedAbove, IsChangedB
 ghost use Rattle.version_index.specs.View.{IsAsked, IsView, history_in};
 
 use crate::candidates::{Candidate, add_from, add_listed, add_living, end, is_in_order};
-use crate::column::Column;
+use crate::column::ColumnIndex;
 use crate::index::TableIndex;
 use crate::key_spans::add_by_key;
 use crate::rows::add_key_with;
-use crate::view::{Look, TableView};
+use crate::view::{ReadAtHeight, TableView};
 use rel_base::{Key, List, NoMemory, Seen, Value};
-use row_sets::entry::{Entry, entry_at};
+use row_sets::entry::{LogEntry, entry_at};
 use std::alloc::Global;
 
 /// The ends of a span, each of which may be absent.
@@ -33,7 +33,7 @@ pub struct Ends<'a> {
 }
 
 /// The index by the values of a column of a table, where there is one.
-pub fn column_of(columns: &[Column], column: u32) -> Option<&Column>
+pub fn column_of(columns: &[ColumnIndex], column: u32) -> Option<&ColumnIndex>
     ensures some { IfSome (option_copied result) (λ own. (own.column ≡ column) × Contains columns.now own) }
     ensures none { option_copied result ≡ None → All (λ own. own.column ≡ column → ⊥) columns.now }
 {
@@ -56,7 +56,7 @@ pub fn one_value<'a>(low: &'a Option<Value>, high: &Option<Value>) -> Option<&'a
 }
 
 /// The number of the writes at the start of the log that are in no block above a height. Each look halves what is left.
-fn search_above(entries: &[Entry], height: u64) -> usize
+fn search_above(entries: &[LogEntry], height: u64) -> usize
     requires in_order { InOrder (history_of entries.now) }
     ensures bound { result ≤ length entries.now }
     ensures low { All (λ stamped. stamped.0 ≤ height) (take result (history_of entries.now)) }
@@ -76,7 +76,7 @@ fn search_above(entries: &[Entry], height: u64) -> usize
 
 /// The number of the writes at the start of the log that are in no block above a height. Most reads name the last height, and then one
 /// look tells it.
-pub fn first_above(entries: &[Entry], height: u64) -> usize
+pub fn first_above(entries: &[LogEntry], height: u64) -> usize
     requires in_order { InOrder (history_of entries.now) }
     ensures bound { result ≤ length entries.now }
     ensures low { All (λ stamped. stamped.0 ≤ height) (take result (history_of entries.now)) }
@@ -105,7 +105,7 @@ pub fn add_above<'a>(
 fn add_touching<'a>(
     view: &TableView<'a>,
     found: &mut Vec<Candidate<'a>>,
-    column: &Column,
+    column: &ColumnIndex,
     value: &Value,
     height: u64,
 ) -> Result<(), NoMemory>
@@ -122,7 +122,7 @@ fn add_touching<'a>(
 fn add_between<'a>(
     view: &TableView<'a>,
     found: &mut Vec<Candidate<'a>>,
-    column: &Column,
+    column: &ColumnIndex,
     ends: Ends<'_>,
     height: u64,
 ) -> Result<(), NoMemory>
@@ -148,7 +148,7 @@ fn add_between<'a>(
 fn add_since<'a>(
     view: &TableView<'a>,
     found: &mut Vec<Candidate<'a>>,
-    column: &Column,
+    column: &ColumnIndex,
     ends: Ends<'_>,
     height: u64,
 ) -> Result<(), NoMemory>
@@ -168,7 +168,7 @@ fn add_since<'a>(
 fn add_by_column<'a>(
     view: &TableView<'a>,
     found: &mut Vec<Candidate<'a>>,
-    column: &Column,
+    column: &ColumnIndex,
     ends: Ends<'_>,
     height: u64,
 ) -> Result<(), NoMemory>
@@ -196,7 +196,7 @@ fn is_last(last: Option<&Key>, key: &Key) -> bool
 fn rows_of_found(
     alloc: Global,
     view: &TableView<'_>,
-    look: &Look<'_>,
+    look: &ReadAtHeight<'_>,
     value: Option<&Value>,
     found: &[Candidate<'_>],
 ) -> Result<List<Seen>, NoMemory>
@@ -265,7 +265,7 @@ fn keys_of_span<'a>(
 pub fn rows_of_span(
     alloc: Global,
     view: &TableView<'_>,
-    look: &Look<'_>,
+    look: &ReadAtHeight<'_>,
     column: u32,
     low: &Option<Value>,
     high: &Option<Value>,

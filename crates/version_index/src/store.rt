@@ -10,12 +10,12 @@ ghost use Rattle.version_index.specs.Kept.{store_history, store_spare, store_tab
 use crate::finding::find_version;
 use crate::growth::note_tail;
 use crate::index::TableIndex;
+use crate::lifespans::{all_back, chain_back, oldest_first};
 use crate::reading::{late_at, rows_at};
 use crate::steps::Steps;
-use crate::versions::{all_back, chain_back, oldest_first};
-use crate::view::{Look, TableView};
+use crate::view::{ReadAtHeight, TableView};
 use rel_base::{Key, List, NoMemory, Place, Read, Seen, TableDef, Twin, Write};
-use row_sets::entry::{Entry, push_all};
+use row_sets::entry::{LogEntry, push_all};
 use row_sets::hits::{Watch, def_of};
 use row_sets::{HitRef, Lifespan, Versions};
 use std::alloc::Global;
@@ -34,7 +34,7 @@ use std::sync::ledger::Ledger;
 pub struct IndexVersions {
     alloc: Global,
     tables: List<TableDef>,
-    log: Vec<Entry>,
+    log: Vec<LogEntry>,
     /// The indexes of the tables. They tell of the first entries of the log, as many as `noted` says.
     indexes: Vec<TableIndex>,
     noted: usize,
@@ -74,7 +74,7 @@ fn no_indexes(alloc: Global, defs: &[TableDef]) -> Result<Vec<TableIndex>, NoMem
 
 /// The log, as the index of a table sees it.
 fn view_of<'a>(
-    entries: &'a [Entry],
+    entries: &'a [LogEntry],
     indexes: &'a [TableIndex],
     noted: usize,
     table: u32,
@@ -155,7 +155,7 @@ impl Versions for IndexVersions {
             self.noted,
             read.table(),
         );
-        rows_at(self.alloc, &view, &Look { def, read, height })
+        rows_at(self.alloc, &view, &ReadAtHeight { def, read, height })
     }
 
     fn late_hit(&self, after: u64, upto: u64, read: &Read) -> Option<HitRef<'_>> {

@@ -13,7 +13,7 @@ use Rattle.rel_base.specs.Tables.{Stamped, writes_between}
 use Rattle.rel_base.proofs.Bits.{first_true}
 use Rattle.rel_base.proofs.Lists.{drop_next, item_of}
 use Rattle.row_sets.proofs.Histories.{unwrapped}
-use Rattle.row_sets.specs.declared.entry.Entry.{Entry}
+use Rattle.row_sets.specs.declared.entry.LogEntry.{LogEntry}
 use Rattle.row_sets.specs.Log.{history_of, stamped_of}
 use Rattle.row_sets.specs.Watched.{is_watched}
 use Rattle.row_sets.specs.declared.hits.Watch.{Watch}
@@ -21,7 +21,7 @@ use Rattle.version_store.specs.Hits.{least_of, lesser_hit}
 use Rattle.version_store.specs.Log.{IsOfTable, write_of}
 
 -- the committed write of a number
-pub get_history : (log : List Entry) (number : ℕ) (entry : Entry) → slice_get log number ≡ Some entry → slice_get (history_of log) number ≡ Some (stamped_of entry)
+pub get_history : (log : List LogEntry) (number : ℕ) (entry : LogEntry) → slice_get log number ≡ Some entry → slice_get (history_of log) number ≡ Some (stamped_of entry)
 get_history [] number entry there = cc
 get_history (c ∷ cs) zero entry there = ap (λ found. option_map stamped_of found) there
 get_history (c ∷ cs) (suc number) entry there = get_history cs number entry there
@@ -33,32 +33,32 @@ all_got P (y ∷ ys) zero x there all = subst P (unwrapped y x there) (All-head 
 all_got P (y ∷ ys) (suc number) x there all = all_got P ys number x there (All-tail P y ys all)
 
 -- the write of a number of a table
-pub of_table_below : (log : List Entry) (table number : ℕ) → IsOfTable log table number → number < length log
+pub of_table_below : (log : List LogEntry) (table number : ℕ) → IsOfTable log table number → number < length log
 of_table_below [] table number there = absurd there
 of_table_below (c ∷ cs) table zero there = omega arith
 of_table_below (c ∷ cs) table (suc number) there = let below = of_table_below cs table number there in omega (arith, below)
 
-pub all_below : (log : List Entry) (table : ℕ) (least : Option ℕ) → IfSome least (IsOfTable log table) → IfSome least (λ n. n < length log)
+pub all_below : (log : List LogEntry) (table : ℕ) (least : Option ℕ) → IfSome least (IsOfTable log table) → IfSome least (λ n. n < length log)
 all_below log table None there = tt
 all_below log table (Some number) there = of_table_below log table number there
 
 -- a write that is hit is of the table of the read
-pub hit_table : (watch : Watch) (entry : Entry) → is_watched watch (stamped_of entry) ≡ true → entry.placed.write.table ≡ read_table watch.read.now
+pub hit_table : (watch : Watch) (entry : LogEntry) → is_watched watch (stamped_of entry) ≡ true → entry.placed.write.table ≡ read_table watch.read.now
 hit_table watch entry hit =
     let write = entry.placed.write in
     let between = nat_lt watch.after entry.block && nat_le entry.block watch.upto in
     sym ((Decides-eqb (read_table watch.read.now) write.table).0 (first_true (read_table watch.read.now == write.table) _ (first_true (hits_write watch.def.now watch.read.now write) between hit)))
 
 -- one of two is of the table, where both are
-pub either_of_table : (log : List Entry) (table number result : ℕ) (other : Option ℕ) (entry : Entry) → slice_get log number ≡ Some entry → entry.placed.write.table ≡ table
+pub either_of_table : (log : List LogEntry) (table number result : ℕ) (other : Option ℕ) (entry : LogEntry) → slice_get log number ≡ Some entry → entry.placed.write.table ≡ table
     → IfSome other (IsOfTable log table) → (result ≡ number) ⊎ (Some result ≡ other) → IsOfTable log table result
 either_of_table log table number result other entry there same others (inl is) =
-    subst (IsOfTable log table) (sym is) (subst (λ found. IsSomeAnd found (λ (c : Entry). c.placed.write.table ≡ table)) (sym there) same)
+    subst (IsOfTable log table) (sym is) (subst (λ found. IsSomeAnd found (λ (c : LogEntry). c.placed.write.table ≡ table)) (sym there) same)
 either_of_table log table number result other entry there same others (inr is) = subst (λ found. IfSome found (IsOfTable log table)) (sym is) others
 
 -- the write of a number of a table is of it
-pub table_of_got : (log : List Entry) (table number : ℕ) (entry : Entry) → slice_get log number ≡ Some entry → IsOfTable log table number → entry.placed.write.table ≡ table
-table_of_got log table number entry there of_table = subst (λ found. IsSomeAnd found (λ (c : Entry). c.placed.write.table ≡ table)) there of_table
+pub table_of_got : (log : List LogEntry) (table number : ℕ) (entry : LogEntry) → slice_get log number ≡ Some entry → IsOfTable log table number → entry.placed.write.table ≡ table
+table_of_got log table number entry there of_table = subst (λ found. IsSomeAnd found (λ (c : LogEntry). c.placed.write.table ≡ table)) there of_table
 
 -- ---- the lesser of two
 

@@ -13,12 +13,12 @@ ghost use Rattle.version_store.specs.Log.{IsOfTable, write_of};
 
 use rel_base::{Read, TableDef};
 use row_sets::HitRef;
-use row_sets::entry::{Entry, entry_at, place_at};
+use row_sets::entry::{LogEntry, entry_at, place_at};
 use row_sets::hits::{Watch, covers_part, def_of, is_hit};
 use std::cmp::Ordering;
 
 /// The order of two writes: by block, position and key.
-fn compare(a: &Entry, b: &Entry) -> Ordering
+fn compare(a: &LogEntry, b: &LogEntry) -> Ordering
     ensures { result ≡ stamp_cmp (stamped_of a.now) (stamped_of b.now) }
 {
     let by_key = a.placed.write.key.cmp(&b.placed.write.key);
@@ -27,7 +27,7 @@ fn compare(a: &Entry, b: &Entry) -> Ordering
 }
 
 /// The number of the lesser of a write and of another one that may be there, and of the first where they tie.
-fn lesser_of(log: &[Entry], number: usize, other: Option<usize>) -> usize
+fn lesser_of(log: &[LogEntry], number: usize, other: Option<usize>) -> usize
     requires number { number < length log.now }
     requires other { IfSome other (λ n. n < length log.now) }
     ensures lesser { (stamped : Stamped) → slice_get (history_of log.now) number ≡ Some stamped → slice_get (history_of log.now) result ≡ Some (lesser stamp_cmp stamped (write_of (history_of log.now) other)) }
@@ -49,7 +49,7 @@ fn lesser_of(log: &[Entry], number: usize, other: Option<usize>) -> usize
 
 /// The number of the least hit from a number on, by that of the least one behind it.
 fn least_with(
-    log: &[Entry],
+    log: &[LogEntry],
     watch: &Watch<'_>,
     number: usize,
     least: Option<usize>,
@@ -69,7 +69,7 @@ fn least_with(
 }
 
 /// The number of the least write, by block, position and key, in the blocks above `after` and up to `upto` that a read hits.
-fn least_at(log: &[Entry], watch: &Watch<'_>) -> Option<usize>
+fn least_at(log: &[LogEntry], watch: &Watch<'_>) -> Option<usize>
     requires read_fits { ReadFits watch.now.def.now watch.now.read.now }
     requires fits { FitsTable watch.now.def.now (read_table watch.now.read.now) (history_of log.now) }
     ensures on_table { IfSome result (IsOfTable log.now (read_table watch.now.read.now)) }
@@ -85,7 +85,7 @@ fn least_at(log: &[Entry], watch: &Watch<'_>) -> Option<usize>
 }
 
 /// What is told of a write that a read hits.
-fn hit_ref<'a>(defs: &[TableDef], read: &Read, entry: &'a Entry) -> HitRef<'a>
+fn hit_ref<'a>(defs: &[TableDef], read: &Read, entry: &'a LogEntry) -> HitRef<'a>
     requires read_fits { ReadFitsIn defs.now read.now }
     requires on_table { entry.now.placed.write.table ≡ read_table read.now }
     requires write_fits { WriteFitsIn defs.now entry.now.placed.write }
@@ -104,7 +104,7 @@ fn hit_ref<'a>(defs: &[TableDef], read: &Read, entry: &'a Entry) -> HitRef<'a>
 /// where it hits none.
 pub fn late_at<'a>(
     defs: &[TableDef],
-    log: &'a [Entry],
+    log: &'a [LogEntry],
     read: &Read,
     after: u64,
     upto: u64,

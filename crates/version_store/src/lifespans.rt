@@ -8,11 +8,11 @@ ghost use Rattle.row_sets.specs.Log.{history_of};
 
 use rel_base::{Key, List, NoMemory, Place, Row, Twin};
 use row_sets::Lifespan;
-use row_sets::entry::{Entry, entry_at, is_on_key, place_at};
+use row_sets::entry::{LogEntry, entry_at, is_on_key, place_at};
 use std::alloc::Global;
 
 /// The place of the first write on a key from a number on.
-fn next_on(log: &[Entry], start: usize, table: u32, key: &Key) -> Option<Place>
+fn next_on(log: &[LogEntry], start: usize, table: u32, key: &Key) -> Option<Place>
     ensures { result ≡ option_map place_of (find (is_of_key table key.now) (drop start (history_of log.now))) }
 {
     for number in start..log.len() {
@@ -47,7 +47,7 @@ fn add_row(
 fn add_version(
     alloc: Global,
     versions: &mut List<Lifespan>,
-    log: &[Entry],
+    log: &[LogEntry],
     number: usize,
     passes: bool,
 ) -> Result<(), NoMemory>
@@ -67,7 +67,7 @@ fn add_version(
 /// All versions of the row of a key, in the order in which they were made.
 pub fn of_key(
     alloc: Global,
-    log: &[Entry],
+    log: &[LogEntry],
     table: u32,
     key: &Key,
 ) -> Result<List<Lifespan>, NoMemory>
@@ -82,7 +82,7 @@ pub fn of_key(
 }
 
 /// All versions of the rows of a table, in the order in which they were made.
-pub fn of_table(alloc: Global, log: &[Entry], table: u32) -> Result<List<Lifespan>, NoMemory>
+pub fn of_table(alloc: Global, log: &[LogEntry], table: u32) -> Result<List<Lifespan>, NoMemory>
     ensures { IfOk result (λ versions. versions ≡ lifespans (is_of_table table) (history_of log.now)) }
 {
     let mut versions = List::new(alloc);

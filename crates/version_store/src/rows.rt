@@ -14,7 +14,7 @@ ghost use Rattle.row_sets.specs.Log.{FitsTable, history_of, stamped_of};
 ghost use Rattle.version_store.specs.Rows.{AreRows, covered_seen, row_at};
 
 use rel_base::{Key, List, NoMemory, Place, Read, Row, Seen, TableDef, Twin};
-use row_sets::entry::{Entry, entry_at, place_at};
+use row_sets::entry::{LogEntry, entry_at, place_at};
 use row_sets::hits::def_of;
 use std::alloc::Global;
 use std::collections::BTreeMap;
@@ -48,7 +48,7 @@ fn set_row(
     def: &TableDef,
     read: &Read,
     rows: &mut BTreeMap<Key, Seen>,
-    entry: &Entry,
+    entry: &LogEntry,
 ) -> Result<(), NoMemory>
     requires read_fits { ReadFits def.now read.now }
     requires row_fits { IfSome entry.now.placed.write.after (λ row. RowFits def.now row) }
@@ -76,7 +76,7 @@ fn go_on(
     read: &Read,
     height: u64,
     rows: &mut BTreeMap<Key, Seen>,
-    entry: &Entry,
+    entry: &LogEntry,
 ) -> Result<(), NoMemory>
     requires read_fits { ReadFits def.now read.now }
     requires write_fits { entry.now.placed.write.table ≡ read_table read.now → WriteFits def.now entry.now.placed.write }
@@ -97,7 +97,7 @@ fn rows_by_key(
     def: &TableDef,
     read: &Read,
     height: u64,
-    log: &[Entry],
+    log: &[LogEntry],
 ) -> Result<BTreeMap<Key, Seen>, NoMemory>
     requires read_fits { ReadFits def.now read.now }
     requires fits { FitsTable def.now (read_table read.now) (history_of log.now) }
@@ -126,7 +126,7 @@ fn in_order(alloc: Global, rows: BTreeMap<Key, Seen>) -> Result<List<Seen>, NoMe
 pub fn rows_at(
     alloc: Global,
     defs: &[TableDef],
-    log: &[Entry],
+    log: &[LogEntry],
     read: &Read,
     height: u64,
 ) -> Result<List<Seen>, NoMemory>

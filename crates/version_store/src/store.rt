@@ -6,7 +6,7 @@ use crate::hits::late_at;
 use crate::lifespans::{of_key, of_table};
 use crate::rows::rows_at;
 use rel_base::{Key, List, NoMemory, Place, Read, Seen, TableDef, Twin, Write};
-use row_sets::entry::{Entry, push_all};
+use row_sets::entry::{LogEntry, push_all};
 use row_sets::{HitRef, Lifespan, Versions};
 use std::alloc::Global;
 use std::marker::Model;
@@ -17,7 +17,7 @@ use std::marker::Model;
 pub struct PlainVersions {
     alloc: Global,
     tables: List<TableDef>,
-    log: Vec<Entry>,
+    log: Vec<LogEntry>,
 }
 
 impl Model for PlainVersions {

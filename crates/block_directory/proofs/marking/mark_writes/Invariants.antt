@@ -1,11 +1,11 @@
 use Rattle.std.proofs.Common.{drop, length, ◌≡◌}
-use Rattle.block_directory.proofs.Marks.{Keeps, MarkedSoFar}
+use Rattle.block_directory.proofs.Marks.{KeepsMarks, MarkedSoFar}
 use Rattle.block_directory.proofs.marking.mark_writes.Given as goal
 use Rattle.block_directory.specs.Marking.{is_place_of}
 
 -- no mark went, and those so far are marked
 abbrev pub invariant-loop-write : goal.invariant-loop-write
 invariant-loop-write l =
-    Keeps l.fn.words l.words
+    KeepsMarks l.fn.words l.words
     × MarkedSoFar (λ w place. is_place_of w place) l.writes l.number l.words (drop l.write-index l.writes)
     × (length l.words ≡ length l.fn.words)

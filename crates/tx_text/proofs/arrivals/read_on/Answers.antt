@@ -1,6 +1,6 @@
 use Rattle.std.proofs.Common.{◌≡◌, ◌∷◌, ◌++◌, List, ℕ, rules, sym, subst, Err, Result}
 use Rattle.tx_text.specs.declared.arrivals.ArrivalFault.{ArrivalFault}
-use Rattle.tx_text.specs.declared.arrivals.Read.{Read}
+use Rattle.tx_text.specs.declared.arrivals.ReadArrivals.{ReadArrivals}
 use Rattle.tx_text.specs.Parts.{parts_of}
 use Rattle.tx_text.specs.Taking.{GivesFar}
 use Rattle.tx_text.specs.Listing.{walk}
@@ -13,7 +13,7 @@ returns-in_err-tx c =
     let same : c.from_residual-in_err-tx.result ≡ Err c.in_err-tx.field-0.0 = search rules in
     let bytes : c.deref.result.now ≡ c.args.held.now ++ c.args.end.now = search rules in
     subst (λ (line : List ℕ). GivesFar c.from_residual-in_err-tx.result (walk arrivals_form c.args.line (line ∷ parts_of c.args.after.now))) bytes
-    (subst (λ (r : Result Read ArrivalFault). GivesFar r (walk arrivals_form c.args.line (c.deref.result.now ∷ parts_of c.args.after.now))) (sym same)
+    (subst (λ (r : Result ReadArrivals ArrivalFault). GivesFar r (walk arrivals_form c.args.line (c.deref.result.now ∷ parts_of c.args.after.now))) (sym same)
     (first_stops c.in_err-tx.field-0.0 c.args.line c.deref.result.now c.args.after.now c.in_err-tx.ensures.taken))
 
 pub returns : goal.returns

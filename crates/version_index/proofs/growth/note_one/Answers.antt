@@ -3,7 +3,7 @@ use Rattle.std.proofs.Math.Seq.{map-set_same}
 use Rattle.row_sets.proofs.Endings.{on_ok_then, on_err_then}
 use Rattle.row_sets.specs.Log.{history_of}
 use Rattle.version_index.specs.Index.{AreNoted, IsIndex}
-use Rattle.version_index.specs.declared.column.Column.{Column}
+use Rattle.version_index.specs.declared.column.ColumnIndex.{ColumnIndex}
 use Rattle.version_index.specs.declared.index.TableIndex.{TableIndex}
 use Rattle.version_index.proofs.Indexed.{index_from}
 use Rattle.version_index.proofs.Tabled.{noted_in, same_in}
@@ -30,5 +30,5 @@ returns-clause-same c =
 
 pub returns-clause-columns : goal.returns-clause-columns
 returns-clause-columns c =
-    let columns : TableIndex → List ℕ = λ index. map (λ (column : Column). column.column) index.columns.items in
+    let columns : TableIndex → List ℕ = λ index. map (λ (column : ColumnIndex). column.column) index.columns.items in
     map-set_same columns c.args.indexes.now.items c.entry_at.result.now.placed.write.table c.note.new.self c.index_mut.result.now (c.note.ensures.columns ∙ ap columns c.index_mut.ensures.value)

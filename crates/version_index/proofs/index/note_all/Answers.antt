@@ -3,7 +3,7 @@ use Rattle.std.specs.List.{AllZip}
 use Rattle.std.specs.Option.{option_copied}
 use Rattle.rel_base.specs.declared.value.Value.{Value}
 use Rattle.version_index.specs.Columns.{IsNotedIn, IsReady, cell, has, has_slot}
-use Rattle.version_index.specs.declared.column.Column.{Column}
+use Rattle.version_index.specs.declared.column.ColumnIndex.{ColumnIndex}
 use Rattle.version_index.proofs.Zipped.{left_first, left_next, zip_next}
 use Rattle.version_index.proofs.index.note_all.Goals as goal
 
@@ -19,7 +19,7 @@ pub note-requires-clause-was : goal.note-requires-clause-was
 note-requires-clause-was c =
     let old = c.args.columns.now.items in
     let index = c.loop-column.column-index in
-    let Was : Column → Type 0 = λ column. (v : Value) → has_slot column.living.entries v c.args.slot ≡ has v (cell column.column (option_copied c.args.found)) in
+    let Was : ColumnIndex → Type 0 = λ column. (v : Value) → has_slot column.living.entries v c.args.slot ≡ has v (cell column.column (option_copied c.args.found)) in
     let below = subst (λ xs. index < length xs) c.deref_mut-column-items.ensures.value c.loop-column-test.true in
     subst Was (sym (left_first old c.loop-column.column-items index c.column-item.result c.loop-column.invariant.1)) (c.requires.was index c.column-item.result below)
 

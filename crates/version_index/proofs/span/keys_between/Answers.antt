@@ -7,7 +7,7 @@ use Rattle.std.specs.Ordering.{nat_cmp, ordering_then}
 use Rattle.rel_base.specs.Value.{key_cmp}
 use Rattle.rel_base.specs.declared.value.Value.{Value}
 use Rattle.version_index.specs.Candidates.{has_key}
-use Rattle.version_index.specs.declared.column.Column.{Column}
+use Rattle.version_index.specs.declared.column.ColumnIndex.{ColumnIndex}
 use Rattle.version_index.specs.Span.{HasCellAt, keys_in}
 use Rattle.version_index.proofs.Distinct.{distinct_rises, le_first, rises_sorted, sorted_has}
 use Rattle.version_index.proofs.span.keys_between.Goals.{in-None+in_ok-add_by_key-in-None, in-Some+in_ok-add_by_column-in-Some}
@@ -25,7 +25,7 @@ pub returns-clause-all : goal.returns-clause-all
 returns-clause-all c key wanted =
     sorted_has c.match-column_of.found.items c.sort.new.self.items c.in_ok-sort.ensures.permutation key
     (elim c.match-column_of.branch [
-      | in-None+in_ok-add_by_key-in-None w ↦ subst (λ (found : Vec (Bor (List Value) × Option ℕ) Global). has_key found.items key ≡ true) (sym w.found-is) (w.in_ok-add_by_key-in-None.ensures.added key (wanted.by_key (subst (All (λ (own : Column). own.column ≡ c.args.column → ⊥)) c.as_slice.ensures.value (w.in-None.ensures.none refl))))
+      | in-None+in_ok-add_by_key-in-None w ↦ subst (λ (found : Vec (Bor (List Value) × Option ℕ) Global). has_key found.items key ≡ true) (sym w.found-is) (w.in_ok-add_by_key-in-None.ensures.added key (wanted.by_key (subst (All (λ (own : ColumnIndex). own.column ≡ c.args.column → ⊥)) c.as_slice.ensures.value (w.in-None.ensures.none refl))))
       | in-Some+in_ok-add_by_column-in-Some w ↦ subst (λ (found : Vec (Bor (List Value) × Option ℕ) Global). has_key found.items key ≡ true) (sym w.found-is)
           (w.in_ok-add_by_column-in-Some.ensures.added key
           (subst (λ number. HasCellAt c.args.view.now number c.args.ends.low.now c.args.ends.high.now c.args.height key) (sym w.in-Some.ensures.some.0) wanted.by_cell))

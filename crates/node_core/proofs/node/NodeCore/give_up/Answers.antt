@@ -1,5 +1,5 @@
 use Rattle.std.proofs.Common.{[], true, length, rules, subst, sym, ◌++◌, ◌∙◌, ◌≡◌, ◌∷◌}
-use Rattle.block_work.specs.Ids.{place_of}
+use Rattle.block_work.specs.Ids.{place_of_id}
 use Rattle.node_core.proofs.Ending.{back_free, release_kept}
 use Rattle.node_core.proofs.Held_works.{has_spare, held_there, room_after}
 use Rattle.node_core.proofs.Settled.{settled_is}
@@ -27,7 +27,7 @@ invariant_of-self g c =
     let s = c.self.inside in
     let held = subst (λ (core : Core). IsHeld core c.args.work.now) (sym c.self.view_is) c.requires.held in
     let at : c.height-height.result ≡ length s.chain.blocks = search rules in
-    let found : c.settled_in-settled.result ≡ up_to c.height-height.result (place_of s.ids c.args.work.now.told.tx.id) = search rules in
+    let found : c.settled_in-settled.result ≡ up_to c.height-height.result (place_of_id s.ids c.args.work.now.told.tx.id) = search rules in
     let is = found ∙ settled_is _ c.self.invariant.0 c.height-height.result c.args.work.now.told.tx.id at in
     let noted : c.push_reserved.new.self.items ≡ s.journal.items ++ record { actor = c.args.work.now.actor; event = Release c.args.work.now.job } ∷ [] = search rules in
     let rows : c.give_back.new.jobs ≡ put_row s.jobs c.args.work.now.job (stage_given_back c.settled_in-settled.result) = search rules in (

@@ -1,7 +1,7 @@
 use Rattle.std.proofs.Common.{IfSome, None, Option, Some, [], ap, length, rules, subst, sym, false, ◌+◌, ◌++◌, ◌∙◌, ◌≡◌, ◌≤◌, ◌∷◌}
 use Rattle.std.specs.Option.{is_some, option_map}
 use Rattle.std.specs.Prelude.{vec_capacity, vec_len}
-use Rattle.block_work.specs.Ids.{place_of}
+use Rattle.block_work.specs.Ids.{place_of_id}
 use Rattle.node_core.proofs.Answering.{read_gone, read_held, read_kept, read_order, read_steps}
 use Rattle.node_core.proofs.Settled.{settled_is}
 use Rattle.node_core.specs.Answers.{got_as, got_of}
@@ -27,7 +27,7 @@ returns-in-Some-clause-step g c =
     let s = c.self.inside in
     let held = subst (λ (core : Core). IsHeld core c.args.work.now) (sym c.self.view_is) c.requires.held in
     let at : c.height-height.result ≡ length s.chain.blocks = search rules in
-    let found : c.settled_in.result ≡ up_to c.height-height.result (place_of s.ids c.args.work.now.told.tx.id) = search rules in
+    let found : c.settled_in.result ≡ up_to c.height-height.result (place_of_id s.ids c.args.work.now.told.tx.id) = search rules in
     let is : settled_in c.args.work.now.told.tx.id (world s.chain.app.value.app s.journal.items).sealed ≡ Some c.in-Some.number =
     sym (settled_is _ c.self.invariant.0 c.height-height.result c.args.work.now.told.tx.id at) ∙ (sym found ∙ c.in-Some.is) in
     subst (λ (core : Core). Steps core c.args.work.now.actor (steps.ToRead c.args.work.now.job) (steps.Gone c.in-Some.number) core) c.self.view_is
@@ -50,7 +50,7 @@ invariant_of-self-in-Some-wanted g c =
     let next : IsNextRead c.args.work.now.told c.in-Some-wanted.read.now = subst (λ (o : Option Read). IfSome o (IsNextRead c.args.work.now.told)) asks c.wanted.ensures.next in
     let whole : c.args.work.now.cut ≡ false = search rules in
     let at : c.height-height.result ≡ length s.chain.blocks = search rules in
-    let found : up_to c.height-height.result (place_of s.ids c.args.work.now.told.tx.id) ≡ None = search rules in
+    let found : up_to c.height-height.result (place_of_id s.ids c.args.work.now.told.tx.id) ≡ None = search rules in
     let live : settled_in c.args.work.now.told.tx.id (world s.chain.app.value.app s.journal.items).sealed ≡ None = sym (settled_is _ c.self.invariant.0 c.height-height.result c.args.work.now.told.tx.id at) ∙ found in
     let hits : c.find_hit-hit.result ≡ option_map stamps.place_of (least_hit (g.V.Versions.tables s.chain.versions) c.in-Some-wanted.read.now (writes_between c.args.work.now.told.tx.height c.height-height.result (g.V.Versions.history s.chain.versions))) = search rules in
     let noted : c.push_reserved.new.self.items ≡ s.journal.items ++ record { actor = c.args.work.now.actor; event = event.Read c.args.work.now.job } ∷ [] = search rules in
@@ -65,7 +65,7 @@ returns-clause-step g c =
     let next : IsNextRead c.args.work.now.told c.in-Some-wanted.read.now = subst (λ (o : Option Read). IfSome o (IsNextRead c.args.work.now.told)) asks c.wanted.ensures.next in
     let whole : c.args.work.now.cut ≡ false = search rules in
     let at : c.height-height.result ≡ length s.chain.blocks = search rules in
-    let found : up_to c.height-height.result (place_of s.ids c.args.work.now.told.tx.id) ≡ None = search rules in
+    let found : up_to c.height-height.result (place_of_id s.ids c.args.work.now.told.tx.id) ≡ None = search rules in
     let live : settled_in c.args.work.now.told.tx.id (world s.chain.app.value.app s.journal.items).sealed ≡ None = sym (settled_is _ c.self.invariant.0 c.height-height.result c.args.work.now.told.tx.id at) ∙ found in
     let hits : c.find_hit-hit.result ≡ option_map stamps.place_of (least_hit (g.V.Versions.tables s.chain.versions) c.in-Some-wanted.read.now (writes_between c.args.work.now.told.tx.height c.height-height.result (g.V.Versions.history s.chain.versions))) = search rules in
     let noted : c.push_reserved.new.self.items ≡ s.journal.items ++ record { actor = c.args.work.now.actor; event = event.Read c.args.work.now.job } ∷ [] = search rules in
@@ -81,7 +81,7 @@ returns-clause-held g c =
     let next : IsNextRead c.args.work.now.told c.in-Some-wanted.read.now = subst (λ (o : Option Read). IfSome o (IsNextRead c.args.work.now.told)) asks c.wanted.ensures.next in
     let whole : c.args.work.now.cut ≡ false = search rules in
     let at : c.height-height.result ≡ length s.chain.blocks = search rules in
-    let found : up_to c.height-height.result (place_of s.ids c.args.work.now.told.tx.id) ≡ None = search rules in
+    let found : up_to c.height-height.result (place_of_id s.ids c.args.work.now.told.tx.id) ≡ None = search rules in
     let live : settled_in c.args.work.now.told.tx.id (world s.chain.app.value.app s.journal.items).sealed ≡ None = sym (settled_is _ c.self.invariant.0 c.height-height.result c.args.work.now.told.tx.id at) ∙ found in
     let hits : c.find_hit-hit.result ≡ option_map stamps.place_of (least_hit (g.V.Versions.tables s.chain.versions) c.in-Some-wanted.read.now (writes_between c.args.work.now.told.tx.height c.height-height.result (g.V.Versions.history s.chain.versions))) = search rules in
     let noted : c.push_reserved.new.self.items ≡ s.journal.items ++ record { actor = c.args.work.now.actor; event = event.Read c.args.work.now.job } ∷ [] = search rules in

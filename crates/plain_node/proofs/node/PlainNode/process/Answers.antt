@@ -1,7 +1,7 @@
 use Rattle.std.proofs.Common.{IfSome, [], arith, length, subst, sym, ◌++◌, ◌≤◌, ◌∷◌}
 use Rattle.block_work.proofs.Places.{as_before}
 use Rattle.block_work.proofs.Replayed.{results_run_again}
-use Rattle.block_work.specs.Ids.{Forgets, place_of}
+use Rattle.block_work.specs.Ids.{Forgets, place_of_id}
 use Rattle.node_model.specs.Fold.{fold}
 use Rattle.plain_node.proofs.Holding.{holds_next}
 use Rattle.plain_node.proofs.node.PlainNode.process.Goals as goal
@@ -28,4 +28,4 @@ returns-in-Err-clause-same_ids g c =
 pub returns-in-Err-clause-ids : goal.returns-in-Err-clause-ids
 returns-in-Err-clause-ids g c = λ id.
     subst (λ found. IfSome found (λ place. place.block ≤ length c.add_block.new.chain.blocks)) (sym (returns-in-Err-clause-same_ids g c id))
-    (subst (λ blocks. IfSome (place_of c.args.self.now.ids id) (λ place. place.block ≤ length blocks)) (sym c.in-Err.ensures.same_blocks) (c.requires.ids id))
+    (subst (λ blocks. IfSome (place_of_id c.args.self.now.ids id) (λ place. place.block ≤ length blocks)) (sym c.in-Err.ensures.same_blocks) (c.requires.ids id))

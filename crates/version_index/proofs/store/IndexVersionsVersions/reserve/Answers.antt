@@ -1,6 +1,6 @@
 use Rattle.std.proofs.Common.{◌<◌, All, length, refl, subst, sym}
 use Rattle.row_sets.specs.Log.{history_of}
-use Rattle.row_sets.specs.declared.entry.Entry.{Entry}
+use Rattle.row_sets.specs.declared.entry.LogEntry.{LogEntry}
 use Rattle.version_index.specs.Index.{AreNoted}
 use Rattle.version_index.proofs.Keeping.{entries_below, kept_noted}
 use Rattle.version_index.proofs.store.IndexVersionsVersions.reserve.Goals as goal
@@ -8,7 +8,7 @@ use Rattle.version_index.proofs.store.IndexVersionsVersions.reserve.Goals as goa
 -- the writes of the log are of tables that have an index
 pub note_tail-requires-clause-tables : goal.note_tail-requires-clause-tables
 note_tail-requires-clause-tables c =
-    subst (All (λ (entry : Entry). entry.placed.write.table < length c.self.inside.indexes.items)) (sym c.as_slice.ensures.value)
+    subst (All (λ (entry : LogEntry). entry.placed.write.table < length c.self.inside.indexes.items)) (sym c.as_slice.ensures.value)
     (entries_below c.self.inside.tables c.self.inside.log.items c.self.inside.indexes.items c.self.inside.noted c.self.invariant)
 
 pub note_tail-requires-clause-old : goal.note_tail-requires-clause-old

@@ -1,0 +1,18 @@
+use Rattle.std.proofs.Common.{◌∙◌, ◌&&◌, ap, not, subst}
+use Rattle.row_sets.proofs.Endings.{on_ok_then}
+use Rattle.version_index.specs.Columns.{IsRoomy, cell, has}
+use Rattle.version_index.proofs.column.ColumnIndex.hold.Goals as goal
+
+pub returns-clause-ready : goal.returns-clause-ready
+returns-clause-ready c =
+    let column = c.args.self.now.column in
+    let touched = c.hold_values.new.touched.entries in
+    let found = c.value_in-found.ensures in
+    let before = c.value_in-before.ensures ∙ ap (cell column) c.as_ref.ensures.value in
+    let after = c.value_in-after.ensures ∙ ap (cell column) c.as_ref-2.ensures.value in
+    on_ok_then c.hold_at.result (λ held. record {
+      held = λ v there. held v (c.unless.ensures v ∙ (λ i. has v (after i) && not (has v (found i))) ∙ there);
+      found_room = subst (IsRoomy touched) found c.in_ok-hold_values.ensures.found;
+      before_room = subst (IsRoomy touched) before c.in_ok-hold_values.ensures.before;
+      after_room = subst (IsRoomy touched) after c.in_ok-hold_values.ensures.after;
+    }) c.hold_at.ensures.held
