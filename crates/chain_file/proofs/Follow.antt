@@ -15,7 +15,7 @@ use Rattle.chain_file.specs.declared.section.FileForm.TheVariants as form
 use Rattle.chain_file.specs.declared.section.Section.{Section}
 use Rattle.chain_file.specs.declared.section.Section.TheVariants as place
 use Rattle.chain_file.specs.declared.section.Taken.{Taken}
-use Rattle.chain_file.specs.declared.standing.Spot.{Spot}
+use Rattle.chain_file.specs.declared.standing.LinePoint.{LinePoint}
 use Rattle.chain_file.specs.Draft.{block_of}
 use Rattle.chain_file.specs.Steps.{goes_on as leaves_it, is_number, has_end, is_next, has_digits, numbered, begun_by, ends, end_block, add_tx, line_step, step}
 use Rattle.chain_file.specs.Chain.{Position, bytes_in, position_after, take_line, told}
@@ -114,14 +114,14 @@ goes_behind p (place.Within f count txs) None old new line digits bytes text lea
 goes_behind p (place.Within f count txs) (Some block) old new line digits bytes text leaves is inside knows = absurd leaves
 
 -- the step of the code and the one that is meant
-meant_step : (at : Position) (s : Spot) (h : Hashes) (text : List ℕ) → Stands s h at → step s.place h.digits text ≡ step at.place at.digits text
+meant_step : (at : Position) (s : LinePoint) (h : Hashes) (text : List ℕ) → Stands s h at → step s.place h.digits text ≡ step at.place at.digits text
 meant_step at s h text stands = ap (λ (p : Section). step p h.digits text) stands.1 ∙ step_known at.place h at.digits at.bytes text stands.3
 
-pub goes_wrong : (at : Position) (s : Spot) (h : Hashes) (text : List ℕ) (k : ChainKind) → Stands s h at → step s.place h.digits text ≡ Err k → take_line at text ≡ Err (record { line = s.line; kind = k })
+pub goes_wrong : (at : Position) (s : LinePoint) (h : Hashes) (text : List ℕ) (k : ChainKind) → Stands s h at → step s.place h.digits text ≡ Err k → take_line at text ≡ Err (record { line = s.line; kind = k })
 goes_wrong at s h text k stands is =
     ap (told at text) (sym (meant_step at s h text stands) ∙ is) ∙ ap (λ (n : ℕ). Err (record { line = n; kind = k })) (sym stands.0)
 
-pub goes_on : (at : Position) (s : Spot) (old new : Hashes) (text : List ℕ) (taken : Taken) → Stands s old at → step s.place old.digits text ≡ Ok taken → IsHashed old new taken.place taken.ended text
+pub goes_on : (at : Position) (s : LinePoint) (old new : Hashes) (text : List ℕ) (taken : Taken) → Stands s old at → step s.place old.digits text ≡ Ok taken → IsHashed old new taken.place taken.ended text
     → (then : Position) × StandsBehind (s.line + 1) taken.place new then × (take_line at text ≡ Ok (then, taken.ended))
 goes_on at s old new text taken stands is hashes =
     let meant : step at.place at.digits text ≡ Ok taken = sym (meant_step at s old text stands) ∙ is in

@@ -16,7 +16,7 @@ use Rattle.chain_file.specs.declared.section.Section.TheVariants as place
 use Rattle.chain_file.specs.declared.section.Taken.{Taken}
 use Rattle.chain_file.specs.declared.going.Going.{Going}
 use Rattle.chain_file.specs.declared.hash.Hashes.{Hashes}
-use Rattle.chain_file.specs.declared.standing.Spot.{Spot}
+use Rattle.chain_file.specs.declared.standing.LinePoint.{LinePoint}
 use Rattle.chain_file.specs.declared.reader.ReadBlocks.{ReadBlocks}
 use Rattle.chain_file.specs.declared.resume.More.TheVariants as more
 use Rattle.chain_file.specs.Draft.{block_of}
@@ -151,13 +151,13 @@ ends_resume kept g bytes after read blank blocks reads is =
 
 -- ---- the spot is as before
 
-abbrev again : (s : Spot) (p : Section) → is_near s.line p ≡ true → Spot
+abbrev again : (s : LinePoint) (p : Section) → is_near s.line p ≡ true → LinePoint
 again s p near = record { line = s.line; place = p; near = near }
 
-same_near : (s : Spot) (near : is_near s.line s.place ≡ true) → again s s.place near ≡ s
+same_near : (s : LinePoint) (near : is_near s.line s.place ≡ true) → again s s.place near ≡ s
 same_near s near =
     let one : IsProp (is_near s.line s.place ≡ true) = hlevel (Bool-set) in
     ap (again s s.place) (one near s.near)
 
-pub same_spot : (s : Spot) (p : Section) (near : is_near s.line p ≡ true) → p ≡ s.place → record { line = s.line; place = p; near = near } ≡ s
+pub same_spot : (s : LinePoint) (p : Section) (near : is_near s.line p ≡ true) → p ≡ s.place → record { line = s.line; place = p; near = near } ≡ s
 same_spot s p near is = subst (λ (q : Section). (n : is_near s.line q ≡ true) → again s q n ≡ s) (sym is) (same_near s) near

@@ -8,7 +8,7 @@ use Rattle.chain_file.specs.declared.section.FileForm.TheVariants as form
 use Rattle.chain_file.specs.declared.section.Section.{Section}
 use Rattle.chain_file.specs.declared.section.Section.TheVariants as place
 use Rattle.chain_file.specs.declared.hash.Hashes.{Hashes}
-use Rattle.chain_file.specs.declared.standing.Spot.{Spot}
+use Rattle.chain_file.specs.declared.standing.LinePoint.{LinePoint}
 use Rattle.chain_file.specs.declared.standing.Standing.{Standing}
 use Rattle.chain_file.specs.declared.advance.LineStop.{LineStop}
 use Rattle.chain_file.specs.declared.advance.LineStop.TheVariants as stop
@@ -33,7 +33,7 @@ Knows form.Draft h digits bytes = Unit {0}
 Knows form.Chain h digits bytes = (h.digits ≡ digits) × Holds256 h.block bytes
 
 -- the code knows this before a line
-abbrev pub Stands : Spot → Hashes → Position → Type 0
+abbrev pub Stands : LinePoint → Hashes → Position → Type 0
 Stands s h at = (s.line ≡ at.line) × (s.place ≡ at.place) × (bytes_in at.place at.bytes ≡ at.bytes) × Knows (form_of at.place) h at.digits at.bytes
 
 abbrev pub StandsAt : Standing → Position → Type 0
@@ -57,7 +57,7 @@ IsHashed old new next ended line =
     (digits bytes : List ℕ) → Knows (form_of next) old digits bytes → Knows (form_of next) new (digits_behind ended digits (bytes ++ line_text line)) (hashed next ended bytes line)
 
 -- what the code says behind a line, unless memory ran out
-abbrev pub TakesLine : Result (Spot × Option Block) LineStop → Hashes → Result (Position × Option Block) ChainFault → Type 0
+abbrev pub TakesLine : Result (LinePoint × Option Block) LineStop → Hashes → Result (Position × Option Block) ChainFault → Type 0
 TakesLine (Ok next) h meant = (at : Position) × Stands next.0 h at × (meant ≡ Ok (at, next.1))
 TakesLine (Err stop.NoMemory) h meant = Unit {0}
 TakesLine (Err (stop.Fault found)) h meant = meant ≡ Err found

@@ -7,18 +7,18 @@ ghost use Rattle.chain_file.specs.Following.{IsHashed, Stands, StandsAt, TakesLi
 
 use crate::hash::Hashes;
 use crate::section::{Section, Taken};
-use crate::standing::{Spot, Standing};
+use crate::standing::{LinePoint, Standing};
 use crate::step::{StepFault, step};
 use proc_syntax::{Block, ChainFault};
 use std::alloc::Global;
 
-impl Spot {
+impl LinePoint {
     /// The first line.
-    pub fn front() -> Spot
+    pub fn front() -> LinePoint
         ensures line { result.line ≡ front.line }
         ensures place { result.place ≡ front.place }
     {
-        Spot {
+        LinePoint {
             line: 1,
             place: Section::Start,
         }
@@ -31,7 +31,7 @@ impl Standing {
         ensures { StandsAt result front }
     {
         Standing {
-            spot: Spot::front(),
+            spot: LinePoint::front(),
             hashes: Hashes::front(),
         }
     }
@@ -61,19 +61,19 @@ fn hash_line(hashes: &mut Hashes, taken: &Taken, text: &[u8])
 #[tactic(auto, using(crate::proofs::Near::near_step, crate::proofs::Near::near_low, crate::proofs::Near::near_room))]
 pub fn take_line(
     alloc: Global,
-    spot: Spot,
+    spot: LinePoint,
     hashes: &mut Hashes,
     text: &[u8],
-) -> Result<(Spot, Option<Block>), LineStop>
+) -> Result<(LinePoint, Option<Block>), LineStop>
     ensures { (at : Position) → Stands spot hashes.old at → TakesLine result hashes.new (take_line at text.now) }
 {
-    let Spot { line, place } = spot;
+    let LinePoint { line, place } = spot;
     match step(alloc, place, &hashes.digits, text) {
         Ok(taken) => {
             hash_line(hashes, &taken, text);
             let Taken { place, ended } = taken;
             let line = line + 1;
-            Ok((Spot { line, place }, ended))
+            Ok((LinePoint { line, place }, ended))
         }
         Err(StepFault::NoMemory) => Err(LineStop::NoMemory),
         Err(StepFault::Kind(kind)) => Err(LineStop::Fault(ChainFault { line, kind })),

@@ -13,17 +13,17 @@ use crate::going::Going;
 use crate::reader::{ReadBlocks, State};
 use crate::resume::More;
 use crate::section::Section;
-use crate::standing::{Spot, Standing};
+use crate::standing::{LinePoint, Standing};
 use proc_syntax::{Block, Tx};
 use rel_base::{List, NoMemory};
 use std::alloc::Global;
 
 /// Takes out the transactions of the block that has begun, with more behind them. Where memory is wanting, all is as before.
-fn take_txs(spot: &mut Spot, more: List<Tx>) -> Result<List<Tx>, NoMemory>
+fn take_txs(spot: &mut LinePoint, more: List<Tx>) -> Result<List<Tx>, NoMemory>
     ensures all { IfOk result (λ all. all ≡ txs_in spot.old.place ++ more) }
     ensures err { OnErr result (spot.new ≡ spot.old) }
 {
-    let Spot { line, place } = std::mem::replace(spot, Spot::front());
+    let LinePoint { line, place } = std::mem::replace(spot, LinePoint::front());
     match place {
         Section::Start | Section::Between { .. } => Ok(more),
         Section::Within {
@@ -36,7 +36,7 @@ fn take_txs(spot: &mut Spot, more: List<Tx>) -> Result<List<Tx>, NoMemory>
                 return Ok(txs);
             }
             let place = Section::Within { form, count, txs };
-            *spot = Spot { line, place };
+            *spot = LinePoint { line, place };
             Err(NoMemory)
         }
     }
@@ -46,7 +46,7 @@ fn take_txs(spot: &mut Spot, more: List<Tx>) -> Result<List<Tx>, NoMemory>
 #[tactic(auto, using(crate::proofs::Near::going_near))]
 fn keep_going(
     alloc: Global,
-    spot: &mut Spot,
+    spot: &mut LinePoint,
     going: Going,
     held: List<u8>,
 ) -> Result<ReadBlocks, NoMemory>
@@ -64,7 +64,7 @@ fn keep_going(
     } = going;
     let txs = take_txs(spot, txs)?;
     let place = Section::Within { form, count, txs };
-    let spot = Spot { line, place };
+    let spot = LinePoint { line, place };
     let standing = Standing { spot, hashes };
     Ok(ReadBlocks {
         blocks: List::new(alloc),
@@ -88,7 +88,7 @@ fn put_block(blocks: &mut List<Block>, number: u64, txs: List<Tx>)
 
 /// Moves the transactions that the block had before, where it goes on, or to those of the piece, where it ended. Where memory is
 /// wanting, all is as before.
-pub fn finish(alloc: Global, spot: &mut Spot, more: More) -> Result<ReadBlocks, NoMemory>
+pub fn finish(alloc: Global, spot: &mut LinePoint, more: More) -> Result<ReadBlocks, NoMemory>
     requires { Fits (txs_in spot.old.place) more }
     ensures reads { (meant : Walked) → Resumes (txs_in spot.old.place) more meant → IfOk result (λ read. Reads read meant) }
     ensures err { OnErr result (spot.new ≡ spot.old) }

@@ -12,7 +12,7 @@ ghost use Rattle.chain_file.specs.Resumed.{Begins, Counts, Fits, Resumes, behind
 use crate::going::Going;
 use crate::reader::{ReadBlocks, State, read_lines};
 use crate::section::{FileForm, Section};
-use crate::standing::{Spot, Standing};
+use crate::standing::{LinePoint, Standing};
 use crate::step::{StepFault, told_within};
 use proc_syntax::{Block, ChainFault, ChainKind, Tx};
 use rel_base::{List, NoMemory};
@@ -54,7 +54,7 @@ fn outside(standing: &Standing, place: Section) -> Result<Standing, NoMemory>
 {
     let line = standing.spot.line;
     Ok(Standing {
-        spot: Spot { line, place },
+        spot: LinePoint { line, place },
         hashes: standing.hashes.copy()?,
     })
 }
@@ -138,7 +138,7 @@ fn end_going(alloc: Global, going: Going, line: &[u8], after: &[u8]) -> Result<M
     } = going;
     hashes.end(form, line);
     let count = count + 1;
-    let spot = Spot {
+    let spot = LinePoint {
         line: number + 1,
         place: Section::Between { form, count },
     };

@@ -4,7 +4,7 @@ ghost use Rattle.std.specs.Prelude.{◌≡◌, ◌++◌, ◌∷◌, codes, decim
 ghost use Rattle.std.specs.List.{flat_map};
 ghost use Rattle.chain_file.specs.Text.{CanStand, tx_line};
 ghost use Rattle.tx_text.specs.Parts.{line_text};
-ghost use Rattle.chain_file.specs.Chain.{chain};
+ghost use Rattle.chain_file.specs.Chain.{chain, hash_digits};
 ghost use Rattle.chain_file.specs.ChainText.{chain_text, chained_text};
 
 use crate::hash::{NO_DIGITS, digits_of_bytes};
@@ -37,15 +37,25 @@ fn push_first(out: &mut Vec<u8>, number: u64, digits: &[u8]) -> Result<(), NoMem
     Ok(())
 }
 
-/// The lines of a block, whose hash has these digits.
-fn block_lines(alloc: Global, digits: &[u8], block: &Block) -> Result<Vec<u8>, NoMemory>
-    ensures { IfOk result (λ text. text.items ≡ chained_text digits.now block.now) }
+/// Writes the lines of a block at the end, behind a block whose hash has these digits.
+fn push_block(out: &mut Vec<u8>, digits: &[u8], block: &Block) -> Result<(), NoMemory>
+    ensures { OnOk result (out.new.items ≡ out.old.items ++ chained_text digits.now block.now) }
 {
-    let mut out = Vec::new(alloc);
-    push_first(&mut out, block.number, digits)?;
-    push_txs(&mut out, block.txs.as_slice())?;
+    push_first(out, block.number, digits)?;
+    push_txs(out, block.txs.as_slice())?;
     out.extend_from_slice(b"end\n")?;
-    Ok(out)
+    Ok(())
+}
+
+/// Writes the lines of a block at the end, and answers the digits of its hash.
+fn push_chained(out: &mut Vec<u8>, digits: &[u8], block: &Block) -> Result<[u8; 64], NoMemory>
+    ensures text { OnOk result (out.new.items ≡ out.old.items ++ chained_text digits.now block.now) }
+    ensures digits { IfOk result (λ next. next ≡ hash_digits (chained_text digits.now block.now)) }
+{
+    let start = out.len();
+    push_block(out, digits, block)?;
+    let text = &out[start..];
+    Ok(digits_of_bytes(text))
 }
 
 /// The lines of a chain file of blocks.
@@ -55,9 +65,7 @@ fn chain_lines(alloc: Global, blocks: &[Block]) -> Result<Vec<u8>, NoMemory>
     let mut out = Vec::from_slice(alloc, b"chain 1\n")?;
     let mut digits = NO_DIGITS;
     for block in blocks {
-        let text = block_lines(alloc, &digits, block)?;
-        out.extend_from_slice(&text)?;
-        digits = digits_of_bytes(&text);
+        digits = push_chained(&mut out, &digits, block)?;
     }
     Ok(out)
 }

@@ -8,7 +8,7 @@ use crate::section::Section;
 
 /// A line: its number, and where it stands.
 #[derive(Drop)]
-pub struct Spot {
+pub struct LinePoint {
     /// The line's number, from 1.
     pub line: u64,
     pub place: Section,
@@ -18,6 +18,6 @@ pub struct Spot {
 /// What is known before a line.
 #[derive(Drop)]
 pub struct Standing {
-    pub spot: Spot,
+    pub spot: LinePoint,
     pub hashes: Hashes,
 }

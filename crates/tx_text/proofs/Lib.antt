@@ -14,3 +14,4 @@ pub mod Plain
 pub mod ListedText
 pub mod ListedItems
 pub mod Written
+pub mod Newline

@@ -4,17 +4,18 @@ ghost use Rattle.std.specs.Prelude.{◌≡◌, ◌<◌, ◌≤◌, length};
 ghost use Rattle.std.specs.List.{position_or_len};
 ghost use Rattle.tx_text.specs.Parts.{is_newline, parts_of, SplitsLine, IsShorter};
 
+use memchr::memchr;
+
 /// Where the first newline stands, or the length where there is none.
+#[tactic(auto, using(crate::proofs::Newline::no_newline, crate::proofs::Newline::first_newline))]
 fn newline_at(bytes: &[u8]) -> usize
     ensures value { result ≡ position_or_len is_newline bytes.now }
     ensures bound { result ≤ length bytes.now }
 {
-    for (at, byte) in bytes.iter().enumerate() {
-        if *byte == b'\n' {
-            return at;
-        }
+    match memchr(b'\n', bytes) {
+        Some(at) => at,
+        None => bytes.len(),
     }
-    bytes.len()
 }
 
 /// The first line without its newline, and what follows it; nothing where no newline is left.
