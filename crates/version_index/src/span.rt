@@ -123,17 +123,18 @@ fn add_between<'a>(
     view: &TableView<'a>,
     found: &mut Vec<Candidate<'a>>,
     column: &ColumnIndex,
-    ends: Ends<'_>,
+    low: &Option<Value>,
+    high: &Option<Value>,
     height: u64,
 ) -> Result<(), NoMemory>
     requires view { IsView view.now }
     requires column { IsColumn view.now.table (history_in view.now) view.now.noted view.now.index.now.chains column.now }
-    requires forward { is_forward ends.low.now ends.high.now ≡ true }
-    ensures { OnOk result (Adds view.now.index.now.chains found.old.items found.new.items (IsChangedBetween view.now column.now.column ends.entry.low.now ends.entry.high.now height)) }
+    requires forward { is_forward low.now high.now ≡ true }
+    ensures { OnOk result (Adds view.now.index.now.chains found.old.items found.new.items (IsChangedBetween view.now column.now.column low.now high.now height)) }
 {
     let start = first_above(view.entries, height);
     let mut spare = view.entries.len() - start;
-    for (_, numbers) in column.touched.range((end(ends.low), end(ends.high))) {
+    for (_, numbers) in column.touched.range((end(low), end(high))) {
         if spare == 0 {
             return add_above(view, found, height);
         }
@@ -141,26 +142,6 @@ fn add_between<'a>(
         add_listed(view, found, numbers.as_slice(), height)?;
     }
     add_from(view, found, view.noted)
-}
-
-/// Adds the keys that may have lost a row between the ends of a span, which are in order, since the block of a height: those that were
-/// written since by a write that touched a value between the ends.
-fn add_since<'a>(
-    view: &TableView<'a>,
-    found: &mut Vec<Candidate<'a>>,
-    column: &ColumnIndex,
-    ends: Ends<'_>,
-    height: u64,
-) -> Result<(), NoMemory>
-    requires view { IsView view.now }
-    requires column { IsColumn view.now.table (history_in view.now) view.now.noted view.now.index.now.chains column.now }
-    requires forward { is_forward ends.low.now ends.high.now ≡ true }
-    ensures { OnOk result (Adds view.now.index.now.chains found.old.items found.new.items (IsChangedBetween view.now column.now.column ends.entry.low.now ends.entry.high.now height)) }
-{
-    match one_value(ends.low, ends.high) {
-        None => add_between(view, found, column, ends, height),
-        Some(value) => add_touching(view, found, column, value, height),
-    }
 }
 
 /// Adds the keys whose row after the block of a height may have a value of a column between the ends of a span, which are in order, by the
@@ -178,7 +159,10 @@ fn add_by_column<'a>(
     ensures { OnOk result (Adds view.now.index.now.chains found.old.items found.new.items (HasCellAt view.now column.now.column ends.entry.low.now ends.entry.high.now height)) }
 {
     add_living(view, found, &column.living, ends.low, ends.high)?;
-    add_since(view, found, column, ends, height)
+    match one_value(ends.low, ends.high) {
+        None => add_between(view, found, column, ends.low, ends.high, height),
+        Some(value) => add_touching(view, found, column, value, height),
+    }
 }
 
 /// Whether a key is the last one.

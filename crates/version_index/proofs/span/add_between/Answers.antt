@@ -24,7 +24,7 @@ add_listed-requires-clause-numbers c =
     let e : Value × Vec ℕ Global = (c.in-Some.field-0-0.now, c.in-Some.numbers.now) in
     let done = c.loop-numbers.invariant in
     subst (ArePassing view.noted) (sym c.as_slice.ensures.value)
-    (numbers_pass view.table (history_in view) view.noted view.index.now.chains column c.requires.column (λ f. range_contains value_cmp (end_of c.args.ends.low.now) (end_of c.args.ends.high.now) f.0) done.0 c.next.new.self
+    (numbers_pass view.table (history_in view) view.noted view.index.now.chains column c.requires.column (λ f. range_contains value_cmp (end_of c.args.low.now) (end_of c.args.high.now) f.0) done.0 c.next.new.self
     c.loop-numbers.numbers-iterator c.into_iter-numbers-iterator.result e c.range-numbers-items.ensures.ordered done.1
     (c.into_iter-numbers-iterator.ensures.into_iter_gives ∙ c.range-numbers-items.ensures.between tt
     ∙ (λ i. filter {X = Value × Vec ℕ Global} (λ f. range_contains value_cmp (c.end.ensures i) (c.end-2.ensures i) f.0) column.touched.entries)) c.in-Some.ensures.steps)
@@ -48,8 +48,8 @@ returns-then-spare-eq0 c =
     let column = c.args.column.now.column in
     let done = c.loop-numbers.invariant in
     on_ok c.add_above.result (adds_then view.index.now.chains c.args.found.now.items c.loop-numbers.found.items c.add_above.new.found.items (ByOne done.0 (λ e key. IsListedAbove view e.1.items c.args.height key))
-    (IsChangedAbove view c.args.height) (IsChangedBetween view column c.args.ends.low.now c.args.ends.high.now c.args.height)
-    (λ key changed. inr (changed_above view c.requires.view c.args.height column c.args.ends.low.now c.args.ends.high.now key changed)) done.2) c.add_above.ensures
+    (IsChangedAbove view c.args.height) (IsChangedBetween view column c.args.low.now c.args.high.now c.args.height)
+    (λ key changed. inr (changed_above view c.requires.view c.args.height column c.args.low.now c.args.high.now key changed)) done.2) c.add_above.ensures
 
 -- a write touched a value between the ends or stands in the tail
 pub returns : goal.returns
@@ -57,19 +57,19 @@ returns c =
     let view = c.args.view.now in
     let done = c.loop-numbers.invariant in
     on_ok c.add_from.result (adds_then view.index.now.chains c.args.found.now.items c.loop-numbers.found.items c.add_from.new.found.items (ByOne done.0 (λ e key. IsListedAbove view e.1.items c.args.height key))
-    (IsWrittenFrom view view.noted) (IsChangedBetween view c.args.column.now.column c.args.ends.low.now c.args.ends.high.now c.args.height) either done.2) c.add_from.ensures
+    (IsWrittenFrom view view.noted) (IsChangedBetween view c.args.column.now.column c.args.low.now c.args.high.now c.args.height) either done.2) c.add_from.ensures
   where
-    all : c.loop-numbers.invariant.0 ≡ filter (λ e. range_contains value_cmp (end_of c.args.ends.low.now) (end_of c.args.ends.high.now) e.0) c.args.column.now.touched.entries
+    all : c.loop-numbers.invariant.0 ≡ filter (λ e. range_contains value_cmp (end_of c.args.low.now) (end_of c.args.high.now) e.0) c.args.column.now.touched.entries
     all =
         let none : c.loop-numbers.numbers-iterator ≡ [] = c.in-None.ensures.steps.0 in
         all_done c.loop-numbers.invariant.0 c.loop-numbers.numbers-iterator c.into_iter-numbers-iterator.result c.loop-numbers.invariant.1 none ∙ c.into_iter-numbers-iterator.ensures.into_iter_gives
         ∙ c.range-numbers-items.ensures.between tt ∙ (λ i. filter {X = Value × Vec ℕ Global} (λ e. range_contains value_cmp (c.end.ensures i) (c.end-2.ensures i) e.0) c.args.column.now.touched.entries)
 
-    either : (key : List Value) → IsChangedBetween c.args.view.now c.args.column.now.column c.args.ends.low.now c.args.ends.high.now c.args.height key
+    either : (key : List Value) → IsChangedBetween c.args.view.now c.args.column.now.column c.args.low.now c.args.high.now c.args.height key
         → ByOne c.loop-numbers.invariant.0 (λ e k. IsListedAbove c.args.view.now e.1.items c.args.height k) key ⊎ IsWrittenFrom c.args.view.now c.args.view.now.noted key
     either key (value, between, inr written) = inr written
     either key (value, between, inl above) =
         let view = c.args.view.now in
         let column = c.args.column.now in
         inl (subst (λ es. ByOne es (λ e k. IsListedAbove view e.1.items c.args.height k) key) (sym all)
-        (by_listed view column c.args.ends.low.now c.args.ends.high.now value c.args.height key between (listed_at view column value c.args.height key c.requires.column above)))
+        (by_listed view column c.args.low.now c.args.high.now value c.args.height key between (listed_at view column value c.args.height key c.requires.column above)))
