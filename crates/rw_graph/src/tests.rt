@@ -1,6 +1,6 @@
 //! A block with write skew.
 
-use super::danger::danger;
+use super::dangers::danger;
 use super::edge_set::EdgeSet;
 use super::edges::no_edges;
 use node_model::Danger;
