@@ -161,8 +161,10 @@ def compare(program, given):
 def compare_sizes(program, given):
     draw = random.Random(13)
     for name, call in ("payments", payments), ("inserts", inserts), ("sweeps", sweeps):
-        accounts, count = 1000, given.sweeps if name == "sweeps" else given.calls
+        accounts = 1000
         while accounts <= given.accounts * 10:
+            # enough calls that the time of the accounts, which is taken off, does not drown theirs
+            count = max(given.sweeps, accounts // 32) if name == "sweeps" else max(given.calls, accounts // 8)
             work = Work(name, accounts, call(draw, accounts, count))
             product, peer, _ = measure(program, work, given.per_block, 1)
             print(f"{name:>9} over {accounts:>8} accounts: {product:>10,.0f} a second, SQLite {peer:>10,.0f}")
