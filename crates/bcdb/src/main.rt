@@ -20,8 +20,6 @@ pub mod schedule;
 pub mod simulating;
 pub mod simulation;
 pub mod status;
-#[cfg(test)]
-mod tests;
 pub mod top;
 pub mod words;
 

@@ -1,7 +1,7 @@
-//! What journals and results tell.
+//! What journals tell.
 
 use crate::gating::READS;
-use node_model::{Entry, Event, NodeResult};
+use node_model::{Entry, Event};
 
 /// The actor that made a transaction arrive, and its job.
 pub fn arrival_of(journal: &[Entry], id: &str) -> Option<(u32, u64)> {
@@ -44,15 +44,4 @@ pub fn keep_step(journal: &[Entry], first: u64, second: u64) -> bool {
         }
     }
     ones == READS && twos == READS
-}
-
-/// Whether two nodes tell the same blocks and tables.
-pub fn tell_the_same(one: &NodeResult, other: &NodeResult) -> bool {
-    let (blocks, others) = (one.blocks.as_slice(), other.blocks.as_slice());
-    let (tables, theirs) = (one.tables.as_slice(), other.tables.as_slice());
-    let digests = blocks.iter().map(|block| block.digest);
-    digests.eq(others.iter().map(|block| block.digest))
-        && tables.len() == theirs.len()
-        && tables.iter().zip(theirs.iter()).all(|(left, right)| left.table == right.table
-            && left.rows == right.rows)
 }

@@ -1,8 +1,10 @@
-//! Tests of nodes that run in several threads: worked runs whole, in an order of reads that a gate holds.
+//! Tests of nodes that run in several threads: a worked run, in an order of reads that a gate holds.
 #![tactic(auto)]
 
 pub mod calls;
-pub mod gating;
-pub mod journals;
+#[cfg(test)]
+mod gating;
+#[cfg(test)]
+mod journals;
 #[cfg(test)]
 mod tests;

@@ -3,9 +3,9 @@ ghost use Rattle.serial_laws.specs.Chained.{AreNumbered};
 
 use crate::calls::{accounts, add, block, pay};
 use crate::gating::SideBySide;
-use crate::journals::{arrival_of, finisher_of, keep_step, tell_the_same};
-use cluster_run::{Crew, NoGate, run_cluster, run_node};
-use node_model::{Entry, Event, NodeResult, Outcome};
+use crate::journals::{arrival_of, finisher_of, keep_step};
+use cluster_run::{Crew, run_node};
+use node_model::{Entry, Event};
 use proc_syntax::{Block, Tx};
 use rel_base::List;
 use std::alloc::Global;
@@ -30,16 +30,6 @@ fn two_blocks(alloc: Global) -> Result<[Block; 2], Fail>
     first.push(add(alloc, "a3", 3, "ann", 50)?)?;
     first.push(add(alloc, "a4", 4, "ann", 50)?)?;
     Ok([block(1, first)?, block(2, payments(alloc)?)?])
-}
-
-// Whether all transactions of the blocks have committed.
-fn all_commit(told: &NodeResult) -> bool {
-    told.blocks.as_slice().iter().all(|block| {
-        let outcomes = block.outcomes.as_slice();
-        outcomes
-            .iter()
-            .all(|told| matches!(told.outcome, Outcome::Committed))
-    })
 }
 
 // Whether an entry is an arrival.
@@ -72,32 +62,5 @@ fn two_payments_side_by_side(rt: HostRuntime) -> Result<(), Fail> {
             (Some(1), Some(2)) | (Some(2), Some(1))
         )
     );
-    let alone = Crew::new(1, 0, &blocks, &[], &NoGate);
-    let plain = run_node::<IndexVersions, _, _>(&rt, alloc, &app, &alone)?;
-    assert!(rt; all_commit(&plain));
-    assert_eq!(rt; plain.blocks.len(), 2);
-    assert!(rt; tell_the_same(&made, &plain));
-    Ok(())
-}
-
-#[test]
-fn three_nodes_at_which_other_things_arrive(rt: HostRuntime) -> Result<(), Fail> {
-    let alloc = rt.alloc();
-    let app = accounts(alloc)?;
-    let blocks = two_blocks(alloc)?;
-    let mut others = List::new(alloc);
-    others.push(pay(alloc, "p1", [2, 1, 7])?)?;
-    others.push(pay(alloc, "p2", [4, 3, 60])?)?;
-    let arrivals = [payments(alloc)?, others, List::new(alloc)];
-    let nodes = run_cluster::<IndexVersions, _, _>(
-        &rt, alloc, &app, &blocks, &arrivals, 2, &NoGate,
-    )?;
-    let [one, two, three] = nodes.as_slice() else {
-        return Err("not three nodes".into());
-    };
-    assert_eq!(rt; one.blocks.len(), 2);
-    assert!(rt; all_commit(one));
-    assert!(rt; tell_the_same(one, two));
-    assert!(rt; tell_the_same(one, three));
     Ok(())
 }

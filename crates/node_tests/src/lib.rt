@@ -1,11 +1,17 @@
 //! Tests of the node that threads share: what no clause says, as that turns come, and worked runs whole.
 #![tactic(auto)]
 
-pub mod bringing;
-pub mod crews;
-pub mod folding;
-pub mod looking;
-pub mod opening;
+#[cfg(test)]
+mod bringing;
+#[cfg(test)]
+mod crews;
+#[cfg(test)]
+mod folding;
+#[cfg(test)]
+mod looking;
+#[cfg(test)]
+mod opening;
 #[cfg(test)]
 mod tests;
-pub mod wandering;
+#[cfg(test)]
+mod wandering;

@@ -8,8 +8,6 @@ mod read;
 mod run;
 mod simulation;
 pub mod step;
-#[cfg(test)]
-mod tests;
 mod working;
 
 pub use parse::{MOST_STEPS, ScheduleFault, parse_schedule};

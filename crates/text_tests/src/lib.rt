@@ -1,29 +1,10 @@
-//! Tests of files, lines and reports: printed bytes, worked files, and what no contract says of their readers.
+//! Tests of files and codes: a code that was written out by hand, calls that the program does not make, and shelves and sinks that fail in
+//! mid-stream.
 #![tactic(auto)]
 
 #[cfg(test)]
-mod arithmetic;
-#[cfg(test)]
-mod arrivals;
-#[cfg(test)]
-mod chains;
-#[cfg(test)]
-mod checks;
-#[cfg(test)]
 mod digests;
 #[cfg(test)]
-mod journals;
-#[cfg(test)]
-mod json_reports;
-#[cfg(test)]
-mod limits;
-#[cfg(test)]
-mod pieces;
+mod files;
 #[cfg(test)]
 mod shelves;
-#[cfg(test)]
-mod transactions;
-#[cfg(test)]
-mod versions;
-#[cfg(test)]
-mod words;
