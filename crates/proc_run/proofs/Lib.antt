@@ -3,3 +3,4 @@ pub mod Growing
 pub mod Paths
 pub mod Planning
 pub mod Sounds
+pub mod Visited

@@ -1,5 +1,5 @@
 -- One more spot is one more frame.
-use Rattle.std.proofs.Common.{◌≡◌, ℕ, ◌+◌, ◌<◌, ◌≤◌, refl, sym, ap, ◌∙◌, List, [], ◌∷◌, ◌++◌, length, drop, add-one, true, false, Bool, cond, arith, Ok, Err, Option, Some, None}
+use Rattle.std.proofs.Common.{◌≡◌, ℕ, ◌+◌, ◌<◌, ◌≤◌, refl, sym, ap, ◌∙◌, List, [], ◌∷◌, ◌++◌, length, drop, add-one, true, false, Bool, cond, Ok, Err, Option, Some, None}
 use Rattle.std.specs.Prelude.{slice_get}
 use Rattle.std.specs.List.{find}
 use Rattle.std.proofs.lemmas.Bool.{lt-ltb, le-ltb}
@@ -72,7 +72,7 @@ module _ (declared : List TableDef) (columns : List (List (Option ℕ))) (S : Ta
 
   -- ---- a block
 
-  block_rest : (root : List Action) (ss : List Spot) (at next : ℕ) (branch : Branch) (block : List Action) (st : State) → block ≡ part_of (block_of root ss) at branch
+  pub block_rest : (root : List Action) (ss : List Spot) (at next : ℕ) (branch : Branch) (block : List Action) (st : State) → block ≡ part_of (block_of root ss) at branch
       → runs (frames_of root (ss ++ spot.Block at branch next ∷ [])) st ≡ then_do (do_all declared columns S (drop next block) st) (runs (frames_of root ss))
   block_rest root ss at next branch block st same = path_push root ss (spot.Block at branch next) st ∙ ap (λ block. then_do (do_all declared columns S (drop next block) st) (runs (frames_of root ss))) (sym same)
 

@@ -14,11 +14,12 @@ use Rattle.rel_base.specs.Value.{key_cmp}
 use Rattle.row_sets.specs.Overlay.{Written, AreFound, own_of}
 use Rattle.proc_syntax.specs.declared.run.Binding.TheVariants.{Plain}
 use Rattle.proc_syntax.specs.declared.run.Stop.TheVariants as stop
-use Rattle.proc_syntax.specs.Steps.{Going, Stopped, then_do, with_some, asked, insert_at, update_at, delete_at, held_or, each_held}
+use Rattle.proc_syntax.specs.Steps.{Going, Stopped, then_do, with_some, asked, insert_at, update_at, delete_at, held_or, each_held, set_to}
 use Rattle.proc_eval.specs.declared.halt.Halt.{Halt}
 use Rattle.proc_eval.specs.declared.halt.Halt.TheVariants as halt
 use Rattle.proc_code.specs.declared.tree.Action.{Action}
-use Rattle.proc_code.specs.Coded.{State, Progress, put, hold, do_all}
+use Rattle.proc_code.specs.declared.tree.Term.{Term}
+use Rattle.proc_code.specs.Coded.{State, Progress, put, hold, worth_of, do_all}
 use Rattle.proc_run.specs.declared.path.Branch.{Branch}
 use Rattle.proc_run.specs.declared.path.Branch.TheVariants.{First, Second}
 use Rattle.proc_run.specs.declared.path.Spot.{Spot}
@@ -92,6 +93,22 @@ module _ (declared : List TableDef) (columns : List (List (Option ℕ))) (tables
       then_do (answered (part_of (block_of root spots) at First) (part_of (block_of root spots) at Second) made.read pending made.rows state) (run_frames (frames_of root spots))
   remains root phase.Good spots state = Going state
   remains root (phase.Stopped why) spots state = Stopped state why
+
+-- what is left of a block comes to the same, on any tables, from where a run stood and from where it stands
+abbrev pub IsSameRest : List (List (Option ℕ)) → List Action → State → List Action → State → Type 0
+IsSameRest columns before from after to = (declared : List TableDef) (tables : Tables) → do_all declared columns tables after to ≡ do_all declared columns tables before from
+
+-- what is left of the block for a row, and then of the rows of a `for`, whose block is the body
+abbrev pub in_visit : List TableDef → List (List (Option ℕ)) → Tables → ℕ → ℕ → List Action → List Action → List (List Value) → State → Progress
+in_visit declared columns tables slot table body inside rows state = then_do (do_all declared columns tables inside state) (each_held (hold slot table) (do_all declared columns tables body) rows)
+
+-- it comes to the same, on any tables, from where a run stood and from where it stands
+abbrev pub IsSameVisit : List (List (Option ℕ)) → ℕ → ℕ → List Action → List Action → List (List Value) → State → List Action → List (List Value) → State → Type 0
+IsSameVisit columns slot table body before rows from after rest to = (declared : List TableDef) (tables : Tables) → in_visit declared columns tables slot table body after rest to ≡ in_visit declared columns tables slot table body before rows from
+
+-- the step of an assignment is counted, and the variable has the value of the expression
+abbrev pub IsAssigned : List (List (Option ℕ)) → ℕ → Term → State → State → Type 0
+IsAssigned columns slot e from to = set_to (worth_of columns e from.variables) (λ v. put slot (Plain v)) (record from { steps = from.steps + 1 }) ≡ Going to
 
 -- the read that is asked fits its table
 abbrev pub PhaseFits : List TableDef → Phase → Type 0

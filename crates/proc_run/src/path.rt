@@ -59,6 +59,13 @@ pub struct Holder {
     pub table: u32,
 }
 
+/// The rows of a `for`, with the number of the row that is next.
+#[derive(Drop)]
+pub struct RowsLeft {
+    pub rows: List<Row>,
+    pub next: usize,
+}
+
 /// The statements of a procedure, by its number.
 pub fn body_at(code: &AppCode, number: usize) -> &[Action]
     ensures { result.now ≡ body_at code.now number }

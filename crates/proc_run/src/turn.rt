@@ -12,12 +12,13 @@ ghost use Rattle.proc_run.specs.Path.{frames_of};
 ghost use Rattle.proc_run.specs.Planned.{PlanFits};
 ghost use Rattle.proc_run.specs.Remains.{state, goes_past, run_frames, remains, waits, has_rows, PhaseFits};
 
-use crate::path::{Branch, Cursor, Holder, Program, Spot, block_at, part};
-use crate::plan::{Plan, plan_action};
-use crate::state::{MOST_STEPS, Phase, Run};
-use proc_eval::Halt;
-use proc_syntax::{Binding, Fault, Stop};
-use rel_base::{List, NoMemory, Row, Twin};
+use crate::assigning::assign_all;
+use crate::path::{Branch, Cursor, Holder, Program, RowsLeft, Spot, block_at, part};
+use crate::state::{Phase, Run};
+use crate::stepping::{step_block, step_rows};
+use crate::visiting::{Reached, Visit, visit_rows};
+use proc_syntax::Binding;
+use rel_base::{List, NoMemory, Row};
 use std::alloc::Global;
 
 /// Puts a spot at the end of a path, which has room for it.
@@ -79,50 +80,8 @@ pub fn hold(slots: &mut List<Option<Binding>>, holder: Holder, row: Row)
     put(slots, slot, Binding::Held { table, row });
 }
 
-/// The branch of a statement whose first block is next, or whose second.
-fn branch_of(first: bool) -> Branch
-    ensures { result ≡ cond first First Second }
-{
-    if first { Branch::First } else { Branch::Second }
-}
-
-/// Counts the step of the next statement of a block, and does what it comes to, once the rest of the block is on the path. There is
-/// room for two spots.
-fn perform(spots: &mut Vec<Spot>, run: &mut Run, cursor: Cursor, plan: Plan) -> Phase
-    requires room { vec_len spots.old + 2 ≤ vec_capacity spots.old }
-    requires steps { run.old.steps < 100000 }
-    requires next { cursor.next + 1 < 2 ^ 64 }
-    ensures remains { (tables : List Def) (columns : List (List (Option ℕ))) (S : Tables) (root : List Act) → remains tables columns S root result spots.new.items (state run.new)
-        ≡ goes_past tables columns S root spots.old.items cursor.at cursor.branch cursor.next plan (state run.old) }
-    ensures steps { run.new.steps ≡ run.old.steps + 1 }
-    ensures own { run.new.own ≡ run.old.own }
-    ensures made { run.new.made ≡ run.old.made }
-    ensures len { vec_len spots.new ≤ vec_len spots.old + 2 }
-    ensures fits { (tables : List Def) → PlanFits tables plan → PhaseFits tables result }
-    ensures fresh { has_rows result ≡ false }
-{
-    let Cursor { at, branch, next } = cursor;
-    run.steps += 1;
-    push_block(spots, at, branch, next + 1);
-    match plan {
-        Plan::Set { slot, value } => {
-            put(&mut run.slots, slot, Binding::Plain(value));
-            Phase::Running
-        }
-        Plan::Enter { first } => {
-            push_block(spots, next, branch_of(first), 0);
-            Phase::Running
-        }
-        Plan::Ask { read, pending } => Phase::Ask {
-            at: next,
-            read,
-            pending,
-        },
-    }
-}
-
-/// Goes on with a block, which was the last spot of the path: with its next statement, where there is one. Where memory is wanting,
-/// all is as before, with the block as the last spot.
+/// Goes on with a block, which was the last spot of the path: with its assignments that are next, and with the statement after them.
+/// Where memory is wanting, what remains is as before.
 fn turn_block(
     alloc: Global,
     program: &Program<'_>,
@@ -140,82 +99,58 @@ fn turn_block(
     ensures made { run.new.made ≡ run.old.made }
     ensures steps { run.new.steps ≤ 100000 }
     ensures smaller { result ≡ Ok phase.Running → vec_len spots.new + 2 * run.old.steps < vec_len spots.old + 1 + 2 * run.new.steps }
-    ensures err { OnErr result ((spots.new.items ≡ spots.old.items ++ spot.Block cursor.at cursor.branch cursor.next ∷ []) × (run.new ≡ run.old)) }
+    ensures err { OnErr result ((S : Tables) → run_frames program.now.tables.now program.now.columns.now S (frames_of program.now.root.now spots.new.items) (state run.new)
+        ≡ run_frames program.now.tables.now program.now.columns.now S (frames_of program.now.root.now (spots.old.items ++ spot.Block cursor.at cursor.branch cursor.next ∷ [])) (state run.old)) }
 {
     let Cursor { at, branch, next } = cursor;
     let block = part(block_at(program.root, spots), at, branch);
-    if next >= block.len() {
-        return Ok(Phase::Running);
-    }
-    if run.steps >= MOST_STEPS {
-        return Ok(Phase::Stopped(Stop::Fault(Fault::Steps)));
-    }
-    let slots = run.slots.as_slice();
-    match plan_action(alloc, program.tables, program.columns, slots, &block[next]) {
-        Err(Halt::NoMemory) => {
-            push_block(spots, at, branch, next);
-            Err(NoMemory)
-        }
-        Err(Halt::Stop(why)) => {
-            run.steps += 1;
-            Ok(Phase::Stopped(why))
-        }
-        Ok(plan) => Ok(perform(spots, run, cursor, plan)),
-    }
+    let next = assign_all(alloc, program.columns, block, next, run);
+    let cursor = Cursor { at, branch, next };
+    step_block(alloc, program, spots, run, block, cursor)
 }
 
-/// A copy of the row of a number.
-fn row_at(alloc: Global, rows: &[Row], next: usize) -> Result<Row, NoMemory>
-    requires { next < length rows.now }
-    ensures { IfOk result (λ row. slice_get rows.now next ≡ Some row) }
-{
-    rows[next].copy(alloc)
-}
-
-/// Goes on with the rows of a `for`, which were the last spot of the path: with the next row, where there is one. Where memory is
-/// wanting, all is as before, with the rows as the last spot.
+/// Goes on with the rows of a `for`, which were the last spot of the path: with those for which assignments alone are done, and with
+/// the row after them. Where memory is wanting, what remains is as before.
 fn turn_loop(
     alloc: Global,
+    program: &Program<'_>,
     spots: &mut Vec<Spot>,
     run: &mut Run,
     holder: Holder,
-    rows: List<Row>,
-    next: usize,
+    left: RowsLeft,
 ) -> Result<Phase, NoMemory>
     requires room { vec_len spots.old + 2 ≤ vec_capacity spots.old }
     requires steps { run.old.steps ≤ 100000 }
-    ensures remains { IfOk result (λ phase. (tables : List Def) (columns : List (List (Option ℕ))) (S : Tables) (root : List Act) → remains tables columns S root phase spots.new.items (state run.new)
-        ≡ run_frames tables columns S (frames_of root (spots.old.items ++ spot.Loop holder.at holder.slot holder.table rows next ∷ [])) (state run.old)) }
-    ensures fits { IfOk result (λ phase. (tables : List Def) → PhaseFits tables phase) }
+    ensures remains { IfOk result (λ phase. (S : Tables) → remains program.now.tables.now program.now.columns.now S program.now.root.now phase spots.new.items (state run.new)
+        ≡ run_frames program.now.tables.now program.now.columns.now S (frames_of program.now.root.now (spots.old.items ++ spot.Loop holder.at holder.slot holder.table left.rows left.next ∷ [])) (state run.old)) }
+    ensures fits { IfOk result (λ phase. PhaseFits program.now.tables.now phase) }
     ensures fresh { IfOk result (λ phase. has_rows phase ≡ false) }
     ensures own { run.new.own ≡ run.old.own }
     ensures made { run.new.made ≡ run.old.made }
     ensures steps { run.new.steps ≤ 100000 }
     ensures smaller { result ≡ Ok phase.Running → vec_len spots.new + 2 * run.old.steps < vec_len spots.old + 1 + 2 * run.new.steps }
-    ensures err { OnErr result ((spots.new.items ≡ spots.old.items ++ spot.Loop holder.at holder.slot holder.table rows next ∷ []) × (run.new ≡ run.old)) }
+    ensures err { OnErr result ((S : Tables) → run_frames program.now.tables.now program.now.columns.now S (frames_of program.now.root.now spots.new.items) (state run.new)
+        ≡ run_frames program.now.tables.now program.now.columns.now S (frames_of program.now.root.now (spots.old.items ++ spot.Loop holder.at holder.slot holder.table left.rows left.next ∷ [])) (state run.old)) }
 {
-    if next >= rows.len() {
-        return Ok(Phase::Running);
-    }
-    if run.steps >= MOST_STEPS {
-        return Ok(Phase::Stopped(Stop::Fault(Fault::Steps)));
-    }
-    match row_at(alloc, rows.as_slice(), next) {
-        Err(error) => {
-            push_rows(spots, holder, rows, next);
-            Err(error)
-        }
-        Ok(row) => {
-            run.steps += 1;
-            hold(&mut run.slots, holder, row);
-            push_rows(spots, holder, rows, next + 1);
-            push_block(spots, holder.at, Branch::First, 0);
-            Ok(Phase::Running)
-        }
+    let RowsLeft { rows, next } = left;
+    let body = part(block_at(program.root, spots), holder.at, Branch::First);
+    let visit = Visit {
+        columns: program.columns,
+        body,
+        holder,
+        rows: rows.as_slice(),
+    };
+    let Reached { row, statement } = visit_rows(alloc, &visit, next, run);
+    if statement < body.len() {
+        push_rows(spots, holder, rows, row);
+        push_block(spots, holder.at, Branch::First, statement);
+        Ok(Phase::Running)
+    } else {
+        step_rows(alloc, spots, run, holder, rows, row)
     }
 }
 
-/// One turn: the last spot goes on. Where memory is wanting, all is as before.
+/// One turn: the last spot goes on. Where memory is wanting, what remains is as before.
 fn turn(
     alloc: Global,
     program: &Program<'_>,
@@ -232,7 +167,8 @@ fn turn(
     ensures made { run.new.made ≡ run.old.made }
     ensures steps { run.new.steps ≤ 100000 }
     ensures smaller { result ≡ Ok phase.Running → vec_len spots.new + 2 * run.old.steps < vec_len spots.old + 2 * run.new.steps }
-    ensures err { OnErr result ((spots.new.items ≡ spots.old.items) × (run.new ≡ run.old)) }
+    ensures err { OnErr result ((S : Tables) → run_frames program.now.tables.now program.now.columns.now S (frames_of program.now.root.now spots.new.items) (state run.new)
+        ≡ run_frames program.now.tables.now program.now.columns.now S (frames_of program.now.root.now spots.old.items) (state run.old)) }
 {
     match spots.pop() {
         None => Ok(Phase::Good),
@@ -250,7 +186,7 @@ fn turn(
             },
         ) => {
             let holder = Holder { at, slot, table };
-            turn_loop(alloc, spots, run, holder, rows, next)
+            turn_loop(alloc, program, spots, run, holder, RowsLeft { rows, next })
         }
     }
 }

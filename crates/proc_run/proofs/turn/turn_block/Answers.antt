@@ -1,42 +1,26 @@
-use Rattle.std.proofs.Common.{◌≡◌, ap, sym, subst, ◌∙◌, Some, Err, IfOk}
-use Rattle.std.specs.Prelude.{slice_get}
-use Rattle.std.proofs.lemmas.Option.{slice_get-get_or}
+use Rattle.std.proofs.Common.{◌∷◌, [], ◌++◌, ap, ◌∙◌}
+use Rattle.std.proofs.lemmas.Result.{IfOk-weaker, on_err_weaker}
+use Rattle.proc_run.specs.declared.path.Spot.TheVariants.{Block}
 use Rattle.proc_run.specs.Path.{part_of, block_of}
-use Rattle.proc_run.specs.Planned.{plan_of, PlanFits}
 use Rattle.proc_run.specs.Remains.{state}
-use Rattle.proc_run.proofs.Paths.{block_over, block_late, block_stops, block_goes}
-use Rattle.proc_run.proofs.Planning.{plan_fits}
+use Rattle.proc_run.proofs.Visited.{as_before, block_moved}
 use Rattle.proc_run.proofs.turn.turn_block.Goals as goal
-use Rattle.rel_base.proofs.Lists.{item_of}
 
-pub returns-then-next-block-clause-remains : goal.returns-then-next-block-clause-remains
-returns-then-next-block-clause-remains c = λ S.
-    let b = c.part-block.ensures ∙ ap (λ z. part_of z c.args.cursor.at c.args.cursor.branch) (c.block_at.ensures ∙ ap (block_of c.args.program.now.root.now) c.deref.ensures.value) in
-    block_over c.args.program.now.tables.now c.args.program.now.columns.now S c.args.program.now.root.now c.args.spots.now.items c.args.cursor.at c.args.cursor.next c.args.cursor.branch c.part-block.result.now (state c.args.run.now) b c.if-next-block.true
+pub returns-clause-remains : goal.returns-clause-remains
+returns-clause-remains c =
+    let program = c.args.program.now in
+    let cursor = c.args.cursor in
+    let here = c.part-block.ensures ∙ ap (λ z. part_of z cursor.at cursor.branch) (c.block_at.ensures ∙ ap (block_of program.root.now) c.deref.ensures.value) in
+    IfOk-weaker c.step_block.result _ _
+    (λ phase goes S. goes S ∙ block_moved program.tables.now program.columns.now S program.root.now c.args.spots.now.items cursor.at cursor.next c.assign_all-next.result cursor.branch c.part-block.result.now (state c.args.run.now) (state c.assign_all-next.new.run) here c.assign_all-next.ensures.same)
+    c.step_block.ensures.remains
 
-pub returns-then-run-ge-MOST_STEPS-clause-remains : goal.returns-then-run-ge-MOST_STEPS-clause-remains
-returns-then-run-ge-MOST_STEPS-clause-remains c = λ S.
-    let b = c.part-block.ensures ∙ ap (λ z. part_of z c.args.cursor.at c.args.cursor.branch) (c.block_at.ensures ∙ ap (block_of c.args.program.now.root.now) c.deref.ensures.value) in
-    let a = item_of c.part-block.result.now c.args.cursor.next c.if-next-block.false in
-    block_late c.args.program.now.tables.now c.args.program.now.columns.now S c.args.program.now.root.now c.args.spots.now.items c.args.cursor.at c.args.cursor.next c.args.cursor.branch c.part-block.result.now (state c.args.run.now) b a.0 a.1 c.if-run-ge-MOST_STEPS.true
-
-pub returns-in-Err-Stop-clause-remains : goal.returns-in-Err-Stop-clause-remains
-returns-in-Err-Stop-clause-remains c = λ S.
-    let b = c.part-block.ensures ∙ ap (λ z. part_of z c.args.cursor.at c.args.cursor.branch) (c.block_at.ensures ∙ ap (block_of c.args.program.now.root.now) c.deref.ensures.value) in
-    let here : slice_get c.part-block.result.now c.args.cursor.next ≡ Some c.index-block-next.result = slice_get-get_or c.part-block.result.now c.args.cursor.next c.index-block-next.result c.if-next-block.false ∙ ap Some (sym c.index-block-next.is) in
-    let why : plan_of c.args.program.now.tables.now c.args.program.now.columns.now c.index-block-next.result c.as_slice-slots.result.now ≡ Err c.in-Err-Stop.why = rw c.in-Err-Stop.field-0-is at c.in-Err-Stop.ensures in
-    let stops = ap (plan_of c.args.program.now.tables.now c.args.program.now.columns.now c.index-block-next.result) (sym c.as_slice-slots.ensures) ∙ why in
-    rw c.in-Err-Stop.field-0-is
-    (block_stops c.args.program.now.tables.now c.args.program.now.columns.now S c.args.program.now.root.now c.args.spots.now.items c.args.cursor.at c.args.cursor.next c.args.cursor.branch c.part-block.result.now (state c.args.run.now) b c.index-block-next.result here c.in-Err-Stop.why c.if-run-ge-MOST_STEPS.false stops)
-
-pub returns-in-Ok-clause-remains : goal.returns-in-Ok-clause-remains
-returns-in-Ok-clause-remains c = λ S.
-    let b = c.part-block.ensures ∙ ap (λ z. part_of z c.args.cursor.at c.args.cursor.branch) (c.block_at.ensures ∙ ap (block_of c.args.program.now.root.now) c.deref.ensures.value) in
-    let here : slice_get c.part-block.result.now c.args.cursor.next ≡ Some c.index-block-next.result = slice_get-get_or c.part-block.result.now c.args.cursor.next c.index-block-next.result c.if-next-block.false ∙ ap Some (sym c.index-block-next.is) in
-    let goes = ap (plan_of c.args.program.now.tables.now c.args.program.now.columns.now c.index-block-next.result) (sym c.as_slice-slots.ensures) ∙ c.in-Ok.ensures in
-    rw (c.perform.ensures.remains c.args.program.now.tables.now c.args.program.now.columns.now S c.args.program.now.root.now)
-    (block_goes c.args.program.now.tables.now c.args.program.now.columns.now S c.args.program.now.root.now c.args.spots.now.items c.args.cursor.at c.args.cursor.next c.args.cursor.branch c.part-block.result.now (state c.args.run.now) b c.index-block-next.result here c.in-Ok.plan c.if-run-ge-MOST_STEPS.false goes)
-
-pub returns-in-Ok-clause-fits : goal.returns-in-Ok-clause-fits
-returns-in-Ok-clause-fits c =
-    c.perform.ensures.fits c.args.program.now.tables.now (subst (λ r. IfOk r (PlanFits c.args.program.now.tables.now)) c.in-Ok.ensures (plan_fits c.args.program.now.tables.now c.args.program.now.columns.now c.index-block-next.result c.as_slice-slots.result.now))
+pub returns-clause-err : goal.returns-clause-err
+returns-clause-err c =
+    let program = c.args.program.now in
+    let cursor = c.args.cursor in
+    let here = c.part-block.ensures ∙ ap (λ z. part_of z cursor.at cursor.branch) (c.block_at.ensures ∙ ap (block_of program.root.now) c.deref.ensures.value) in
+    on_err_weaker c.step_block.result
+    (λ same S. as_before program.tables.now program.columns.now S program.root.now (c.args.spots.now.items ++ Block cursor.at cursor.branch c.assign_all-next.result ∷ []) c.step_block.new.spots.items c.assign_all-next.new.run c.step_block.new.run same
+    ∙ block_moved program.tables.now program.columns.now S program.root.now c.args.spots.now.items cursor.at cursor.next c.assign_all-next.result cursor.branch c.part-block.result.now (state c.args.run.now) (state c.assign_all-next.new.run) here c.assign_all-next.ensures.same)
+    c.step_block.ensures.err

@@ -1,21 +1,48 @@
-use Rattle.std.proofs.Common.{◌≡◌, ◌<◌, ◌≤◌, arith, length, ap, sym, ◌∙◌, Some}
-use Rattle.std.specs.Prelude.{slice_get}
-use Rattle.proc_run.specs.Remains.{state}
-use Rattle.proc_run.proofs.Paths.{loop_over, loop_late, loop_goes}
+use Rattle.std.proofs.Common.{◌∷◌, [], ◌++◌, ap, subst, ◌∙◌, drop}
+use Rattle.std.proofs.lemmas.Result.{IfOk-weaker, on_err_weaker}
+use Rattle.proc_run.specs.declared.path.Branch.TheVariants.{First}
+use Rattle.proc_run.specs.declared.path.Spot.TheVariants.{Block, Loop}
+use Rattle.proc_run.specs.Path.{part_of, block_of, frames_of}
+use Rattle.proc_run.specs.Remains.{state, run_frames, IsSameVisit}
+use Rattle.proc_run.proofs.Visited.{as_before, visit_goes, visit_rests}
 use Rattle.proc_run.proofs.turn.turn_loop.Goals as goal
 
-pub returns-then-next-len-clause-remains : goal.returns-then-next-len-clause-remains
-returns-then-next-len-clause-remains c = λ tables columns S root.
-    let over : length c.args.rows ≤ c.args.next = omega (arith, c.len.ensures, c.if-next-len.true) in
-    loop_over tables columns S root c.args.spots.now.items c.args.holder.at c.args.holder.slot c.args.holder.table c.args.rows c.args.next (state c.args.run.now) over
+pub returns-then-statement-body-clause-remains : goal.returns-then-statement-body-clause-remains
+returns-then-statement-body-clause-remains c = λ S.
+    let program = c.args.program.now in
+    let holder = c.args.holder in
+    let left = c.args.left in
+    let body = c.part-body.result.now in
+    let visited = c.visit_rows-row in
+    let is_body = c.part-body.ensures ∙ ap (λ z. part_of z holder.at First) (c.block_at.ensures ∙ ap (block_of program.root.now) c.deref.ensures.value) in
+    let same = subst (λ rows. IsSameVisit program.columns.now holder.slot holder.table body [] (drop left.next rows) (state c.args.run.now) (drop visited.result.statement body) (drop visited.result.row rows) (state visited.new.run)) c.as_slice.ensures visited.ensures.same in
+    ap (λ path. run_frames program.tables.now program.columns.now S (frames_of program.root.now path) (state visited.new.run)) (c.push_block.ensures.items ∙ ap (λ items. items ++ Block holder.at First visited.result.statement ∷ []) c.push_rows.ensures.items)
+    ∙ visit_goes program.columns.now holder.slot holder.table body program.tables.now S program.root.now c.args.spots.now.items holder.at left.rows left.next visited.result.row visited.result.statement (state c.args.run.now) (state visited.new.run) is_body same
 
-pub returns-then-run-ge-MOST_STEPS-clause-remains : goal.returns-then-run-ge-MOST_STEPS-clause-remains
-returns-then-run-ge-MOST_STEPS-clause-remains c = λ tables columns S root.
-    let within : c.args.next < length c.args.rows = omega (arith, c.len.ensures, c.if-next-len.false) in
-    loop_late tables columns S root c.args.spots.now.items c.args.holder.at c.args.holder.slot c.args.holder.table c.args.rows c.args.next (state c.args.run.now) within c.if-run-ge-MOST_STEPS.true
+pub returns-else-statement-body-clause-remains : goal.returns-else-statement-body-clause-remains
+returns-else-statement-body-clause-remains c =
+    let program = c.args.program.now in
+    let holder = c.args.holder in
+    let left = c.args.left in
+    let body = c.part-body.result.now in
+    let visited = c.visit_rows-row in
+    let is_body = c.part-body.ensures ∙ ap (λ z. part_of z holder.at First) (c.block_at.ensures ∙ ap (block_of program.root.now) c.deref.ensures.value) in
+    let same = subst (λ rows. IsSameVisit program.columns.now holder.slot holder.table body [] (drop left.next rows) (state c.args.run.now) (drop visited.result.statement body) (drop visited.result.row rows) (state visited.new.run)) c.as_slice.ensures visited.ensures.same in
+    IfOk-weaker c.step_rows.result _ _
+    (λ phase goes S. goes program.tables.now program.columns.now S program.root.now
+    ∙ visit_rests program.columns.now holder.slot holder.table body program.tables.now S program.root.now c.args.spots.now.items holder.at left.rows left.next visited.result.row visited.result.statement (state c.args.run.now) (state visited.new.run) is_body c.if-statement-body.false same)
+    c.step_rows.ensures.remains
 
-pub returns-in-Ok-clause-remains : goal.returns-in-Ok-clause-remains
-returns-in-Ok-clause-remains c = λ tables columns S root.
-    let here : slice_get c.args.rows c.args.next ≡ Some c.in-Ok.row = ap (λ l. slice_get l c.args.next) (sym c.as_slice.ensures) ∙ c.in-Ok.ensures in
-    rw (c.push_block.ensures.items, c.push_rows-in-Ok.ensures.items, c.hold.ensures)
-    (loop_goes tables columns S root c.args.spots.now.items c.args.holder.at c.args.holder.slot c.args.holder.table c.args.rows c.args.next (state c.args.run.now) c.in-Ok.row here c.if-run-ge-MOST_STEPS.false)
+pub returns-else-statement-body-clause-err : goal.returns-else-statement-body-clause-err
+returns-else-statement-body-clause-err c =
+    let program = c.args.program.now in
+    let holder = c.args.holder in
+    let left = c.args.left in
+    let body = c.part-body.result.now in
+    let visited = c.visit_rows-row in
+    let is_body = c.part-body.ensures ∙ ap (λ z. part_of z holder.at First) (c.block_at.ensures ∙ ap (block_of program.root.now) c.deref.ensures.value) in
+    let same = subst (λ rows. IsSameVisit program.columns.now holder.slot holder.table body [] (drop left.next rows) (state c.args.run.now) (drop visited.result.statement body) (drop visited.result.row rows) (state visited.new.run)) c.as_slice.ensures visited.ensures.same in
+    on_err_weaker c.step_rows.result
+    (λ kept S. as_before program.tables.now program.columns.now S program.root.now (c.args.spots.now.items ++ Loop holder.at holder.slot holder.table left.rows visited.result.row ∷ []) c.step_rows.new.spots.items visited.new.run c.step_rows.new.run kept
+    ∙ visit_rests program.columns.now holder.slot holder.table body program.tables.now S program.root.now c.args.spots.now.items holder.at left.rows left.next visited.result.row visited.result.statement (state c.args.run.now) (state visited.new.run) is_body c.if-statement-body.false same)
+    c.step_rows.ensures.err

@@ -2,7 +2,7 @@ use Rattle.std.specs.Prelude.{◌+◌, [], ◌∷◌, ◌++◌}
 use Rattle.proc_run.specs.declared.path.Spot.TheVariants.{Block}
 use Rattle.proc_run.specs.Remains.{state}
 use Rattle.proc_run.proofs.Paths.{path_push, branch_taken}
-use Rattle.proc_run.proofs.turn.perform.Goals as goal
+use Rattle.proc_run.proofs.stepping.perform.Goals as goal
 
 pub returns-in-Enter-clause-remains : goal.returns-in-Enter-clause-remains
 returns-in-Enter-clause-remains c = λ tables columns S root.

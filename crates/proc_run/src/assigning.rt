@@ -1,0 +1,86 @@
+//! Assignments, of which many are done in a turn: they wait for no read, so nothing of them is put on the path.
+
+ghost use Rattle.std.specs.Prelude.{◌≡◌, ◌+◌, ◌≤◌, ◌<◌, true, false, drop, length};
+ghost use Rattle.proc_run.specs.Remains.{state, IsSameRest, IsAssigned};
+
+use crate::state::{MOST_STEPS, Run};
+use crate::turn::put;
+use proc_code::values::eval;
+use proc_code::{Action, Term};
+use proc_syntax::Binding;
+use rel_base::List;
+use std::alloc::Global;
+
+/// Counts a step, and gives a variable the value of an expression, where there is one. Where there is none, nothing is done.
+fn assign(
+    alloc: Global,
+    columns: &List<List<Option<usize>>>,
+    slot: usize,
+    value: &Term,
+    run: &mut Run,
+) -> bool
+    requires { run.old.steps < 100000 }
+    ensures slots { result ≡ true → IsAssigned columns.now slot value.now (state run.old) (state run.new) }
+    ensures steps { result ≡ true → run.new.steps ≡ run.old.steps + 1 }
+    ensures own { run.new.own ≡ run.old.own }
+    ensures made { run.new.made ≡ run.old.made }
+    ensures none { result ≡ false → run.new ≡ run.old }
+{
+    match eval(alloc, columns, run.slots.as_slice(), value) {
+        Err(_) => false,
+        Ok(value) => {
+            run.steps += 1;
+            put(&mut run.slots, slot, Binding::Plain(value));
+            true
+        }
+    }
+}
+
+/// Does the statement of a number in a block, where it is an assignment that can be done. Where it is not, nothing is done.
+fn assign_next(
+    alloc: Global,
+    columns: &List<List<Option<usize>>>,
+    block: &[Action],
+    next: usize,
+    run: &mut Run,
+) -> bool
+    requires { run.old.steps ≤ 100000 }
+    ensures same { result ≡ true → IsSameRest columns.now (drop next block.now) (state run.old) (drop (next + 1) block.now) (state run.new) }
+    ensures within { result ≡ true → next < length block.now }
+    ensures steps { result ≡ true → run.new.steps ≡ run.old.steps + 1 }
+    ensures few { run.new.steps ≤ 100000 }
+    ensures own { run.new.own ≡ run.old.own }
+    ensures made { run.new.made ≡ run.old.made }
+    ensures none { result ≡ false → run.new ≡ run.old }
+{
+    if run.steps >= MOST_STEPS {
+        return false;
+    }
+    match block.get(next) {
+        Some(Action::Set { slot, value }) => assign(alloc, columns, *slot, value, run),
+        _ => false,
+    }
+}
+
+/// Does the statements of a block from a number on while they are assignments that can be done, and answers the number of the first
+/// that is not.
+pub fn assign_all(
+    alloc: Global,
+    columns: &List<List<Option<usize>>>,
+    block: &[Action],
+    next: usize,
+    run: &mut Run,
+) -> usize
+    requires { run.old.steps ≤ 100000 }
+    ensures same { IsSameRest columns.now (drop next block.now) (state run.old) (drop result block.now) (state run.new) }
+    ensures more { run.old.steps ≤ run.new.steps }
+    ensures few { run.new.steps ≤ 100000 }
+    ensures own { run.new.own ≡ run.old.own }
+    ensures made { run.new.made ≡ run.old.made }
+{
+    let mut next = next;
+    while assign_next(alloc, columns, block, next, run) {
+        next += 1;
+    }
+    next
+}
