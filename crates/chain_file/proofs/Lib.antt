@@ -17,3 +17,4 @@ pub mod Counted
 pub mod Stopped
 pub mod Held
 pub mod Chained
+pub mod Written

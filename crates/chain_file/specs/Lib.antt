@@ -10,3 +10,4 @@ pub mod Resumed
 pub mod ChainText
 pub mod Agree
 pub mod Files
+pub mod Sealed

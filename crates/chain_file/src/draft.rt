@@ -45,14 +45,14 @@ fn is_block_line(number: u64, line: &[u8]) -> bool
     }
 }
 
-/// A block of time 0.
+/// A block of time 0, where it has at most 1,024 transactions.
 #[tactic(auto, using(crate::proofs::Blocks::no_block))]
-fn block_of(number: u64, txs: List<Tx>) -> Result<Block, ReadFault>
-    ensures { Gives result (block_of number txs) }
+fn block_of(number: u64, txs: List<Tx>) -> Option<Block>
+    ensures { result ≡ block_of number txs }
 {
     match Block::new(number, 0, txs) {
-        Ok(block) => Ok(block),
-        Err(_) => Err(ReadFault::Bad),
+        Ok(block) => Some(block),
+        Err(_) => None,
     }
 }
 
@@ -81,7 +81,9 @@ fn begin_block(alloc: Global, blocks: List<Block>, line: &[u8]) -> Result<Readin
 fn end_block(mut blocks: List<Block>, begun: Begun) -> Result<Reading, ReadFault>
     ensures { Gives result (end_block blocks begun.number begun.txs) }
 {
-    let block = block_of(begun.number, begun.txs)?;
+    let Some(block) = block_of(begun.number, begun.txs) else {
+        return Err(ReadFault::Bad);
+    };
     blocks.push(block)?;
     Ok(Reading {
         blocks,
@@ -137,13 +139,13 @@ fn take_line(alloc: Global, reading: Reading, line: &[u8]) -> Result<Reading, Re
 }
 
 /// The blocks, where none is left open.
-fn finished(reading: Reading) -> Result<List<Block>, ReadFault>
-    ensures { Gives result (finished reading) }
+fn finished(reading: Reading) -> Option<List<Block>>
+    ensures { result ≡ finished reading }
 {
     let Reading { blocks, begun } = reading;
     match begun {
-        None => Ok(blocks),
-        Some(_) => Err(ReadFault::Bad),
+        None => Some(blocks),
+        Some(_) => None,
     }
 }
 
@@ -164,7 +166,10 @@ fn read_blocks(alloc: Global, bytes: &[u8]) -> Result<List<Block>, ReadFault>
     if !rest.is_empty() {
         return Err(ReadFault::Bad);
     }
-    finished(reading)
+    match finished(reading) {
+        Some(blocks) => Ok(blocks),
+        None => Err(ReadFault::Bad),
+    }
 }
 
 /// Reads a whole draft file: `draft 1`, and then blocks with the numbers from 1, each with its transaction lines and `end`.

@@ -9,6 +9,7 @@ pub mod hash;
 pub mod laws;
 pub mod reader;
 pub mod resume;
+pub mod sealer;
 pub mod sealing;
 pub mod section;
 pub mod standing;
@@ -16,4 +17,5 @@ pub mod step;
 
 pub use draft::{LONGEST_DRAFT, read_draft};
 pub use reader::{Fed, Reader, read_pieces};
+pub use sealer::Sealer;
 pub use sealing::seal;
