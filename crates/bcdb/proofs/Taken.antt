@@ -1,15 +1,12 @@
 -- Pieces of a file, one after another: what was read stays a front of the file, and a fault that was met is the file's.
 use Rattle.std.proofs.Common.{◌≡◌, ℕ, ◌<◌, ◌≤◌, ◌+◌, List, ◌++◌, length, take, drop, sym, ap, subst, ◌∙◌, length-append, arith, Option, Some, None, IfSome}
 use Rattle.std.proofs.lemmas.List.{length-take-le, take-append-drop, take_all}
-use Rattle.bcdb.specs.Reading.{HasFault, IsRead, IsWholeChain, TakesPiece}
+use Rattle.bcdb.specs.Reading.{HasFault, IsRead, IsWholeChain}
 use Rattle.chain_file.specs.Chain.{chain, lasting}
-use Rattle.chain_file.specs.Files.{FaultsLast, FilesAreBounded, FilesAreNumbered}
-use Rattle.chain_file.specs.Numbered.{NumberedFrom}
+use Rattle.chain_file.specs.Files.{FaultsLast, FilesAreBounded}
 use Rattle.chain_file.specs.Text.{longest_draft}
-use Rattle.chain_file.specs.declared.reader.Reader.{Reader}
 use Rattle.edge_traits.proofs.Fronts.{told_grows}
 use Rattle.edge_traits.specs.Shelf.{Files, IsPiece}
-use Rattle.proc_syntax.specs.declared.call.Block.{Block}
 use Rattle.proc_syntax.specs.declared.chain_fault.ChainFault.{ChainFault}
 
 -- what was read and a piece behind it are a front of the file
@@ -24,11 +21,11 @@ at_size None name bytes n size front = tt
 at_size (Some files) name bytes n size front = front ∙ ap (λ n. take n (files name)) size
 
 -- what was read so far has no fault, so the file may be read from there on
-pub may_go_on : (told : Option Files) (name : List ℕ) (at : ℕ) (reader : Reader) (blocks : List Block) → IsRead told name at reader blocks → IfSome told (λ files. lasting (chain (take at (files name))).1 ≡ None)
-may_go_on None name at reader blocks read = tt
-may_go_on (Some files) name at reader blocks read = ap (λ bytes. lasting (chain bytes).1) (sym read.front) ∙ read.clear
+pub may_go_on : (told : Option Files) (name : List ℕ) (at : ℕ) (took : List ℕ → Type 0) → IsRead told name at took → IfSome told (λ files. lasting (chain (take at (files name))).1 ≡ None)
+may_go_on None name at took read = tt
+may_go_on (Some files) name at took read = ap (λ bytes. lasting (chain bytes).1) (sym read.front) ∙ read.clear
 
-module _ (told : Option Files) (name buffer : List ℕ) (at count : ℕ) (old : Reader) (before : List Block) (read : IsRead told name at old before) (le : count ≤ length buffer)
+module _ (told : Option Files) (name buffer : List ℕ) (at count : ℕ) (old new : List ℕ → Type 0) (read : IsRead told name at old) (le : count ≤ length buffer)
     (piece : IfSome told (λ files. IsPiece (files name) at count buffer)) where
   abbrev both : List ℕ
   both = read.bytes ++ take count buffer
@@ -40,27 +37,23 @@ module _ (told : Option Files) (name buffer : List ℕ) (at count : ℕ) (old : 
   front = front_by told name read.bytes buffer at count read.size le piece read.front
 
   -- the reading goes on behind a piece without a fault
-  pub goes_on : (new : Reader) (blocks : List Block) (fault : Option ChainFault) → TakesPiece both new blocks fault → fault ≡ None → IsRead told name (at + count) new blocks
-  goes_on new blocks fault takes none = record { bytes = both; size = size; follows = takes.follows; blocks_are = takes.blocks_are; clear = sym takes.fault_is ∙ none; front = at_size told name both (at + count) size front }
+  pub goes_on : (fault : Option ChainFault) → new both → fault ≡ lasting (chain both).1 → fault ≡ None → IsRead told name (at + count) new
+  goes_on fault took is none = record { bytes = both; size = size; follows = took; clear = sym is ∙ none; front = at_size told name both (at + count) size front }
 
   -- and has not gone past the longest file
-  pub within : FilesAreBounded → (new : Reader) (blocks : List Block) (fault : Option ChainFault) → TakesPiece both new blocks fault → fault ≡ None → at + count ≤ longest_draft
-  within bounded new blocks fault takes none = subst (λ n. n ≤ longest_draft) size (bounded both (sym takes.fault_is ∙ none))
+  pub within : FilesAreBounded → (fault : Option ChainFault) → fault ≡ lasting (chain both).1 → fault ≡ None → at + count ≤ longest_draft
+  within bounded fault is none = subst (λ n. n ≤ longest_draft) size (bounded both (sym is ∙ none))
 
-  whole_by : (told : Option Files) → IfSome told (λ files. both ≡ take (length both) (files name)) → FaultsLast → (blocks : List Block) (found : ChainFault) → (chain both).0 ≡ blocks
-      → lasting (chain both).1 ≡ Some found → IfSome told (λ files. chain (files name) ≡ (blocks, Some found))
-  whole_by None begins last blocks found are is = tt
-  whole_by (Some files) begins last blocks found are is =
+  whole_by : (told : Option Files) → IfSome told (λ files. both ≡ take (length both) (files name)) → FaultsLast → (found : ChainFault) → lasting (chain both).1 ≡ Some found
+      → IfSome told (λ files. chain (files name) ≡ ((chain both).0, Some found))
+  whole_by None begins last found is = tt
+  whole_by (Some files) begins last found is =
       let whole : both ++ drop (length both) (files name) ≡ files name = ap (λ bs. bs ++ drop (length both) (files name)) begins ∙ take-append-drop (length both) (files name) in
-      ap chain (sym whole) ∙ last both (drop (length both) (files name)) found is ∙ ap (λ bs. (bs, Some found)) are
+      ap chain (sym whole) ∙ last both (drop (length both) (files name)) found is
 
   -- a fault that was met is the file's, with the blocks before it
-  pub stops : FaultsLast → (new : Reader) (blocks : List Block) (fault : Option ChainFault) (found : ChainFault) → TakesPiece both new blocks fault → fault ≡ Some found → HasFault told name blocks found
-  stops last new blocks fault found takes is = whole_by told front last blocks found takes.blocks_are (sym takes.fault_is ∙ is)
-
-  -- blocks that were taken are numbered
-  pub numbered : FilesAreNumbered → (new : Reader) (blocks : List Block) (fault : Option ChainFault) → TakesPiece both new blocks fault → NumberedFrom 1 blocks
-  numbered all new blocks fault takes = subst (NumberedFrom 1) takes.blocks_are (all both)
+  pub stops : FaultsLast → (fault : Option ChainFault) (found : ChainFault) → new both → fault ≡ lasting (chain both).1 → fault ≡ Some found → HasFault told name new found
+  stops last fault found took is met = record { bytes = both; follows = took; stops = whole_by told front last found (sym is ∙ met) }
 
 pub end_by : (told : Option Files) (name bytes buffer : List ℕ) (at count : ℕ) → 0 < length buffer → count ≡ 0 → IfSome told (λ files. IsPiece (files name) at count buffer)
     → IfSome told (λ files. bytes ≡ take at (files name)) → IfSome told (λ files. bytes ≡ files name)
@@ -68,9 +61,7 @@ end_by None name bytes buffer at count room none piece begins = tt
 end_by (Some files) name bytes buffer at count room none piece begins = begins ∙ take_all at (files name) ((piece.end room).0 none)
 
 -- where no byte comes, the file was read whole
-pub ends : (told : Option Files) (name buffer : List ℕ) (at count : ℕ) (reader : Reader) (blocks : List Block) → (read : IsRead told name at reader blocks) → 0 < length buffer → count ≡ 0
-    → IfSome told (λ files. IsPiece (files name) at count buffer) → FilesAreNumbered → IsWholeChain told name reader blocks × NumberedFrom 1 blocks
-ends told name buffer at count reader blocks read room none piece all = (
-  record { bytes = read.bytes; follows = read.follows; blocks_are = read.blocks_are; whole = end_by told name read.bytes buffer at count room none piece read.front },
-  subst (NumberedFrom 1) read.blocks_are (all read.bytes),
-)
+pub ends : (told : Option Files) (name buffer : List ℕ) (at count : ℕ) (took : List ℕ → Type 0) → IsRead told name at took → 0 < length buffer → count ≡ 0
+    → IfSome told (λ files. IsPiece (files name) at count buffer) → IsWholeChain told name took
+ends told name buffer at count took read room none piece =
+    record { bytes = read.bytes; follows = read.follows; whole = end_by told name read.bytes buffer at count room none piece read.front }

@@ -3,11 +3,10 @@ ghost use Rattle.std.specs.Prelude.{◌≡◌, IfOk, IfSome, IsErrOf, Ok, Some, 
 ghost use Rattle.std.specs.Result.{IsOk};
 ghost use Rattle.bcdb.specs.Accepted.{accepted};
 ghost use Rattle.bcdb.specs.Refusals.{arrivals_refusal, refusal_line};
-ghost use Rattle.bcdb.specs.Answer.{over_app, says, sealed};
+ghost use Rattle.bcdb.specs.Answer.{over_app, says};
 ghost use Rattle.bcdb.specs.Causes.{AllowsBlocks, AllowsNamed, AllowsRun, Counted, RoseAtNamed, RoseAtRun, RoseInRun, RoseInTurn};
 ghost use Rattle.bcdb.specs.Reply.{Means, is_answer};
 ghost use Rattle.bcdb.specs.Traced.{Replies};
-ghost use Rattle.chain_file.specs.Chain.{chain};
 ghost use Rattle.cli_words.specs.Language.{AreWithin};
 ghost use Rattle.edge_traits.specs.Causes.{Rose};
 
@@ -18,7 +17,8 @@ use crate::clustering::answer_cluster;
 use crate::fault::FilesFault;
 use crate::load::answer_load;
 use crate::refusal::{BadArrivals, Refusal, TOO_LONG, arrivals_refusal, refusal_line};
-use crate::run::{answer_blocks, answer_seal};
+use crate::run::answer_blocks;
+use crate::sealing::seal_file;
 use crate::simulating::answer_simulation;
 use crate::simulation::simulation_of;
 use crate::status::Status;
@@ -77,18 +77,6 @@ fn query_app<S: Shelf>(
 {
     let read = read_blocks(alloc, shelf, name)?;
     let reply = answer_blocks(alloc, query, app, &read)?;
-    Ok(reply)
-}
-
-// The reply to a seal, once the blocks are read.
-fn seal_file<S: Shelf>(alloc: Global, shelf: &mut S, name: &str) -> Result<Reply, FilesFault>
-    requires allowed { AllowsBlocks (S.told shelf.old) (S.may_read shelf.old) name.now }
-    ensures told { IfOk result (λ reply. IfSome (S.told shelf.old) (λ files. Means (sealed (chain (files name.now)).0 (chain (files name.now)).1) reply)) }
-    ensures counted { Counted result (Rose (S.faults shelf.old name.now) (S.faults shelf.new name.now)) (S.faults shelf.old) (S.faults shelf.new) }
-    ensures kind { IfOk result (λ reply. is_answer reply.status ≡ true) }
-{
-    let read = read_blocks(alloc, shelf, name)?;
-    let reply = answer_seal(alloc, &read)?;
     Ok(reply)
 }
 

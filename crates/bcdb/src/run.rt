@@ -1,7 +1,7 @@
 //! The answer over an application and blocks.
 
 ghost use Rattle.std.specs.Prelude.{◌≡◌, IfOk, true};
-ghost use Rattle.bcdb.specs.Answer.{over_blocks, says, sealed, status_of};
+ghost use Rattle.bcdb.specs.Answer.{over_blocks, says, status_of};
 ghost use Rattle.bcdb.specs.Reply.{Means, is_answer};
 ghost use Rattle.block_work.specs.Chain.{StoreFits};
 ghost use Rattle.chain_file.specs.Numbered.{NumberedFrom};
@@ -11,13 +11,13 @@ ghost use Rattle.report_text.specs.Report.{report_text};
 use crate::decide::Reply;
 use crate::query::answer_query;
 use crate::status::Status;
-use chain_file::{Fed, seal};
+use chain_file::Fed;
 use node_model::NodeResult;
 use plain_node::PlainNode;
 use proc_check::Checked;
 use proc_syntax::{Block, ChainFault};
 use rel_base::{List, NoMemory, TableDef};
-use report_text::{Look, report, stopped_line};
+use report_text::{Look, report};
 use row_sets::Versions;
 use std::alloc::Global;
 use std::sync::Arc;
@@ -81,19 +81,4 @@ pub fn answer_blocks(
 {
     let app = Arc::new(alloc, app)?;
     answer_query(alloc, &app, read, query)
-}
-
-/// The reply to a seal: the chain file of the blocks of a file without a fault, and else where the file stopped.
-pub fn answer_seal(alloc: Global, read: &Fed) -> Result<Reply, NoMemory>
-    ensures means { IfOk result (λ reply. Means (sealed read.now.blocks read.now.fault) reply) }
-    ensures kind { IfOk result (λ reply. is_answer reply.status ≡ true) }
-{
-    let bytes = match &read.fault {
-        None => seal(alloc, &read.blocks)?,
-        Some(fault) => stopped_line(alloc, fault)?,
-    };
-    Ok(Reply {
-        status: status_of(read.fault),
-        bytes,
-    })
 }

@@ -5,13 +5,13 @@ use Rattle.chain_file.specs.Text.{longest_draft}
 use Rattle.bcdb.proofs.blocks.read_through.Given as goal
 
 -- so many bytes of the file were read, no read has failed, and the shelf stands as at first
-abbrev pub invariant-loop-blocks : goal.invariant-loop-blocks
-invariant-loop-blocks g l = (l.at ≤ longest_draft)
+abbrev pub invariant-loop-count : goal.invariant-loop-count
+invariant-loop-count g l = (l.at ≤ longest_draft)
     × (length l.buffer ≡ 65536)
     × (g.S.Shelf.told l.shelf ≡ g.S.Shelf.told l.fn.shelf)
     × AllowsBlocks (g.S.Shelf.told l.shelf) (g.S.Shelf.may_read l.shelf) l.name
     × (g.S.Shelf.faults l.shelf ≡ g.S.Shelf.faults l.fn.shelf)
-    × IsRead (g.S.Shelf.told l.fn.shelf) l.name l.at l.reader l.blocks
+    × IsRead (g.S.Shelf.told l.fn.shelf) l.name l.at (g.I.Intake.took l.intake)
 
-abbrev pub decreases-loop-blocks : goal.decreases-loop-blocks
-decreases-loop-blocks g l = longest_draft - l.at
+abbrev pub decreases-loop-count : goal.decreases-loop-count
+decreases-loop-count g l = longest_draft - l.at

@@ -1,4 +1,4 @@
-use Rattle.std.proofs.Common.{List, ap, append_assoc, length, rules, subst, sym, take, ◌++◌, ◌<◌, ◌∙◌, ◌∷◌, ◌≡◌, []}
+use Rattle.std.proofs.Common.{List, ap, append_assoc, length, rules, subst, sym, take, ◌++◌, ◌<◌, ◌∙◌, ◌∷◌, []}
 use Rattle.std.proofs.lemmas.List.{take_more}
 use Rattle.chain_file.proofs.sealing.ChainText.push_all.Goals as goal
 use Rattle.chain_file.specs.Sealed.{Spells}

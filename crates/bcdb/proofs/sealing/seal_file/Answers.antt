@@ -1,0 +1,23 @@
+use Rattle.std.proofs.Common.{IfSome, List, None, Option, Some, ℕ}
+use Rattle.std.specs.Prelude.{Result}
+use Rattle.bcdb.proofs.sealing.seal_file.Goals as goal
+use Rattle.bcdb.specs.Answer.{sealed}
+use Rattle.bcdb.specs.Reply.{Means}
+use Rattle.bcdb.specs.declared.decide.Reply.{Reply}
+use Rattle.chain_file.specs.Chain.{chain}
+use Rattle.chain_file.specs.Sealed.{SealsAs}
+use Rattle.edge_traits.specs.Shelf.{Files}
+use Rattle.proc_syntax.specs.declared.call.Block.{Block}
+use Rattle.proc_syntax.specs.declared.chain_fault.ChainFault.{ChainFault}
+
+means_told : (told : Option Files) (name : List ℕ) (text : Result (List ℕ) ChainFault) (reply : Reply) → IfSome told (λ files. SealsAs text (chain (files name)))
+    → ((blocks : List Block) (fault : Option ChainFault) → SealsAs text (blocks, fault) → Means (sealed blocks fault) reply)
+    → IfSome told (λ files. Means (sealed (chain (files name)).0 (chain (files name)).1) reply)
+means_told None name text reply seals means = tt
+means_told (Some files) name text reply seals means = means (chain (files name)).0 (chain (files name)).1 seals
+
+pub returns-clause-told : goal.returns-clause-told
+returns-clause-told g c =
+    let told = g.S.Shelf.told c.args.shelf.now in
+    let name = c.args.name.now in
+    means_told told name c.end_seal.result c.in_ok-reply.reply (c.end_seal.ensures told name c.in_ok-stop.ensures.told) c.in_ok-reply.ensures.means

@@ -1,0 +1,89 @@
+//! What takes a block file piece by piece.
+
+ghost use Rattle.std.specs.Prelude.{◌≡◌, ◌++◌, List, ℕ, [], Option, IfOk, OnOk, IfSome};
+ghost use Rattle.bcdb.specs.Reading.{HasRead};
+ghost use Rattle.chain_file.specs.Chain.{chain, lasting};
+ghost use Rattle.chain_file.specs.Following.{WasFed};
+ghost use Rattle.chain_file.specs.Numbered.{NumberedFrom};
+ghost use Rattle.chain_file.specs.Sealed.{Seals};
+ghost use Rattle.edge_traits.specs.Shelf.{Files};
+
+use chain_file::laws::files_are_numbered;
+use chain_file::{Fed, Reader, Sealer};
+use proc_syntax::{Block, ChainFault};
+use rel_base::{List, NoMemory};
+use std::alloc::Global;
+
+/// What takes a block file piece by piece.
+pub trait Intake {
+    /// It took these bytes, from the front of a file on.
+    ghost took: { Self → List ℕ → Type 0 };
+
+    /// Takes the next piece, and answers the fault that was met in it.
+    fn take(&mut self, piece: &[u8]) -> Result<Option<ChainFault>, NoMemory>
+        ensures follows { (bytes : List ℕ) → took self.old bytes → OnOk result (took self.new (bytes ++ piece.now)) }
+        ensures fault { (bytes : List ℕ) → took self.old bytes → IfOk result (λ fault. fault ≡ lasting (chain (bytes ++ piece.now)).1) };
+}
+
+impl Intake for Sealer {
+    ghost took = { λ sealer bytes. Seals sealer bytes };
+
+    fn take(&mut self, piece: &[u8]) -> Result<Option<ChainFault>, NoMemory> {
+        self.feed(piece)
+    }
+}
+
+/// Gathers the blocks of a file.
+#[derive(Drop)]
+pub struct Gathering {
+    reader: Reader,
+    blocks: List<Block>,
+}
+
+impl Intake for Gathering {
+    ghost took = { λ gathering bytes. WasFed gathering.reader bytes × ((chain bytes).0 ≡ gathering.blocks) };
+
+    fn take(&mut self, piece: &[u8]) -> Result<Option<ChainFault>, NoMemory> {
+        let fed = self.reader.feed(piece)?;
+        let Fed { blocks, fault } = fed;
+        self.blocks.append(blocks)?;
+        Ok(fault)
+    }
+}
+
+// The fault of a file that ends here.
+fn end_fault(mut reader: Reader) -> Option<ChainFault>
+    ensures { (bytes : List ℕ) → WasFed reader bytes → (chain bytes).1 ≡ result }
+{
+    match reader.end() {
+        Ok(()) => None,
+        Err(fault) => Some(fault),
+    }
+}
+
+impl Gathering {
+    /// Nothing was taken yet.
+    pub fn new(alloc: Global) -> Gathering
+        ensures fed { WasFed result.reader [] }
+        ensures blocks { (chain []).0 ≡ result.blocks }
+    {
+        Gathering {
+            reader: Reader::new(alloc),
+            blocks: List::new(alloc),
+        }
+    }
+
+    /// What a file gave that ended, or was stopped at this fault.
+    pub fn end(self, stop: Option<ChainFault>) -> Fed
+        ensures told { (told : Option Files) (name : List ℕ) → HasRead told name (λ bytes. WasFed self.reader bytes × ((chain bytes).0 ≡ self.blocks)) stop → IfSome told (λ files. chain (files name) ≡ (result.blocks, result.fault)) }
+        ensures numbered { (told : Option Files) (name : List ℕ) → HasRead told name (λ bytes. WasFed self.reader bytes × ((chain bytes).0 ≡ self.blocks)) stop → NumberedFrom 1 result.blocks }
+    {
+        files_are_numbered();
+        let Gathering { reader, blocks } = self;
+        let fault = match stop {
+            None => end_fault(reader),
+            Some(fault) => Some(fault),
+        };
+        Fed { blocks, fault }
+    }
+}
