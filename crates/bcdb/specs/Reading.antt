@@ -2,10 +2,16 @@
 use Rattle.std.specs.Prelude.{◌≡◌, ◌<◌, ◌≤◌, ◌+◌, ℕ, List, Option, Some, None, IfSome, length, take}
 use Rattle.bcdb.specs.declared.blocks.ChainPiece.{ChainPiece}
 use Rattle.bcdb.specs.declared.blocks.ChainPiece.TheVariants as step
+use Rattle.bcdb.specs.declared.intake.Gatherer.{Gatherer}
 use Rattle.chain_file.specs.Chain.{chain, lasting}
+use Rattle.chain_file.specs.Following.{WasFed}
 use Rattle.chain_file.specs.Text.{longest_draft}
 use Rattle.edge_traits.specs.Shelf.{Files}
 use Rattle.proc_syntax.specs.declared.chain_fault.ChainFault.{ChainFault}
+
+-- the blocks of these bytes were gathered
+abbrev pub Gathers : Gatherer → List ℕ → Type 0
+Gathers gatherer bytes = WasFed gatherer.reader bytes × ((chain bytes).0 ≡ gatherer.blocks)
 
 -- so many bytes of a file were taken, with no fault yet; they are its front if the shelf tells its files
 pub record IsRead (told : Option Files) (name : List ℕ) (count : ℕ) (took : List ℕ → Type 0) : Type 0 where

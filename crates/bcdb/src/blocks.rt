@@ -9,7 +9,7 @@ ghost use Rattle.chain_file.specs.Numbered.{NumberedFrom};
 ghost use Rattle.edge_traits.specs.Causes.{Keeps, Rose};
 
 use crate::fault::FilesFault;
-use crate::intake::{Gathering, Intake};
+use crate::intake::{Gatherer, Intake};
 use chain_file::Fed;
 use chain_file::laws::{faults_last, files_are_bounded};
 use edge_traits::{Shelf, make_buffer};
@@ -109,7 +109,7 @@ pub fn read_blocks<S: Shelf>(alloc: Global, shelf: &mut S, name: &str) -> Result
     ensures numbered { IfOk result (λ read. NumberedFrom 1 read.blocks) }
     ensures counted { Counted result (Rose (S.faults shelf.old name.now) (S.faults shelf.new name.now)) (S.faults shelf.old) (S.faults shelf.new) }
 {
-    let mut gathering = Gathering::new(alloc);
-    let stop = read_file(alloc, shelf, name, &mut gathering)?;
-    Ok(gathering.end(stop))
+    let mut gatherer = Gatherer::new(alloc);
+    let stop = read_file(alloc, shelf, name, &mut gatherer)?;
+    Ok(gatherer.end(stop))
 }

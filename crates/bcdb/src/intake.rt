@@ -1,7 +1,7 @@
 //! What takes a block file piece by piece.
 
 ghost use Rattle.std.specs.Prelude.{◌≡◌, ◌++◌, List, ℕ, [], Option, IfOk, OnOk, IfSome};
-ghost use Rattle.bcdb.specs.Reading.{HasRead};
+ghost use Rattle.bcdb.specs.Reading.{Gathers, HasRead};
 ghost use Rattle.chain_file.specs.Chain.{chain, lasting};
 ghost use Rattle.chain_file.specs.Following.{WasFed};
 ghost use Rattle.chain_file.specs.Numbered.{NumberedFrom};
@@ -33,15 +33,15 @@ impl Intake for Sealer {
     }
 }
 
-/// Gathers the blocks of a file.
+/// Gathers the blocks of a file. Contracts say that it `Gathers` the bytes that it took.
 #[derive(Drop)]
-pub struct Gathering {
+pub struct Gatherer {
     reader: Reader,
     blocks: List<Block>,
 }
 
-impl Intake for Gathering {
-    ghost took = { λ gathering bytes. WasFed gathering.reader bytes × ((chain bytes).0 ≡ gathering.blocks) };
+impl Intake for Gatherer {
+    ghost took = { λ gatherer bytes. Gathers gatherer bytes };
 
     fn take(&mut self, piece: &[u8]) -> Result<Option<ChainFault>, NoMemory> {
         let fed = self.reader.feed(piece)?;
@@ -61,13 +61,12 @@ fn end_fault(mut reader: Reader) -> Option<ChainFault>
     }
 }
 
-impl Gathering {
+impl Gatherer {
     /// Nothing was taken yet.
-    pub fn new(alloc: Global) -> Gathering
-        ensures fed { WasFed result.reader [] }
-        ensures blocks { (chain []).0 ≡ result.blocks }
+    pub fn new(alloc: Global) -> Gatherer
+        ensures { Gathers result [] }
     {
-        Gathering {
+        Gatherer {
             reader: Reader::new(alloc),
             blocks: List::new(alloc),
         }
@@ -75,11 +74,11 @@ impl Gathering {
 
     /// What a file gave that ended, or was stopped at this fault.
     pub fn end(self, stop: Option<ChainFault>) -> Fed
-        ensures told { (told : Option Files) (name : List ℕ) → HasRead told name (λ bytes. WasFed self.reader bytes × ((chain bytes).0 ≡ self.blocks)) stop → IfSome told (λ files. chain (files name) ≡ (result.blocks, result.fault)) }
-        ensures numbered { (told : Option Files) (name : List ℕ) → HasRead told name (λ bytes. WasFed self.reader bytes × ((chain bytes).0 ≡ self.blocks)) stop → NumberedFrom 1 result.blocks }
+        ensures told { (told : Option Files) (name : List ℕ) → HasRead told name (Gathers self) stop → IfSome told (λ files. chain (files name) ≡ (result.blocks, result.fault)) }
+        ensures numbered { (told : Option Files) (name : List ℕ) → HasRead told name (Gathers self) stop → NumberedFrom 1 result.blocks }
     {
         files_are_numbered();
-        let Gathering { reader, blocks } = self;
+        let Gatherer { reader, blocks } = self;
         let fault = match stop {
             None => end_fault(reader),
             Some(fault) => Some(fault),
