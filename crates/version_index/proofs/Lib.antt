@@ -20,6 +20,7 @@ pub mod Tabled
 pub mod Points
 pub mod Walked
 pub mod Offered
+pub mod Guessed
 pub mod Ranges
 pub mod Marked
 pub mod Distinct

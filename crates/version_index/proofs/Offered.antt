@@ -1,6 +1,6 @@
 -- The keys that are offered for a span: by slots, by the numbers of writes and by values.
 use Rattle.std.proofs.Common.{◌≡◌, ◌∙◌, ℕ, ◌+◌, ◌<◌, ◌≤◌, ◌⊎◌, inl, inr, List, [], ◌∷◌, ◌++◌, Bool, true, Contains, Option, Some, None, is_some, refl, ap, sym, subst, arith, length, slice_get, take}
-use Rattle.std.specs.Option.{IsSomeAnd}
+use Rattle.std.specs.Option.{IsSomeAnd, option_and_then}
 use Rattle.std.proofs.lemmas.List.{length-map}
 use Rattle.rel_base.specs.Tables.{Stamped}
 use Rattle.rel_base.specs.declared.value.Value.{Value}
@@ -9,8 +9,8 @@ use Rattle.row_sets.specs.Log.{stamped_of}
 use Rattle.row_sets.specs.declared.entry.LogEntry.{LogEntry}
 use Rattle.version_index.specs.Candidates.{HasSlot, HasSlotAt, IsKeyOf, IsListedAbove, IsOwnKeyOf, IsWrittenFrom}
 use Rattle.version_index.specs.Chain.{is_on}
-use Rattle.version_index.specs.Chains.{lists_of, list_or_none, numbers_at, slot_of}
-use Rattle.version_index.specs.Index.{row_by}
+use Rattle.version_index.specs.Chains.{AreChains, lists_of, list_or_none, lives_in, numbers_at, slot_of}
+use Rattle.version_index.specs.Index.{row_after, row_by}
 use Rattle.version_index.specs.Left.{left_at}
 use Rattle.version_index.specs.Log.{InOrder}
 use Rattle.version_index.specs.Numbers.{passes_at, passing}
@@ -18,7 +18,7 @@ use Rattle.version_index.specs.View.{IsView, history_in}
 use Rattle.version_index.specs.declared.chains.Chains.{Chains}
 use Rattle.version_index.specs.declared.view.TableView.{TableView}
 use Rattle.version_index.proofs.Logged.{blocks_rise, get_history, same_ref}
-use Rattle.version_index.proofs.Passing.{IsTop, left_by_numbers, none_of, not_empty, passing_has, top_of}
+use Rattle.version_index.proofs.Passing.{IsTop, last_end, left_by_numbers, none_of, not_empty, passing_has, top_of}
 use Rattle.version_index.proofs.Points.{below_or, some_at, some_weaker}
 use Rattle.version_index.proofs.Slots.{below_got}
 
@@ -30,6 +30,40 @@ within_lists lists slot rest last is = go (slice_get lists slot) refl is
     go None absent is = absurd (not_empty rest last (sym is))
     go (Some numbers) there is = below_got lists slot numbers there
 
+module _ (table noted : ℕ) (history : List Stamped) (chains : Chains) (are : AreChains table history noted chains) where
+  -- what the last number of a slot tells: a noted write on the key whose slot it is
+  pub record SlotLast (slot last : ℕ) : Type 0 where
+    pub key : List Value
+    pub own : slot_of chains key ≡ Some slot
+    pub below : last < noted
+    pub on : passes_at (is_on (table, key)) history last ≡ true
+
+  pub slot_last : (slot last : ℕ) (rest : List ℕ) → numbers_at (lists_of chains) (Some slot) ≡ rest ++ last ∷ [] → SlotLast slot last
+  slot_last slot last rest there =
+      let keyed = are.keyed slot (within_lists (lists_of chains) slot rest last there) in
+      let numbers = sym (are.numbers keyed.0) ∙ ap (numbers_at (lists_of chains)) keyed.1 ∙ there in
+      let top = top_of (passes_at (is_on (table, keyed.0)) history) noted last rest numbers in
+      record { key = keyed.0; own = keyed.1; below = top.below; on = top.on }
+
+  -- the slot is that of the key of its last write
+  pub slot_own : (slot last : ℕ) (rest : List ℕ) → numbers_at (lists_of chains) (Some slot) ≡ rest ++ last ∷ [] → IsSomeAnd (slice_get history last) (λ s. Some slot ≡ slot_of chains s.1.write.key)
+  slot_own slot last rest there =
+      let told = slot_last slot last rest there in
+      some_weaker (λ s. is_on (table, told.key) s ≡ true) (λ s. Some slot ≡ slot_of chains s.1.write.key) (slice_get history last)
+      (λ s on. sym (ap (λ r. slot_of chains r.1) (same_ref (table, told.key) s on) ∙ told.own)) (some_at (is_on (table, told.key)) history last told.on)
+
+  -- and the key has a row exactly where that write left one
+  pub slot_lives : noted ≤ length history → (slot last : ℕ) (rest : List ℕ) → numbers_at (lists_of chains) (Some slot) ≡ rest ++ last ∷ [] → (stamped : Stamped) → slice_get history last ≡ Some stamped
+      → slot_of chains stamped.1.write.key ≡ Some slot → lives_in chains stamped.1.write.key ≡ is_some stamped.1.write.after
+  slot_lives within slot last rest there stamped is own =
+      let key = stamped.1.write.key in
+      are.lives key
+      ∙ ap is_some
+      (sym (left_by_numbers (table, key) history noted within)
+      ∙ ap (row_by history) (sym (are.numbers key) ∙ ap (numbers_at (lists_of chains)) own ∙ there)
+      ∙ ap (λ found. row_after (option_and_then (slice_get history) found)) (last_end rest last)
+      ∙ ap row_after is)
+
 module _ (view : TableView) (is : IsView view) where
   abbrev chains : Chains
   chains = view.index.now.chains
@@ -37,22 +71,11 @@ module _ (view : TableView) (is : IsView view) where
   abbrev history : List Stamped
   history = history_in view
 
-  -- what the last number of a slot tells: a noted write on the key whose slot it is
-  pub record SlotLast (slot last : ℕ) : Type 0 where
-    pub key : List Value
-    pub own : slot_of chains key ≡ Some slot
-    pub below : last < view.noted
-    pub on : passes_at (is_on (view.table, key)) history last ≡ true
-
-  pub slot_last : (slot last : ℕ) (rest : List ℕ) → numbers_at (lists_of chains) (Some slot) ≡ rest ++ last ∷ [] → SlotLast slot last
-  slot_last slot last rest there =
-      let keyed = is.index.chains.keyed slot (within_lists (lists_of chains) slot rest last there) in
-      let numbers = sym (is.index.chains.numbers keyed.0) ∙ ap (numbers_at (lists_of chains)) keyed.1 ∙ there in
-      let top = top_of (passes_at (is_on (view.table, keyed.0)) history) view.noted last rest numbers in
-      record { key = keyed.0; own = keyed.1; below = top.below; on = top.on }
+  told_last : (slot last : ℕ) (rest : List ℕ) → numbers_at (lists_of chains) (Some slot) ≡ rest ++ last ∷ [] → SlotLast view.table view.noted history chains is.index.chains slot last
+  told_last slot last rest there = slot_last view.table view.noted history chains is.index.chains slot last rest there
 
   pub last_below : (slot last : ℕ) (rest : List ℕ) → numbers_at (lists_of chains) (Some slot) ≡ rest ++ last ∷ [] → last < length view.entries.now
-  last_below slot last rest there = let low = (slot_last slot last rest there).below in let within = is.within in omega (arith, low, within)
+  last_below slot last rest there = let low = (told_last slot last rest there).below in let within = is.within in omega (arith, low, within)
 
   -- a slot with no number is of no key with a row
   pub no_slot : (slot : ℕ) (key : List Value) → numbers_at (lists_of chains) (Some slot) ≡ [] → HasSlot view slot key → ⊥
@@ -65,17 +88,14 @@ module _ (view : TableView) (is : IsView view) where
   -- the key of the last write of a slot is the one whose slot it is
   pub last_is_key : (slot last : ℕ) (rest : List ℕ) → numbers_at (lists_of chains) (Some slot) ≡ rest ++ last ∷ [] → (key : List Value) → HasSlot view slot key → IsKeyOf view last key
   last_is_key slot last rest there key has =
-      let told = slot_last slot last rest there in
+      let told = told_last slot last rest there in
       let one : told.key ≡ key = is.index.chains.own told.key key slot told.own has.1 in
       some_weaker (λ s. is_on (view.table, key) s ≡ true) (λ s. s.1.write.key ≡ key) (slice_get history last) (λ s on. ap (λ r. r.1) (same_ref (view.table, key) s on))
       (some_at (is_on (view.table, key)) history last (subst (λ k. passes_at (is_on (view.table, k)) history last ≡ true) one told.on))
 
   -- and the slot is that of this key
   pub last_is_own : (slot last : ℕ) (rest : List ℕ) → numbers_at (lists_of chains) (Some slot) ≡ rest ++ last ∷ [] → HasSlotAt view last (Some slot)
-  last_is_own slot last rest there =
-      let told = slot_last slot last rest there in
-      some_weaker (λ s. is_on (view.table, told.key) s ≡ true) (λ s. Some slot ≡ slot_of chains s.1.write.key) (slice_get history last)
-      (λ s on. sym (ap (λ r. slot_of chains r.1) (same_ref (view.table, told.key) s on) ∙ told.own)) (some_at (is_on (view.table, told.key)) history last told.on)
+  last_is_own slot last rest there = slot_own view.table view.noted history chains is.index.chains slot last rest there
 
 -- ---- by numbers that pass a test
 

@@ -1,8 +1,7 @@
 -- The order of a history with the writes of a later place.
-use Rattle.std.proofs.Common.{◌≡◌, ◌∙◌, ℕ, ◌<◌, List, [], ◌∷◌, ◌++◌, true, false, ◌==◌, cond, refl, ap, sym, arith, All, ◌⊎◌, inl, inr, IsTrue, nat_lt}
+use Rattle.std.proofs.Common.{◌≡◌, ◌∙◌, ℕ, ◌<◌, List, [], ◌∷◌, ◌++◌, true, ◌==◌, cond, refl, ap, sym, arith, All, ◌⊎◌, inl, inr, IsTrue, nat_lt}
 use Rattle.std.specs.Cmp.{tied_itself, nat_cmp_total}
 use Rattle.std.specs.Ordering.{is_lt, is_gt, nat_cmp, ordering_then}
-use Rattle.std.specs.declared.cmp.Ordering.{Ordering}
 use Rattle.std.specs.declared.cmp.Ordering.TheVariants.{Less, Equal, Greater}
 use Rattle.std.proofs.lemmas.Bool.Decides.{nat_tests}
 use Rattle.std.proofs.lemmas.List.Elements.{All-nil, All-cons, All-head, All-tail, All-weaker, All-append, All-map}
@@ -11,7 +10,7 @@ use Rattle.rel_base.specs.Value.{key_cmp}
 use Rattle.rel_base.specs.declared.access.Place.{Place}
 use Rattle.rel_base.specs.declared.access.Write.{Write}
 use Rattle.rel_base.specs.declared.value.Value.{Value}
-use Rattle.rel_base.proofs.Bits.{first_true, less_from, no_both, second_true}
+use Rattle.rel_base.proofs.Bits.{first_true, less_from, second_true}
 use Rattle.row_sets.specs.Versions.{stamped_at, IsBefore, are_rising, follows}
 use Rattle.version_index.specs.Log.{InOrder, Precedes}
 

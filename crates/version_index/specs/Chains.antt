@@ -1,5 +1,5 @@
 -- The writes on each key of a table.
-use Rattle.std.specs.Prelude.{◌≡◌, ◌<◌, IsSomeAnd, ℕ, List, [], ◌∷◌, ◌++◌, Bool, true, Option, Some, None, cond, is_some, length, map, slice_get, slice_set, take}
+use Rattle.std.specs.Prelude.{◌≡◌, ◌<◌, ◌≤◌, IsSomeAnd, ℕ, List, [], ◌∷◌, ◌++◌, Bool, true, Option, Some, None, cond, is_some, length, map, slice_get, slice_set, take}
 use Rattle.std.specs.BTreeMap.{is_at}
 use Rattle.std.specs.Map.{lookup}
 use Rattle.std.specs.Vec.{vec_capacity, vec_len}
@@ -8,6 +8,8 @@ use Rattle.std.specs.declared.vec.Vec.{Vec}
 use Rattle.rel_base.specs.Tables.{Stamped}
 use Rattle.rel_base.specs.Value.{key_cmp, key_eq}
 use Rattle.rel_base.specs.declared.value.Value.{Value}
+use Rattle.row_sets.specs.Log.{history_of}
+use Rattle.row_sets.specs.declared.entry.LogEntry.{LogEntry}
 use Rattle.version_index.specs.Chain.{is_on}
 use Rattle.version_index.specs.Left.{left_at}
 use Rattle.version_index.specs.Numbers.{passes_at, passing}
@@ -77,6 +79,10 @@ pub record AreChains (table : ℕ) (history : List Stamped) (noted : ℕ) (chain
   pub within : (key : List Value) (slot : ℕ) → slot_of chains key ≡ Some slot → slot < length (lists_of chains)
   pub own : (one other : List Value) (slot : ℕ) → slot_of chains one ≡ Some slot → slot_of chains other ≡ Some slot → one ≡ other
   pub keyed : (slot : ℕ) → slot < length (lists_of chains) → (key : List Value) × (slot_of chains key ≡ Some slot)
+
+-- they tell those of some table among the first of a log
+abbrev pub AreChainsOf : List LogEntry → Chains → Type 0
+AreChainsOf entries chains = (table : ℕ) × (noted : ℕ) × (noted ≤ length entries) × AreChains table (history_of entries) noted chains
 
 -- nothing that they tell has changed
 pub record IsSame (old new : Chains) : Type 0 where

@@ -7,6 +7,7 @@ ghost use Rattle.rel_base.specs.Value.{key_eq};
 ghost use Rattle.rel_base.specs.declared.value.Value.{Value as Cell};
 ghost use Rattle.version_index.specs.Chains.{AreApart, IsNoted, IsPlaced, IsSame, first_some, lists_of, lives_in, numbers_at, slot_by, slot_in, slot_of};
 
+use crate::guesses::{Guesses, hold_guess};
 use crate::lists::{hold_room, list_at, one_number, push_at};
 use crate::steps::Steps;
 use rel_base::{Key, NoMemory, Twin};
@@ -23,6 +24,8 @@ pub struct Chains {
     pub ended: BTreeMap<Key, usize>,
     /// For each slot the numbers of the writes on its key, rising.
     pub numbers: Vec<Vec<usize>>,
+    /// Guesses at the slots of the keys, of which nothing is promised.
+    pub guesses: Guesses,
 }
 
 /// Where a key that was ever written stands: at a slot, and among the keys with a row or among those whose row was deleted.
@@ -153,6 +156,7 @@ impl Chains {
             living: BTreeMap::new(alloc),
             ended: BTreeMap::new(alloc),
             numbers: Vec::new(alloc),
+            guesses: Guesses::new(alloc),
         }
     }
 
@@ -214,11 +218,19 @@ impl Chains {
         ensures noted { OnOk result (IsNoted key.now lives number self.old self.new) }
         ensures same { OnErr result (IsSame self.old self.new) }
     {
+        hold_guess(
+            &mut self.guesses,
+            alloc,
+            self.numbers.len(),
+            &self.living,
+            &self.ended,
+        )?;
         self.numbers.reserve(1)?;
         let numbers = one_number(alloc, number)?;
         let slot = self.numbers.len();
         settle_key(&mut self.living, &mut self.ended, alloc, key, slot, lives)?;
         self.numbers.push_reserved(numbers);
+        self.guesses.put(key, slot);
         Ok(())
     }
 

@@ -11,6 +11,7 @@ ghost use Rattle.version_index.specs.Index.{HasColumns, IsEmptyColumn, IsEmptyIn
 
 use crate::chains::{Chains, slot_at};
 use crate::column::ColumnIndex;
+use crate::guessing::spot_of;
 use rel_base::{NoMemory, Row, TableDef, Write};
 use row_sets::entry::{LogEntry, entry_at};
 use std::alloc::Global;
@@ -163,7 +164,7 @@ impl TableIndex {
         ensures columns { map (λ c. c.column) self.new.columns.items ≡ map (λ c. c.column) self.old.columns.items }
     {
         let write = &entry_at(entries, number).placed.write;
-        let spot = self.chains.spot(&write.key);
+        let spot = spot_of(entries, &self.chains, &write.key);
         let slot = slot_at(spot);
         let found = found_row(entries, self.chains.numbers(slot));
         let own = own_slot(slot, self.chains.count());

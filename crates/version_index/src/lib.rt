@@ -7,6 +7,8 @@ pub mod chains;
 pub mod column;
 pub mod finding;
 pub mod growth;
+pub mod guesses;
+pub mod guessing;
 pub mod heads;
 pub mod hits;
 pub mod index;

@@ -13,6 +13,7 @@ ghost use Rattle.version_index.specs.Hits.{TellsFirst};
 ghost use Rattle.version_index.specs.Rows.{rows_of_keys};
 ghost use Rattle.version_index.specs.View.{IsAsked, IsView, history_in, hit_told};
 
+use crate::guessing::slot_near;
 use crate::hits::first_by_column;
 use crate::key_spans::first_by_key;
 use crate::keyed::first_late;
@@ -37,7 +38,7 @@ fn rows_of_key(
     ensures { IfOk result (λ seen. seen ≡ rows_of_keys look.now.def.now look.now.read.now (tables_at look.now.height (history_in view.now)) view.now.table (key.now ∷ [])) }
 {
     let mut rows = List::new(alloc);
-    let slot = view.index.chains.slot(key);
+    let slot = slot_near(view, key);
     add_key(alloc, &mut rows, view, look, key, slot)?;
     Ok(rows)
 }
@@ -96,7 +97,7 @@ fn hit_at(view: &TableView<'_>, watch: &Watch<'_>) -> Option<usize>
         Read::Point { key, .. } => first_late(
             view,
             key,
-            view.index.chains.slot(key),
+            slot_near(view, key),
             watch.after,
             watch.upto,
         ),

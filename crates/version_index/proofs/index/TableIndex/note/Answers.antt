@@ -34,21 +34,29 @@ returns-in_err-note-clause-same c =
 pub returns-in_err-note-clause-columns : goal.returns-in_err-note-clause-columns
 returns-in_err-note-clause-columns c = map_zip (λ column. column.column) IsSameColumn (λ one two same. same.column) c.args.self.now.columns.items c.hold_all.new.columns.items c.hold_all.ensures.same
 
+-- the chains tell the writes before it
+pub spot_of-spot-requires : goal.spot_of-spot-requires
+spot_of-spot-requires c =
+    let entry = c.entry_at.result.now in
+    let is = index_from c.args.entries.now c.args.number entry c.entry_at.ensures c.args.number c.args.self.now c.requires.old in
+    let there = c.requires.there in
+    (entry.placed.write.table, c.args.number, omega (arith, there), is.chains)
+
 -- the key stands at one of the slots
 pub note-requires-clause-within : goal.note-requires-clause-within
 note-requires-clause-within c =
     let entry = c.entry_at.result.now in
     let old = c.args.self.now in
     let is = index_from c.args.entries.now c.args.number entry c.entry_at.ensures c.args.number old c.requires.old in
-    spot_within c.spot-spot.result (slot_of old.chains entry.placed.write.key) (length (lists_of old.chains)) c.spot-spot.ensures.slot (is.chains.within entry.placed.write.key)
+    spot_within c.spot_of-spot.result (slot_of old.chains entry.placed.write.key) (length (lists_of old.chains)) c.spot_of-spot.ensures.slot (is.chains.within entry.placed.write.key)
 
 pub note_all-requires-clause-was : goal.note_all-requires-clause-was
 note_all-requires-clause-was c =
     let entry = c.entry_at.result.now in
     let old = c.args.self.now in
     let is = index_from c.args.entries.now c.args.number entry c.entry_at.ensures c.args.number old c.requires.old in
-    let own = own_place c.args.entries.now c.args.number entry c.entry_at.ensures old is c.slot_at-slot.result c.count.result c.own_slot-own.result (c.slot_at-slot.ensures ∙ c.spot-spot.ensures.slot) c.count.ensures c.own_slot-own.ensures in
-    let found = c.found_row-found.ensures ∙ finds c.args.entries.now c.args.number entry c.entry_at.ensures old is c.numbers.result.now c.slot_at-slot.result (c.slot_at-slot.ensures ∙ c.spot-spot.ensures.slot) c.numbers.ensures in
+    let own = own_place c.args.entries.now c.args.number entry c.entry_at.ensures old is c.slot_at-slot.result c.count.result c.own_slot-own.result (c.slot_at-slot.ensures ∙ c.spot_of-spot.ensures.slot) c.count.ensures c.own_slot-own.ensures in
+    let found = c.found_row-found.ensures ∙ finds c.args.entries.now c.args.number entry c.entry_at.ensures old is c.numbers.result.now c.slot_at-slot.result (c.slot_at-slot.ensures ∙ c.spot_of-spot.ensures.slot) c.numbers.ensures in
     was_held c.args.entries.now c.args.number entry c.entry_at.ensures old is c.hold_all.new.columns.items c.hold_all.ensures.same (option_copied c.found_row-found.result) found c.own_slot-own.result own
 
 -- all parts with the write noted
@@ -57,8 +65,8 @@ returns-clause-new c =
     let entry = c.entry_at.result.now in
     let old = c.args.self.now in
     let is = index_from c.args.entries.now c.args.number entry c.entry_at.ensures c.args.number old c.requires.old in
-    let own = own_place c.args.entries.now c.args.number entry c.entry_at.ensures old is c.slot_at-slot.result c.count.result c.own_slot-own.result (c.slot_at-slot.ensures ∙ c.spot-spot.ensures.slot) c.count.ensures c.own_slot-own.ensures in
-    let found = c.found_row-found.ensures ∙ finds c.args.entries.now c.args.number entry c.entry_at.ensures old is c.numbers.result.now c.slot_at-slot.result (c.slot_at-slot.ensures ∙ c.spot-spot.ensures.slot) c.numbers.ensures in
+    let own = own_place c.args.entries.now c.args.number entry c.entry_at.ensures old is c.slot_at-slot.result c.count.result c.own_slot-own.result (c.slot_at-slot.ensures ∙ c.spot_of-spot.ensures.slot) c.count.ensures c.own_slot-own.ensures in
+    let found = c.found_row-found.ensures ∙ finds c.args.entries.now c.args.number entry c.entry_at.ensures old is c.numbers.result.now c.slot_at-slot.result (c.slot_at-slot.ensures ∙ c.spot_of-spot.ensures.slot) c.numbers.ensures in
     let next : suc c.args.number ≡ c.args.number + 1 = omega arith in
     let noted = subst (λ lives. IsNoted entry.placed.write.key lives c.args.number old.chains c.note.new.self) c.is_some.ensures c.in_ok-note.ensures.noted in
     let index : TableIndex = record { chains = c.note.new.self; columns = c.note_all.new.columns } in
