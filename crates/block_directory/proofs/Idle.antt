@@ -12,7 +12,7 @@ use Rattle.block_directory.specs.Marking.{HasMarks, OnlyFound, has_read_at, has_
 use Rattle.node_model.specs.Decide.{first_shared, is_shared}
 use Rattle.node_model.specs.Edges.{touches}
 use Rattle.node_model.specs.declared.result.Committed.{Committed}
-use Rattle.proc_syntax.proofs.Fits.{keys_equal}
+use Rattle.rel_base.proofs.KeyOrder.{same_key}
 use Rattle.rel_base.specs.Access.{PartFits, WriteFits, covers_some, hits_write, read_table}
 use Rattle.rel_base.specs.Among.{WriteFitsIn}
 use Rattle.rel_base.specs.Late.{hits_in, where_declared}
@@ -25,16 +25,12 @@ use Rattle.rel_base.specs.declared.access.Write.{Write}
 use Rattle.rel_base.specs.declared.schema.TableDef.{TableDef}
 use Rattle.rel_base.specs.declared.value.Value.{Value}
 use Rattle.rel_base.proofs.Bits.{either, first_true, not_true, or_true, second_true}
-use Rattle.rw_graph.proofs.Lists.{In, each_at}
+use Rattle.rw_graph.proofs.Lists.{In, each_at, none_of}
 use Rattle.rw_graph.specs.Fitting.{IsMember, WritesFit}
 use Rattle.rw_graph.specs.Held.{holds}
 use Rattle.rw_graph.specs.declared.bits.Bits.{Bits}
 
 -- ---- tests of lists
-
-none_of : {X : Type 0} (test : X → Bool) (items : List X) → ((item : X) → In item items → test item ≡ false) → list_any test items ≡ false
-none_of test [] none = refl
-none_of test (x ∷ xs) none = ap (λ b. b || list_any test xs) (none x (inl refl)) ∙ none_of test xs (λ item within. none item (inr within))
 
 some_of : {X : Type 0} (test : X → Bool) (items : List X) (item : X) → In item items → test item ≡ true → list_any test items ≡ true
 some_of test [] item within is = absurd within
@@ -51,7 +47,7 @@ no_place test start (x ∷ xs) none =
 -- a row that a point covers stands under its key
 point_key : (def : TableDef) (table : ℕ) (key own : List Value) (part : Option (List Value)) → PartFits def own part → covers_some def (Point table key) part ≡ true → key ≡ own
 point_key def table key own None fits covers = absurd (false≢true covers)
-point_key def table key own (Some row) fits covers = sym (keys_equal (key_of_row def row) key covers) ∙ fits.1
+point_key def table key own (Some row) fits covers = sym (same_key (key_of_row def row) key covers) ∙ fits.1
 
 own_key : (write : Write) (place : ℕ) → place ≡ write_place write → is_place_of write place ≡ true
 own_key write place same = ap (λ b. b || nat_eq place (table_place write.table)) (eq-eqb place (write_place write) same)

@@ -1,11 +1,11 @@
 -- Marks that are set, and room for more of them.
-use Rattle.std.proofs.Common.{inl, inr, Option, ◌⊎◌, ap, false, length, refl, replicate, subst, suc, sym, true, zero, Bool, List, Some, None, [], ◌∷◌, ◌++◌, ◌%◌, ◌*◌, ◌+◌, ◌/◌, ◌<◌, ◌∙◌, ◌≡◌, ◌||◌, ℕ, ⊎_elim, slice_get, slice_index, slice_set}
+use Rattle.std.proofs.Common.{inl, inr, ◌⊎◌, ap, false, length, refl, replicate, subst, suc, sym, true, zero, Bool, List, Some, [], ◌∷◌, ◌++◌, ◌%◌, ◌*◌, ◌+◌, ◌/◌, ◌<◌, ◌∙◌, ◌≡◌, ◌||◌, ℕ, ⊎_elim, slice_get, slice_index, slice_set}
 use Rattle.std.specs.Bool.{nat_eq}
 use Rattle.std.specs.List.{list_any}
 use Rattle.std.proofs.lemmas.Bool.{eq-eqb}
 use Rattle.std.proofs.lemmas.Bool.Decides.{eqb_tells}
 use Rattle.std.proofs.lemmas.List.{get_or-set_other, get_or-set_same}
-use Rattle.std.proofs.lemmas.Option.{none-some}
+use Rattle.std.proofs.lemmas.Option.{none-some, same_Some}
 use Rattle.block_directory.specs.Marking.{HasMarks, is_marked}
 use Rattle.node_model.specs.declared.result.Committed.{Committed}
 use Rattle.rw_graph.specs.Sets.{is_one}
@@ -71,17 +71,9 @@ module _ {X : Type 0} (has : X → ℕ → Bool) (all : List X) (number : ℕ) w
 pub has_marks_in : (has : Committed → ℕ → Bool) (committed : List Committed) (words words' : List ℕ) → KeepsMarks words words' → HasMarks has committed words → HasMarks has committed words'
 has_marks_in has committed words words' keeps marks number place done at is = keeps place number (marks number place done at is)
 
--- what stands in a list item is itself
-same_inside : (first second : Committed) → Some first ≡ Some second → first ≡ second
-same_inside first second same = ap (λ o. inside o) same
-  where
-    inside : Option Committed → Committed
-    inside None = first
-    inside (Some done) = done
-
 get_more : (committed : List Committed) (last done : Committed) (number : ℕ) → slice_get (committed ++ last ∷ []) number ≡ Some done
     → (slice_get committed number ≡ Some done) ⊎ ((number ≡ length committed) × (last ≡ done))
-get_more [] last done zero at = inr (refl, same_inside last done at)
+get_more [] last done zero at = inr (refl, same_Some last done at)
 get_more [] last done (suc number) at = absurd (none-some done at)
 get_more (first ∷ rest) last done zero at = inl at
 get_more (first ∷ rest) last done (suc number) at = ⊎_elim (λ early. inl early) (λ late. inr (ap suc late.0, late.1)) (get_more rest last done number at)

@@ -1,9 +1,9 @@
 -- Transactions that are passed over change nothing.
-use Rattle.std.proofs.Common.{ap, arith, drop, false, length, refl, suc, sym, zero, Bool, List, Some, None, Option, [], ◌∷◌, ◌&&◌, ◌+◌, ◌<◌, ◌∙◌, ◌≡◌, ◌≤◌, ◌||◌, ℕ, slice_get}
+use Rattle.std.proofs.Common.{ap, arith, drop, false, length, refl, suc, sym, zero, Bool, List, Some, None, [], ◌∷◌, ◌&&◌, ◌+◌, ◌<◌, ◌∙◌, ◌≡◌, ◌≤◌, ◌||◌, ℕ, slice_get}
 use Rattle.std.specs.Bool.{nat_eq}
 use Rattle.std.specs.List.{list_any}
 use Rattle.std.proofs.lemmas.List.{at_drop_all}
-use Rattle.std.proofs.lemmas.Option.{none-some}
+use Rattle.std.proofs.lemmas.Option.{none-some, same_Some}
 use Rattle.block_directory.specs.Marking.{NoneFound, OnlyFound}
 use Rattle.node_model.specs.Decide.{clash, clash_at, first_shared}
 use Rattle.node_model.specs.declared.result.Committed.{Committed}
@@ -45,16 +45,9 @@ test_skips test pos done rest none =
 
 -- ---- what is left after some were passed over
 
-same_inside : (first second : Committed) → Some first ≡ Some second → first ≡ second
-same_inside first second same = ap (λ o. inside o) same
-  where
-    inside : Option Committed → Committed
-    inside None = first
-    inside (Some done) = done
-
 drop_suc : (xs : List Committed) (number : ℕ) (x : Committed) → slice_get xs number ≡ Some x → drop number xs ≡ x ∷ drop (suc number) xs
 drop_suc [] number x at = absurd (none-some x at)
-drop_suc (first ∷ xs) zero x at = ap (λ y. y ∷ xs) (same_inside first x at)
+drop_suc (first ∷ xs) zero x at = ap (λ y. y ∷ xs) (same_Some first x at)
 drop_suc (first ∷ xs) (suc number) x at = drop_suc xs number x at
 
 drop_at : (xs : List Committed) (number : ℕ) (x : Committed) → slice_get xs number ≡ Some x → drop number xs ≡ x ∷ drop (number + 1) xs

@@ -1,19 +1,20 @@
 -- Blocks are read back from their chain file.
-use Rattle.std.proofs.Common.{◌≡◌, ◌≤◌, ◌<◌, ◌+◌, ◌/◌, ◌%◌, ◌^◌, ℕ, zero, suc, pos, List, [], ◌∷◌, ◌++◌, Bool, true, false, cond, Option, Some, None, length, get_or, ⊎_elim, refl, sym, ◌∙◌, ap, subst, append_assoc, length-append, arith}
+use Rattle.std.proofs.Common.{◌≡◌, ◌≤◌, ◌<◌, ◌+◌, ◌/◌, ◌%◌, ℕ, zero, suc, pos, List, [], ◌∷◌, ◌++◌, Bool, true, false, cond, Option, Some, None, length, refl, sym, ◌∙◌, ap, subst, append_assoc, length-append, arith}
 use Rattle.std.specs.Prelude.{nat_le, nat_lt, ◌==◌, ◌&&◌, not, codes, decimal, Result, Ok, Err, slice_index}
 use Rattle.std.specs.Char.{is_ascii_digit}
 use Rattle.std.specs.Int.{w32, to_be_bytes}
 use Rattle.std.specs.List.{flat_map, list_all, AllByRecursion}
 use Rattle.std.specs.Str.{bytes_eq, all_ascii_digits}
-use Rattle.std.proofs.lemmas.Bool.{and_parts, and_from, lt-ltb, le-leb, eq-eqb, ne_eqb, cases_lt}
+use Rattle.std.proofs.lemmas.Bool.{and_parts, and_from, lt-ltb, le-leb, eq-eqb}
 use Rattle.std.proofs.lemmas.Bool.Decides.{nat_tests}
-use Rattle.std.proofs.lemmas.Fmt.{digits_decimal, length-decimal-le, decimal_nonempty, decimal_digit, first_decimal}
+use Rattle.std.proofs.lemmas.Fmt.{digits_decimal, length-decimal-le}
 use Rattle.std.proofs.lemmas.List.{append-nil}
 use Rattle.sha2.specs.Sha256.{sha256, digest_bytes, final_hash, initial_hash_256}
 use Rattle.sha2.proofs.Facts256.{length-sha256}
 use Rattle.hex.specs.Hex.{encode_with, lower_digits}
 use Rattle.hex.proofs.HexLemmas.{length-encode_with}
 use Rattle.literals.specs.Number.{is_canonical}
+use Rattle.literals.proofs.Again.{canonical_decimal}
 use Rattle.literals.proofs.Numerals.{own}
 use Rattle.proc_syntax.specs.declared.call.Tx.{Tx}
 use Rattle.proc_syntax.specs.declared.call.Block.{Block}
@@ -154,19 +155,11 @@ decimal_short n low = length-decimal-le 7 n (omega arith) (omega (arith, low)) (
 pub no_space_decimal : (n : ℕ) → n ≤ 1000000 → list_all (λ b. not (is_space b)) (decimal n) ≡ true
 no_space_decimal n low = no_space-from is_ascii_digit digit_no_space (decimal n) (decimal_digits n low)
 
-canonical_from : (ds : List ℕ) → 0 < length ds → (get_or ds 0 0 ≡ 48 → length ds ≡ 1) → is_canonical ds ≡ true
-canonical_from [] some one = absurd (omega (arith, some))
-canonical_from (d ∷ []) some one = refl
-canonical_from (d ∷ e ∷ ds) some one = ap not (ne_eqb d 48 (λ zero. omega (arith, one zero)))
-
-decimal_canonical : (n : ℕ) → n < 2 ^ 64 → is_canonical (decimal n) ≡ true
-decimal_canonical n low = canonical_from (decimal n) (decimal_nonempty n low) (λ zero. ⊎_elim (λ small. ap length (decimal_digit n small)) (λ large. absurd (omega (arith, zero, first_decimal n (omega (arith, large)) low))) (cases_lt n 10))
-
 pub decimal_number : (n : ℕ) → n ≤ 1000000 → is_number (decimal n) ≡ true
 decimal_number n low =
     and_from (nat_le (length (decimal n)) 20 && list_all is_ascii_digit (decimal n)) (is_canonical (decimal n))
     (and_from (nat_le (length (decimal n)) 20) (list_all is_ascii_digit (decimal n)) (le-leb (length (decimal n)) 20 (omega (arith, decimal_short n low))) (decimal_digits n low))
-    (decimal_canonical n (omega (arith, low)))
+    (canonical_decimal n (omega (arith, low)))
 
 digits_field : (digits : List ℕ) → AreDigits digits → is_hash_field (32 ∷ digits) ≡ true
 digits_field digits fine =

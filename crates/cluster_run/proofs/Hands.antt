@@ -1,7 +1,7 @@
 -- What a pass has in hand after a turn with a job.
-use Rattle.std.proofs.Common.{Bool, IfSome, List, None, Option, Some, ap, cond, false, inl, inr, refl, subst, sym, true, ◌∙◌, ◌≡◌, ◌⊎◌, ℕ}
+use Rattle.std.proofs.Common.{Bool, IfSome, List, None, Option, Some, ap, false, inl, inr, refl, subst, sym, true, ◌∙◌, ◌≡◌, ◌⊎◌, ℕ}
 use Rattle.std.proofs.lemmas.Bool.{false≢true}
-use Rattle.std.proofs.lemmas.Option.{none-some, same_Some}
+use Rattle.std.proofs.lemmas.Option.{same_Some}
 use Rattle.std.specs.List.{list_any}
 use Rattle.cluster_run.proofs.Turning.{answer_is, finds_held, finds_none, finds_only, step_none, step_state, step_work}
 use Rattle.cluster_run.specs.Standing.{Has, HasNone, HasWork, HoldsOnly, state_seen}
@@ -14,7 +14,7 @@ use Rattle.node_core.specs.declared.answers.Got.{Got}
 use Rattle.node_model.specs.Decide.{run_at}
 use Rattle.node_model.specs.Events.{claimed, dropped, ended, finished, is_settled, read_on, released, settled_in}
 use Rattle.node_model.specs.Steps as steps
-use Rattle.node_model.specs.Steps.{Answer, Reply, ToClaim, ToFinish, ToRead, ToRelease, chosen, claims, finishes, noted, reads, reads_unless}
+use Rattle.node_model.specs.Steps.{Answer, ToClaim, ToFinish, ToRead, ToRelease, chosen, claims, finishes, noted, reads, reads_unless}
 use Rattle.node_model.specs.World.{Done, Held, Holds, HoldsNone, Job, World, change_job, is_held, is_held_by, job_at, new_job}
 use Rattle.node_model.specs.declared.journal.Entry.{Entry}
 use Rattle.node_model.specs.declared.journal.Event.TheVariants as event_of
@@ -23,15 +23,12 @@ use Rattle.node_shared.specs.Turn.{IsTurn, node_seen}
 use Rattle.proc_syntax.specs.declared.tree.App.{App}
 use Rattle.rel_base.specs.declared.storied.Storied.{Ghosts}
 use Rattle.schedule_laws.proofs.Lists.{job-change}
-use Rattle.schedule_laws.proofs.Asking.{holds_any}
+use Rattle.schedule_laws.proofs.Asking.{claimed_is, holds_any, none_claimed}
+use Rattle.schedule_laws.proofs.Lasting.{cond_held}
 use Rattle.turn_lock.specs.Passes.{IsSamePass, pass_base, pass_number}
 use Rattle.turn_lock.specs.declared.pass.Pass.{Pass}
 
 -- ---- jobs that change
-
-cond_held : (actor : ℕ) (b : Bool) (one two : Job) → (one.status ≡ Held actor → ⊥) → (two.status ≡ Held actor → ⊥) → (cond b one two).status ≡ Held actor → ⊥
-cond_held actor true one two p q = p
-cond_held actor false one two p q = q
 
 module _ (jobs : List Job) (actor one : ℕ) (change : Job → Job) where
   -- the number of a job that is held after a change of one
@@ -52,20 +49,6 @@ module _ (jobs : List Job) (actor one : ℕ) (change : Job → Job) where
       let number_is : number ≡ one = only_changed only number job holds in
       let now : job ≡ change was = same_Some job (change was) (sym holds.stands ∙ (ap (job_at (change_job change jobs one)) number_is ∙ changed_at jobs one change was stands)) in
       free (ap (λ (x : Job). x.status) (sym now) ∙ holds.held)
-
--- ---- answers of a claim
-
-abbrev number_in : Answer → Option ℕ
-number_in (steps.Claimed number) = Some number
-number_in _ = None
-
-claimed_is : (o : Option ℕ) (number : ℕ) → steps.Claimed number ≡ (claims o).0 → o ≡ Some number
-claimed_is None number e = absurd (none-some number (sym (ap number_in e)))
-claimed_is (Some other) number e = ap (λ n. Some n) (same_Some other number (sym (ap number_in e)))
-
-none_claimed : (o : Option ℕ) → steps.NoJob ≡ (claims o).0 → o ≡ None
-none_claimed None e = refl
-none_claimed (Some other) e = absurd (none-some other (ap number_in e))
 
 -- ---- turns
 

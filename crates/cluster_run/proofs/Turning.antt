@@ -1,11 +1,12 @@
 -- What a turn leaves to its pass, and what it changes for it.
-use Rattle.std.proofs.Common.{List, None, Option, Some, ap, append-nil, subst, sym, ◌++◌, ◌∙◌, ◌≡◌, ℕ}
+use Rattle.std.proofs.Common.{List, Option, ap, subst, sym, ◌++◌, ◌∙◌, ◌≡◌, ℕ}
 use Rattle.cluster_run.specs.Standing.{HasNone, HasWork, HoldsOnly, IsTrue, SameBlocks, delivered_by, state_seen}
+use Rattle.node_core.proofs.Journal.{world_grown}
 use Rattle.node_core.specs.Core.{Core, IsHeld, entries_for}
 use Rattle.node_core.specs.InHand.{InHand}
 use Rattle.node_model.specs.Journals.{IsLegal, delivered, world}
 use Rattle.node_model.specs.Steps.{Answer, Ask, noted, reply}
-use Rattle.node_model.specs.World.{HoldsNone, World, empty}
+use Rattle.node_model.specs.World.{HoldsNone, World}
 use Rattle.node_model.specs.declared.journal.Entry.{Entry}
 use Rattle.node_model.specs.declared.journal.Event.{Event}
 use Rattle.node_shared.proofs.Turns.{all_own, found_held, turns_find_own}
@@ -15,16 +16,9 @@ use Rattle.rel_base.proofs.Stories.{entries_grown}
 use Rattle.rel_base.specs.declared.storied.Storied.{Ghosts}
 use Rattle.schedule_laws.specs.Scheduled.{block_in}
 use Rattle.schedule_laws.specs.Stable.{IsLater, entries_by}
-use Rattle.schedule_laws.proofs.Lasting.{world-more}
 use Rattle.schedule_laws.proofs.Folding.{delivered-append}
 use Rattle.turn_lock.specs.Passes.{IsSamePass, mine, pass_base, pass_number, seen}
 use Rattle.turn_lock.specs.declared.pass.Pass.{Pass}
-
--- ---- journals that grow
-
-world_noted : (app : App) (journal : List Entry) (actor : ℕ) (o : Option Event) → world app (journal ++ entries_for actor o) ≡ noted app (world app journal) actor o
-world_noted app journal actor None = ap (world app) (append-nil journal)
-world_noted app journal actor (Some event) = world-more app empty journal (record { actor = actor; event = event })
 
 module _ {ghosts : Ghosts Core App Entry} (old new : Pass Core App Entry ghosts) (same : IsSamePass old new) where
   -- ---- a pass that others may have gone ahead of
@@ -111,7 +105,7 @@ module _ {ghosts : Ghosts Core App Entry} (old new : Pass Core App Entry ghosts)
     pub step_state : (o : Option Event) → event ≡ o → state_seen new ≡ noted (pass_base old) at (pass_number old) o
     step_state o is =
         ap (λ (a : App). world a (seen new)) same.same_base
-        ∙ (ap (world (pass_base old)) seen_is ∙ (world_noted (pass_base old) turn.journal (pass_number old) event ∙ ap (noted (pass_base old) at (pass_number old)) is))
+        ∙ (ap (world (pass_base old)) seen_is ∙ (world_grown (pass_base old) turn.journal (pass_number old) event ∙ ap (noted (pass_base old) at (pass_number old)) is))
 
     pub step_delivers : (o : Option Event) → event ≡ o → delivered_by new ≡ delivered_by old ++ delivered (entries_for (pass_number old) o)
     step_delivers o is =

@@ -88,7 +88,8 @@ canonical_from [] some one = absurd (omega (arith, some))
 canonical_from (d ∷ []) some one = refl
 canonical_from (d ∷ e ∷ ds) some one = ap not (ne_eqb d 48 (λ zero. omega (arith, one zero)))
 
-canonical_decimal : (n : ℕ) → n < 2 ^ 64 → is_canonical (decimal n) ≡ true
+-- the decimal of a number has no needless zero
+pub canonical_decimal : (n : ℕ) → n < 2 ^ 64 → is_canonical (decimal n) ≡ true
 canonical_decimal n low = canonical_from (decimal n) (decimal_nonempty n low) (λ zero. ⊎_elim (λ small. ap length (decimal_digit n small)) (λ large. absurd (omega (arith, zero, first_decimal n (omega (arith, large)) low))) (cases_lt n 10))
 
 pub number_again : (n : ℕ) (rest : List ℕ) → n < 2 ^ 64 → starts_no_digit rest ≡ true → u64_at (decimal n ++ rest) ≡ Some (n, rest)

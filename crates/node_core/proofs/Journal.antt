@@ -1,5 +1,5 @@
 -- A journal with one entry more, and a node after a step.
-use Rattle.std.proofs.Common.{List, None, Some, [], ap, refl, subst, sym, ◌++◌, ◌∙◌, ◌≡◌, ◌∷◌, ℕ}
+use Rattle.std.proofs.Common.{List, None, Option, Some, [], ap, append-nil, subst, sym, ◌++◌, ◌∙◌, ◌≡◌, ◌∷◌, ℕ}
 use Rattle.block_work.specs.Chain.{HoldsChain}
 use Rattle.block_work.specs.Ids.{HasFirstPlaces}
 use Rattle.node_core.specs.Core.{Core, Steps, entries_for}
@@ -7,14 +7,20 @@ use Rattle.node_core.specs.Kept.{AreRowsOf, IsNode, Kept, number_of_work, outcom
 use Rattle.node_core.specs.declared.jobs.JobRow.{JobRow}
 use Rattle.node_model.specs.Events.{after}
 use Rattle.node_model.specs.Journals.{IsLegal, world}
-use Rattle.node_model.specs.Steps.{Answer, Ask, May, Reply, reply}
+use Rattle.node_model.specs.Steps.{Answer, Ask, May, Reply, noted, reply}
 use Rattle.node_model.specs.World.{World, empty}
 use Rattle.node_model.specs.declared.journal.Entry.{Entry}
 use Rattle.node_model.specs.declared.journal.Event.{Event}
 use Rattle.proc_syntax.specs.Declaring.{tables_of}
+use Rattle.proc_syntax.specs.declared.tree.App.{App}
 use Rattle.schedule_laws.proofs.Facts.{facts_always_hold}
 use Rattle.schedule_laws.specs.Facts.{FactsHold}
 use Rattle.schedule_laws.proofs.Lasting.{legal_more, world-more}
+
+-- the state after what was noted of a call
+pub world_grown : (app : App) (journal : List Entry) (actor : ℕ) (o : Option Event) → world app (journal ++ entries_for actor o) ≡ noted app (world app journal) actor o
+world_grown app journal actor None = ap (world app) (append-nil journal)
+world_grown app journal actor (Some event) = world-more app empty journal (record { actor = actor; event = event })
 
 -- the node as its callers see it
 abbrev pub core_of : Kept → Core
@@ -26,12 +32,8 @@ module _ (kept : Kept) (node : IsNode kept) where
 
   -- an answer that changes nothing
   pub stays : (actor : ℕ) (ask : Ask) (answer : Answer) → reply kept.app (world_in kept) ask ≡ (answer, None) → Steps (core_of kept) actor ask answer (core_of kept)
-  stays actor ask answer is = ap same (sym (append_none kept.journal)) ∙ ap step (sym is)
+  stays actor ask answer is = ap same (sym (append-nil kept.journal)) ∙ ap step (sym is)
     where
-      append_none : (journal : List Entry) → journal ++ [] ≡ journal
-      append_none [] = refl
-      append_none (first ∷ journal) = ap (λ rest. first ∷ rest) (append_none journal)
-
       same : List Entry → Answer × Core
       same journal = (answer, record { app = kept.app; journal = journal })
 

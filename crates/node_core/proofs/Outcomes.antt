@@ -7,9 +7,10 @@ use Rattle.std.specs.List.{flat_map}
 use Rattle.std.specs.Option.{option_and_then, option_map, option_or}
 use Rattle.std.specs.Prelude.{IfSome}
 use Rattle.std.specs.Str.{bytes_eq}
+use Rattle.block_work.proofs.Grown.{results_length}
 use Rattle.block_work.specs.Ids.{first_among, first_in, place_of_id}
 use Rattle.node_core.proofs.Journal.{facts}
-use Rattle.node_core.proofs.Settled.{length_from, number_next}
+use Rattle.node_core.proofs.Settled.{number_next}
 use Rattle.node_core.specs.Finding.{item_at, outcome_by, outcomes_at, told_at}
 use Rattle.node_core.specs.Kept.{IsNode, Kept, number_of_work, outcomes_of, shown_work, world_in}
 use Rattle.node_core.specs.Looking.{first_outcome, told_in_work, told_of}
@@ -160,7 +161,7 @@ module _ (tables : List TableDef) (sealed : List SealedBlock) (work : Option Wor
       by None is = refl
       by (Some working) is =
           let after : working.done.number ≡ suc (length sealed) = omega (arith, is) in
-          let many : length blocks ≡ length sealed = length_from tables no_digest sealed in
+          let many : length blocks ≡ length sealed = results_length tables no_digest sealed in
           ap (item_at blocks) after ∙ slice_get_past blocks (length sealed) (omega (arith, many))
 
   in_sealed : (found : Found 1 blocks sealed id) → told_of_place (at (1 + found.index) (1 + found.place)) ≡ Some found.told

@@ -1,32 +1,28 @@
 -- Whether an id is settled, by the index of ids.
-use Rattle.std.proofs.Common.{Bool, IfSome, List, None, Option, Some, [], ap, arith, cond, false, find, length, refl, subst, suc, sym, true, ◌+◌, ◌||◌, ◌∙◌, ◌≡◌, ◌≤◌, ◌∷◌, ℕ}
+use Rattle.std.proofs.Common.{Bool, IfSome, List, None, Option, Some, [], ap, arith, cond, false, find, length, refl, subst, sym, true, ◌+◌, ◌||◌, ◌∙◌, ◌≡◌, ◌≤◌, ◌∷◌, ℕ}
 use Rattle.std.proofs.lemmas.Bool.Decides.{nat_tests}
 use Rattle.std.proofs.lemmas.Option.{none-some}
 use Rattle.std.specs.List.{list_any}
 use Rattle.std.specs.Option.{option_map, option_or}
 use Rattle.std.specs.Prelude.{nat_le}
 use Rattle.std.specs.Str.{bytes_eq}
+use Rattle.block_work.proofs.Grown.{results_length}
 use Rattle.block_work.specs.Ids.{first_among, first_in, place_of_id}
 use Rattle.node_core.proofs.Journal.{facts}
 use Rattle.node_core.specs.Kept.{IsNode, IsWorkingOn, Kept, number_of_work, outcomes_of, shown_work, up_to, world_in}
 use Rattle.node_core.specs.declared.working.Working.{Working}
 use Rattle.node_model.specs.Events.{has_told, settled_in}
-use Rattle.node_model.specs.Fold.{block_result, no_digest, results_from}
+use Rattle.node_model.specs.Fold.{no_digest}
 use Rattle.node_model.specs.History.{SealedBlock, ids_told}
 use Rattle.node_model.specs.declared.result.Told.{Told}
 use Rattle.proc_syntax.specs.Declaring.{tables_of}
 use Rattle.rel_base.specs.declared.access.Place.{Place}
-use Rattle.rel_base.specs.declared.schema.TableDef.{TableDef}
 use Rattle.schedule_laws.specs.Facts.{AreCounted}
 
 -- ---- how many are sealed
 
-pub length_from : (tables : List TableDef) (previous : List ℕ) (chain : List SealedBlock) → length (results_from tables previous chain) ≡ length chain
-length_from tables previous [] = refl
-length_from tables previous (block ∷ rest) = ap suc (length_from tables (block_result tables previous block).digest rest)
-
 pub height_is : (kept : Kept) → IsNode kept → length kept.results ≡ length (world_in kept).sealed
-height_is kept node = ap length node.holds.results ∙ length_from (tables_of kept.app) no_digest (world_in kept).sealed
+height_is kept node = ap length node.holds.results ∙ results_length (tables_of kept.app) no_digest (world_in kept).sealed
 
 -- ---- the first place of an id
 

@@ -10,13 +10,16 @@ use Rattle.node_model.specs.World.{Holds}
 use Rattle.node_model.specs.declared.journal.Entry.{Entry}
 use Rattle.node_model.specs.declared.journal.Event.{Event}
 use Rattle.node_shared.specs.Laws.{TurnsFindOwn}
-use Rattle.node_shared.specs.Turn.{IsFound}
+use Rattle.node_shared.specs.Turn.{IsFound, IsTurn}
 use Rattle.proc_syntax.specs.declared.tree.App.{App}
 use Rattle.rel_base.proofs.Stories.{entries_append, prefix_trans}
 use Rattle.rel_base.specs.Stories.{AddsOwn}
+use Rattle.rel_base.specs.declared.storied.Storied.{Ghosts}
 use Rattle.schedule_laws.proofs.Asking.{may_stays}
 use Rattle.schedule_laws.proofs.Lasting.{before_facts, others_leave}
 use Rattle.schedule_laws.specs.Stable.{IsLater, entries_by}
+use Rattle.turn_lock.specs.Passes.{mine, pass_base, pass_number, seen}
+use Rattle.turn_lock.specs.declared.pass.Pass.{Pass}
 
 nothing : {A : Type 0} (xs ys zs : List A) → xs ++ ys ≡ zs → xs ≡ zs → ys ≡ []
 nothing xs [] zs e f = refl
@@ -109,3 +112,17 @@ step_seen old new actor number base seen ask answer app same at step =
     subst (λ (n : ℕ). Steps (record { app = base; journal = old.journal }) n ask answer (record { app = base; journal = seen })) same
     (subst (λ (a : App). Steps (record { app = a; journal = old.journal }) actor ask answer (record { app = a; journal = seen })) app
     (ap (λ (j : List Entry). (answer, record { app = old.app; journal = j })) at ∙ ap (λ (p : Answer × Core). (p.0, record { app = old.app; journal = p.1.journal })) step))
+
+-- a step of the core that was taken out and is given back is a turn of the pass
+pub turn_of : {ghosts : Ghosts Core App Entry} (before after : Pass Core App Entry ghosts) (old new : Core) (actor : ℕ) → old.app ≡ pass_base before → actor ≡ pass_number before
+    → IsFound old.app (pass_number before) (seen before) (mine before) old.journal → IsLegal new.app new.journal → seen after ≡ new.journal → (ask : Ask) (answer : Answer) → Steps old actor ask answer new
+    → mine after ≡ mine before ++ entries_for (pass_number before) (reply (pass_base before) (world (pass_base before) old.journal) ask).1 → IsTurn before after ask answer
+turn_of before after old new actor base same found legal at ask answer step own =
+    let app_same : new.app ≡ pass_base before = ap (λ (p : Answer × Core). p.1.app) step ∙ base in
+    record {
+      journal = old.journal;
+      found = subst (λ (a : App). IsFound a (pass_number before) (seen before) (mine before) old.journal) base found;
+      step = step_seen old new actor (pass_number before) (pass_base before) (seen after) ask answer base same at step;
+      own = own;
+      legal = subst (λ (j : List Entry). IsLegal (pass_base before) j) (sym at) (subst (λ (a : App). IsLegal a new.journal) app_same legal);
+    }

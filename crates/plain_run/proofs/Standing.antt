@@ -13,7 +13,8 @@ use Rattle.rel_base.specs.Value.{key_eq}
 use Rattle.rel_base.specs.Among.{StandsIn}
 use Rattle.rel_base.proofs.Bits.{first_true, second_true}
 use Rattle.proc_syntax.specs.Meaning.{row_fits}
-use Rattle.proc_syntax.proofs.Fits.{kinds_hold, keys_equal}
+use Rattle.proc_syntax.proofs.Fits.{kinds_hold}
+use Rattle.rel_base.proofs.KeyOrder.{same_key}
 use Rattle.plain_run.specs.State.{IsReady}
 use Rattle.row_sets.proofs.Entries.{entries-from_rising}
 
@@ -22,7 +23,7 @@ pub stands_from : (declared : List TableDef) (ref : ℕ × List Value) (def : Ta
     → under ≡ (row_fits def row && key_eq (key_of_row def row) ref.1) → under ≡ true → StandsIn declared ref row
 stands_from declared ref def row under here is holds =
     let both : (row_fits def row && key_eq (key_of_row def row) ref.1) ≡ true = subst (λ b. b ≡ true) is holds in
-    subst (λ found. IsSomeAnd found (λ def. RowFits def row × (key_of_row def row ≡ ref.1))) (sym here) (kinds_hold _ _ (first_true _ _ both), keys_equal _ _ (second_true (row_fits def row) _ both))
+    subst (λ found. IsSomeAnd found (λ def. RowFits def row × (key_of_row def row ≡ ref.1))) (sym here) (kinds_hold _ _ (first_true _ _ both), same_key _ _ (second_true (row_fits def row) _ both))
 
 pub more_ok : {A E : Type 0} (P Q : A → Type 0) (r : Result A E) → ((x : A) → P x → Q x) → IfOk r P → IfOk r Q
 more_ok P Q (Ok x) f h = f x h

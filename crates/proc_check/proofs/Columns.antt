@@ -13,8 +13,8 @@ use Rattle.rel_base.proofs.Bytes.{equal_bytes}
 use Rattle.proc_syntax.specs.declared.tree.ColumnText.{ColumnText}
 use Rattle.proc_syntax.specs.Declaring.{column_of, column_number}
 use Rattle.proc_syntax.specs.Values.{has_kind}
+use Rattle.proc_syntax.proofs.Fits.{own_kind}
 use Rattle.proc_check.specs.Tables.{column_kind}
-use Rattle.proc_check.proofs.Operators.{own_kind}
 
 pub none_some : {A : Type 0} {x : A} → None ≡ Some x → ⊥
 none_some h = subst (λ o. MatchOption o (Unit {0}) (λ x. ⊥)) h tt

@@ -21,7 +21,7 @@ use Rattle.rel_base.specs.Value.{key_cmp}
 use Rattle.rel_base.specs.Among.{StandsIn}
 use Rattle.rel_base.specs.OwnWrites.{Own, Keyed, keyed, set_row, covered, lay, lay_all, first_row, own_or, merged}
 use Rattle.rel_base.proofs.Bits.{first_true, is_Equal, second_true}
-use Rattle.proc_syntax.proofs.Fits.{keys_equal}
+use Rattle.rel_base.proofs.KeyOrder.{same_key}
 use Rattle.proc_syntax.proofs.Sound.{all_put}
 
 -- ---- entries
@@ -77,7 +77,7 @@ module _ (declared : List TableDef) where
     own_row key (Some (Some row)) seens stands all = (at_def (table, key) row refl stands, tt)
     own_row key (Some None) seens stands all = tt
     own_row key None [] stands all = tt
-    own_row key None (seen ∷ rest) stands all = ((all.0.0, keys_equal (key_of_row def seen.row) key all.0.1), tt)
+    own_row key None (seen ∷ rest) stands all = ((all.0.0, same_key (key_of_row def seen.row) key all.0.1), tt)
 
     pub point_rows : (key : List Value) (own : Own) (S : Tables) → AllByRecursion OwnStands (finite.entries own) → AllByRecursion Stands (finite.entries S)
         → AllByRecursion (Under key) (merged def (Point table key) own (rows def (Point table key) S))

@@ -8,7 +8,6 @@ use Rattle.rel_base.specs.declared.value.Kind.{Kind}
 use Rattle.rel_base.specs.declared.value.Kind.TheVariants as kind
 use Rattle.rel_base.specs.declared.value.Value.{Value}
 use Rattle.rel_base.specs.declared.value.Value.TheVariants as value
-use Rattle.rel_base.specs.Value.{kind_of}
 use Rattle.proc_syntax.specs.declared.fault.Fault.TheVariants as fault
 use Rattle.proc_syntax.specs.declared.run.Stop.{Stop}
 use Rattle.proc_syntax.specs.declared.run.Stop.TheVariants as stop
@@ -51,12 +50,6 @@ bools P f (value.Int n) h = absurd (no_truth h)
 bools P f (value.Text t) h = absurd (no_truth h)
 bools P f (value.Bool b) h = f b
 bools P f (value.Bytes b) h = absurd (no_truth h)
-
-pub own_kind : (v : Value) → has_kind (kind_of v) v ≡ true
-own_kind (value.Int n) = refl
-own_kind (value.Text t) = refl
-own_kind (value.Bool b) = refl
-own_kind (value.Bytes b) = refl
 
 -- ---- operators
 

@@ -18,7 +18,7 @@ use Rattle.rel_base.specs.declared.value.Kind.TheVariants as kind
 use Rattle.rel_base.specs.declared.value.Value.{Value}
 use Rattle.rel_base.specs.Schema.{RowFits, key_of_row, kind_at, span_columns}
 use Rattle.rel_base.specs.Tables.{Tables, rows}
-use Rattle.rel_base.specs.Value.{kind_of, key_eq, key_cmp-total}
+use Rattle.rel_base.specs.Value.{key_eq, key_cmp-total}
 use Rattle.proc_syntax.specs.declared.fault.Fault.TheVariants as fault
 use Rattle.proc_syntax.specs.declared.run.Binding.TheVariants.{Plain, Held}
 use Rattle.proc_syntax.specs.declared.run.Stop.{Stop}
@@ -27,7 +27,7 @@ use Rattle.proc_syntax.specs.declared.run.Variable.{Variable as Bound}
 use Rattle.proc_syntax.specs.declared.tree.Change.{Change}
 use Rattle.proc_syntax.specs.declared.tree.Expr.{Expr}
 use Rattle.proc_syntax.specs.declared.tree.Named.{Named}
-use Rattle.proc_syntax.specs.declared.tree.Stmt.{Stmt, Stmt-F, fold-Stmt, fold-roll-Stmt, map-Stmt, roll-Stmt}
+use Rattle.proc_syntax.specs.declared.tree.Stmt.{Stmt, Stmt-F, map-Stmt}
 use Rattle.proc_syntax.specs.declared.tree.Stmt.TheOpen as stmt
 use Rattle.proc_syntax.specs.declared.tree.TableText.{TableText}
 use Rattle.proc_syntax.specs.Declaring.{declare}
@@ -36,9 +36,9 @@ use Rattle.rel_base.specs.OwnWrites.{merged}
 use Rattle.rel_base.proofs.Lists.{not_some}
 use Rattle.proc_syntax.specs.Scope.{table_named, column_in, value_of, values_of, end_of, changes_of}
 use Rattle.proc_syntax.specs.Values.{has_kind, have_kinds, flag_of}
-use Rattle.proc_syntax.proofs.Fits.{kinds_hold}
+use Rattle.proc_syntax.proofs.Fits.{kinds_held, kinds_hold}
 use Rattle.proc_syntax.proofs.Sound.{all_more}
-use Rattle.proc_syntax.proofs.Trees.{Such, bare, stripped, every_stmt}
+use Rattle.proc_syntax.proofs.Trees.{Such, bare, stripped, every_pair}
 use Rattle.proc_check.specs.declared.fault.Bad.{Bad}
 use Rattle.proc_check.specs.declared.fault.BadKind.TheVariants.{UnknownName, NameTwice, NoIndex, WrongCount}
 use Rattle.proc_check.specs.declared.scope.Sort.{Sort}
@@ -50,22 +50,13 @@ use Rattle.proc_check.specs.Statements.{Walk, block, maybe_block, stmt_step, wal
 use Rattle.proc_check.specs.Tables.{column_kind, columns_in, columns_of, key_in, key_of, is_spanned, is_spanned_in, known_table, known_column}
 use Rattle.proc_check.specs.Walk.{◌>>=◌, refuse, found, in_order}
 use Rattle.proc_check.proofs.Limits.{first, second, not_refused}
-use Rattle.proc_check.proofs.Operators.{IsFault, Of, bools, own_kind}
+use Rattle.proc_check.proofs.Operators.{IsFault, Of, bools}
 use Rattle.proc_check.proofs.Columns.{kinds_of, number_at, run_number, none_some, some_is}
 use Rattle.proc_check.proofs.Names.{Agrees, RowOf, err_ok, ok_is, ok_then, found_some}
 use Rattle.proc_check.proofs.Bindings.{agrees_less, agrees_more, agrees_set}
 use Rattle.proc_check.proofs.Fitting.{Stands, OwnStands, point_rows, span_rows, own_put}
 use Rattle.proc_check.proofs.Typed_values.{expr_typed, needed_kind, not_false}
 use Rattle.proc_check.proofs.Typed_lists.{IsChange, key_typed, insert_typed, end_typed, changes_typed, set_all, spanned}
-
--- ---- induction on statements, with what two folds of different kinds make of them
-
-every_pair : (A B : Type 0) (f : Stmt-F A → A) (g : Stmt-F B → B) (R : A → B → Type 0)
-    → ((d : Stmt-F (Such (λ s. R (fold-Stmt A f s) (fold-Stmt B g s)))) → R (f (map-Stmt Stmt A (fold-Stmt A f) (stripped d))) (g (map-Stmt Stmt B (fold-Stmt B g) (stripped d))))
-    → (s : Stmt) → R (fold-Stmt A f s) (fold-Stmt B g s)
-every_pair A B f g R each = every_stmt (λ s. R (fold-Stmt A f s) (fold-Stmt B g s)) (λ d.
-    subst (λ a. R a (fold-Stmt B g (roll-Stmt (stripped d)))) (sym (fold-roll-Stmt A f (stripped d)))
-    (subst (R (f (map-Stmt Stmt A (fold-Stmt A f) (stripped d)))) (sym (fold-roll-Stmt B g (stripped d))) (each d)))
 
 -- ---- tables
 
@@ -151,16 +142,9 @@ span_is text number name column k low high is_in indexed of_kind of_low of_high 
     ∙ ap (λ b. cond (b && end_has k high) (Some (Span number column low high)) None) of_low
     ∙ ap (λ b. cond b (Some (Span number column low high)) None) of_high
 
-kinds_from : (ks : List Kind) (vs : List Value) → map kind_of vs ≡ ks → have_kinds ks vs ≡ true
-kinds_from ks vs is = subst (λ ks. have_kinds ks vs ≡ true) is (of_own vs)
-  where
-    of_own : (vs : List Value) → have_kinds (map kind_of vs) vs ≡ true
-    of_own [] = refl
-    of_own (v ∷ vs) = rw (own_kind v, of_own vs) refl
-
 pub under_is : (def : TableDef) (key row : List Value) → RowFits def row × (key_of_row def row ≡ key) → row_under def key row ≡ Some row
 under_is def key row under =
-    ap (λ b. cond (b && key_eq (key_of_row def row) key) (Some row) None) (kinds_from (map (λ column. column.kind) def.columns) row under.0)
+    ap (λ b. cond (b && key_eq (key_of_row def row) key) (Some row) None) (kinds_held (map (λ column. column.kind) def.columns) row under.0)
     ∙ ap (λ b. cond b (Some row) None) (ap (λ k. key_eq k key) under.1 ∙ (eq_by_cmp_equiv key_cmp-total).refl key)
 
 -- ---- outcomes

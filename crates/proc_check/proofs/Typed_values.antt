@@ -5,11 +5,13 @@ use Rattle.rel_base.specs.declared.value.Kind.TheVariants as kind
 use Rattle.rel_base.specs.declared.value.Value.{Value}
 use Rattle.proc_syntax.specs.declared.run.Stop.{Stop}
 use Rattle.proc_syntax.specs.declared.run.Variable.{Variable as Bound}
-use Rattle.proc_syntax.specs.declared.tree.Expr.{Expr, Expr-F, fold-Expr, fold-roll-Expr, ind-Expr, map-Expr, roll-Expr}
+use Rattle.proc_syntax.specs.declared.tree.Expr.{Expr, Expr-F, map-Expr}
 use Rattle.proc_syntax.specs.declared.tree.Expr.TheOpen as expr
 use Rattle.proc_syntax.specs.declared.tree.TableText.{TableText}
 use Rattle.proc_syntax.specs.Declaring.{declare}
 use Rattle.proc_syntax.specs.Scope.{binding_of, value_step, value_of}
+use Rattle.proc_syntax.proofs.ExprTrees.{Such, stripped, every_pair}
+use Rattle.proc_syntax.proofs.Fits.{own_kind}
 use Rattle.proc_check.specs.declared.expressions.Typed.{Typed}
 use Rattle.proc_check.specs.declared.fault.BadKind.TheVariants.{WrongKind}
 use Rattle.proc_check.specs.declared.scope.Variable.{Variable}
@@ -17,30 +19,9 @@ use Rattle.proc_check.specs.Walk.{◌>>=◌, refuse}
 use Rattle.proc_check.specs.Scope.{look_up}
 use Rattle.proc_check.specs.Kinds.{is_wanted, need, one, operand_kind, result_kind, left_kind, two, type_step, type_of}
 use Rattle.proc_check.proofs.Limits.{not_refused}
-use Rattle.proc_check.proofs.Operators.{GivesKind, IsOperand, own_kind, not_kind, negation_kind, two_typed}
+use Rattle.proc_check.proofs.Operators.{GivesKind, IsOperand, not_kind, negation_kind, two_typed}
 use Rattle.proc_check.proofs.Columns.{some_is}
 use Rattle.proc_check.proofs.Names.{Agrees, ok_is, ok_then, name_kind, field_typed}
-
--- ---- induction on expressions, with what two folds make of them
-
-abbrev Such : (Expr → Type 0) → Type 0
-Such P = (e : Expr) × P e
-
-abbrev bare : {P : Expr → Type 0} → Such P → Expr
-bare e = e.0
-
-abbrev stripped : {P : Expr → Type 0} → Expr-F (Such P) → Expr-F Expr
-stripped {P = P} d = map-Expr (Such P) Expr bare d
-
-every_expr : (P : Expr → Type 0) → ((d : Expr-F (Such P)) → P (roll-Expr (stripped d))) → (e : Expr) → P e
-every_expr P step = ind-Expr P (λ x y e. subst (λ x. P (roll-Expr x)) e (step y))
-
-every_pair : (A B : Type 0) (f : Expr-F A → A) (g : Expr-F B → B) (R : A → B → Type 0)
-    → ((d : Expr-F (Such (λ e. R (fold-Expr A f e) (fold-Expr B g e)))) → R (f (map-Expr Expr A (fold-Expr A f) (stripped d))) (g (map-Expr Expr B (fold-Expr B g) (stripped d))))
-    → (e : Expr) → R (fold-Expr A f e) (fold-Expr B g e)
-every_pair A B f g R each = every_expr (λ e. R (fold-Expr A f e) (fold-Expr B g e)) (λ d.
-    subst (λ a. R a (fold-Expr B g (roll-Expr (stripped d)))) (sym (fold-roll-Expr A f (stripped d)))
-    (subst (R (f (map-Expr Expr A (fold-Expr A f) (stripped d)))) (sym (fold-roll-Expr B g (stripped d))) (each d)))
 
 -- ---- what the steps of the check say
 

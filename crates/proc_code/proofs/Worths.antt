@@ -17,10 +17,11 @@ use Rattle.proc_syntax.specs.declared.run.Binding.TheVariants.{Plain, Held}
 use Rattle.proc_syntax.specs.declared.run.Stop.{Stop}
 use Rattle.proc_syntax.specs.declared.run.Variable.{Variable}
 use Rattle.proc_syntax.specs.declared.tree.Change.{Change}
-use Rattle.proc_syntax.specs.declared.tree.Expr.{Expr, Expr-F, fold-Expr, fold-roll-Expr, ind-Expr, map-Expr, roll-Expr}
+use Rattle.proc_syntax.specs.declared.tree.Expr.{Expr, Expr-F, map-Expr}
 use Rattle.proc_syntax.specs.declared.tree.Expr.TheOpen as expr
 use Rattle.proc_syntax.specs.Scope.{binding_of, column_in, table_named, plain_of, field_of, value_step, value_of, values_of, end_of, changes_of}
 use Rattle.proc_syntax.specs.Values.{◌>>=◌, found, negation_of, not_of, apply}
+use Rattle.proc_syntax.proofs.ExprTrees.{Such, stripped, every_pair}
 use Rattle.proc_code.specs.declared.tree.Term.{Term, Term-F, fold-roll-Term, map-Term, roll-Term}
 use Rattle.proc_code.specs.declared.tree.Term.TheOpen as term
 use Rattle.proc_code.specs.Coded.{Slots, table_at, column_at, cell_of, worth_step, worth_of, worths_of, end_worth, sets_worth}
@@ -109,26 +110,6 @@ cells_are tables name (Some (Plain v)) = refl
 cells_are tables name (Some (Held table row)) = cell_is tables name table row
 
 -- ---- expressions
-
-abbrev Such : (Expr → Type 0) → Type 0
-Such P = (e : Expr) × P e
-
-abbrev bare : {P : Expr → Type 0} → Such P → Expr
-bare e = e.0
-
-abbrev stripped : {P : Expr → Type 0} → Expr-F (Such P) → Expr-F Expr
-stripped {P = P} d = map-Expr (Such P) Expr bare d
-
-every_expr : (P : Expr → Type 0) → ((d : Expr-F (Such P)) → P (roll-Expr (stripped d))) → (e : Expr) → P e
-every_expr P step = ind-Expr P (λ x y e. subst (λ x. P (roll-Expr x)) e (step y))
-
--- what holds of what two folds make of an expression
-every_pair : (A B : Type 0) (f : Expr-F A → A) (g : Expr-F B → B) (R : A → B → Type 0)
-    → ((d : Expr-F (Such (λ e. R (fold-Expr A f e) (fold-Expr B g e)))) → R (f (map-Expr Expr A (fold-Expr A f) (stripped d))) (g (map-Expr Expr B (fold-Expr B g) (stripped d))))
-    → (e : Expr) → R (fold-Expr A f e) (fold-Expr B g e)
-every_pair A B f g R each = every_expr (λ e. R (fold-Expr A f e) (fold-Expr B g e)) (λ d.
-    subst (λ a. R a (fold-Expr B g (roll-Expr (stripped d)))) (sym (fold-roll-Expr A f (stripped d)))
-    (subst (R (f (map-Expr Expr A (fold-Expr A f) (stripped d)))) (sym (fold-roll-Expr B g (stripped d))) (each d)))
 
 module _ (tables : List TableDef) (names : Names) where
   abbrev columns : List (List (Option ℕ))

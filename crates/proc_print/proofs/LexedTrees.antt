@@ -12,7 +12,7 @@ use Rattle.proc_syntax.specs.declared.tree.Expr.TheOpen as open_expr
 use Rattle.proc_syntax.specs.declared.tree.Stmt.{Stmt, Stmt-F, fold-roll-Stmt, map-Stmt, roll-Stmt}
 use Rattle.proc_syntax.specs.declared.tree.Stmt.TheOpen as open_stmt
 use Rattle.proc_syntax.proofs.Trees as trees
-use Rattle.proc_print.proofs.ExprTrees as exprs
+use Rattle.proc_syntax.proofs.ExprTrees as exprs
 use Rattle.proc_parse.specs.declared.token.Word.{Word}
 use Rattle.proc_parse.specs.declared.token.Word.TheVariants as word
 use Rattle.proc_parse.specs.Words.{spelling}

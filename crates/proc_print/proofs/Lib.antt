@@ -1,6 +1,5 @@
 pub mod Bare
 pub mod BareRules
-pub mod ExprTrees
 pub mod Fine
 pub mod Lexed
 pub mod LexedTokens

@@ -14,7 +14,7 @@ use Rattle.proc_syntax.specs.declared.tree.Stmt.{Stmt, Stmt-F, fold-roll-Stmt, m
 use Rattle.proc_syntax.specs.declared.tree.Stmt.TheOpen as open_stmt
 use Rattle.proc_syntax.specs.declared.tree.Stmt.TheVariants as stmt
 use Rattle.proc_syntax.proofs.Trees as trees
-use Rattle.proc_print.proofs.ExprTrees as exprs
+use Rattle.proc_syntax.proofs.ExprTrees as exprs
 use Rattle.proc_print.specs.Printed.{listed, in_parens, op_text, expr_step, expr_text, line_text, block_text, end_text, change_text, keyed_text, ends_text, span_text, insert_text, update_text, delete_text, stmt_step, stmt_text, column_text, named_text, index_text, table_text, procedure_text, printed}
 use Rattle.proc_print.specs.Unlined.{unlined_name, unlined_column, unlined_expr_step, unlined_expr, unlined_change, unlined_stmt_step, unlined_stmt, unlined_table, unlined_procedure, unlined}
 use Rattle.proc_print.specs.Laws.{PrintsAreStable}

@@ -3,9 +3,6 @@ use Rattle.std.proofs.Common.{◌≡◌, subst, ℕ, pos, refl, sym, ap, ◌∙�
 use Rattle.std.specs.Prelude.{slice_index_or}
 use Rattle.std.specs.Cmp.Derive.{both_true}
 use Rattle.std.specs.List.{list_any}
-use Rattle.std.specs.Ordering.{is_eq}
-use Rattle.std.specs.declared.cmp.Ordering.{Ordering}
-use Rattle.std.specs.declared.cmp.Ordering.TheVariants.{Less, Equal, Greater}
 use Rattle.std.proofs.Math.ListN.{get_or-map}
 use Rattle.std.proofs.lemmas.Bool.{eqb-true}
 use Rattle.std.proofs.lemmas.Map.Views.{Contains-from_any}
@@ -18,8 +15,9 @@ use Rattle.rel_base.specs.declared.value.Value.TheVariants as value
 use Rattle.rel_base.specs.Access.{read_table, ReadFits}
 use Rattle.rel_base.specs.Row.{value_at}
 use Rattle.rel_base.specs.Schema.{kind_at, span_columns, RowFits, KeyFits, key_of_row}
-use Rattle.rel_base.specs.Value.{kind_of, key_eq, key_cmp, key_cmp-exact}
-use Rattle.rel_base.proofs.Bits.{first_true, is_Equal, second_true}
+use Rattle.rel_base.specs.Value.{kind_of, key_eq}
+use Rattle.rel_base.proofs.Bits.{first_true, second_true}
+use Rattle.rel_base.proofs.KeyOrder.{same_key}
 use Rattle.proc_syntax.specs.Meaning.{point_of, span_of, end_has, row_fits, key_for, row_under}
 use Rattle.proc_syntax.specs.Values.{has_kind, have_kinds}
 
@@ -48,7 +46,8 @@ kinds_hold (k ∷ ks) [] h = cc
 kinds_hold (k ∷ ks) (v ∷ vs) h =
     ap (λ x. x ∷ map kind_of vs) (kind_holds k v (first_true _ _ h)) ∙ ap (λ xs. k ∷ xs) (kinds_hold ks vs (second_true (has_kind k v) _ h))
 
-own_kind : (v : Value) → has_kind (kind_of v) v ≡ true
+-- a value has its own kind
+pub own_kind : (v : Value) → has_kind (kind_of v) v ≡ true
 own_kind (value.Int n) = refl
 own_kind (value.Text t) = refl
 own_kind (value.Bool b) = refl
@@ -60,9 +59,6 @@ own_kinds (v ∷ vs) = both_true (own_kind v) (own_kinds vs)
 
 pub kinds_held : (ks : List Kind) (vs : List Value) → map kind_of vs ≡ ks → have_kinds ks vs ≡ true
 kinds_held ks vs e = subst (λ ks. have_kinds ks vs ≡ true) e (own_kinds vs)
-
-pub keys_equal : (a b : List Value) → key_eq a b ≡ true → a ≡ b
-keys_equal a b h = key_cmp-exact a b (is_Equal (key_cmp a b) h)
 
 -- the key of a row that fits fits
 pub key_of_fit : (def : TableDef) (row : List Value) → RowFits def row → KeyFits def (key_of_row def row)
@@ -108,6 +104,6 @@ pub under_fits : (def : TableDef) (key row : List Value) → IfSome (row_under d
 under_fits def key row =
     elim (row_fits def row && key_eq (key_of_row def row) key)
     as (λ b. (row_fits def row && key_eq (key_of_row def row) key) ≡ b → IfSome (cond b (Some row) None) (λ new. RowFits def new × (key_of_row def new ≡ key))) [
-      | true ↦ λ h. (kinds_hold _ _ (first_true _ _ h), keys_equal _ _ (second_true (row_fits def row) _ h))
+      | true ↦ λ h. (kinds_hold _ _ (first_true _ _ h), same_key _ _ (second_true (row_fits def row) _ h))
       | false ↦ λ h. tt
     ] refl

@@ -19,7 +19,7 @@ use Rattle.proc_syntax.specs.Meaning.{State, Progress, Going, Stopped, then_do, 
 use Rattle.rel_base.specs.OwnWrites.{merged}
 use Rattle.proc_syntax.specs.Scope.{table_named, column_in, value_of, values_of, end_of, changes_of}
 use Rattle.proc_syntax.specs.Values.{flag_of}
-use Rattle.proc_syntax.proofs.Trees.{Such, bare, stripped, every_two}
+use Rattle.proc_syntax.proofs.Trees.{Such, bare, stripped, every_pair}
 use Rattle.proc_syntax.proofs.Lookups.{declared_named, anything, point_table, span_table}
 
 abbrev pub state_of : Progress → State
@@ -160,7 +160,7 @@ module _ (declared : List TableDef) where
     framed_act (stmt.Fail text) st = framed_same st.made _ refl
 
     framed_stmt : (s : Stmt) → AlikeAt s
-    framed_stmt = every_two (State → Progress) (act_step declared S) (act_step declared S') Alike framed_act
+    framed_stmt = every_pair (State → Progress) (State → Progress) (act_step declared S) (act_step declared S') Alike framed_act
 
     pub framed_block : (stmts : List Stmt) → Alike (block declared S stmts) (block declared S' stmts)
     framed_block [] st = framed_same st.made _ refl

@@ -1,4 +1,5 @@
 pub mod Trees
+pub mod ExprTrees
 pub mod Blocks
 pub mod Lookups
 pub mod Framed

@@ -39,7 +39,8 @@ use Rattle.rel_base.specs.OwnWrites.{first_row}
 use Rattle.rel_base.specs.NetWrites.{row_in, write_before, net_from, net}
 use Rattle.rel_base.proofs.Bits.{first, first_true, is_Less, second, second_true}
 use Rattle.proc_syntax.specs.Run.{ran, no_run, start, takes, called, procedure_named, run}
-use Rattle.proc_syntax.proofs.Fits.{keys_equal, key_of_fit, kinds_held}
+use Rattle.proc_syntax.proofs.Fits.{key_of_fit, kinds_held}
+use Rattle.rel_base.proofs.KeyOrder.{same_key}
 use Rattle.proc_syntax.proofs.Framed.{state_of, Agrees, framed_block}
 use Rattle.proc_syntax.proofs.Sound.{Sound, Answered, OwnFits, WasRead, sound_run, all_more}
 
@@ -226,7 +227,7 @@ module _ (declared : List TableDef) (def : TableDef) (table : ℕ) (key : List V
       by_row : is_read def (Point table key) e ≡ true → (table, key) ≡ e.0
       by_row reads =
           let at_table = eqb-true table e.0.0 (first_true _ _ reads) in
-          let at_key = keys_equal (key_of_row def e.1.row) key (second_true (table == e.0.0) _ reads) in
+          let at_key = same_key (key_of_row def e.1.row) key (second_true (table == e.0.0) _ reads) in
           let under = sym at_key ∙ (stands e h at_table).1 in
           λ i. (at_table i, under i)
 
@@ -261,7 +262,7 @@ module _ (declared : List TableDef) (def : TableDef) (table : ℕ) (key : List V
   first_fits (e ∷ es) h =
       elim (is_read def (Point table key) e)
       as (λ b. is_read def (Point table key) e ≡ b → PartFits def key (first_row (map (λ x. x.1) (cond b (e ∷ filter (is_read def (Point table key)) es) (filter (is_read def (Point table key)) es))))) [
-        | true ↦ λ reads. ((stands e h.0 (eqb-true table e.0.0 (first_true _ _ reads))).0, keys_equal _ _ (second_true (table == e.0.0) _ reads))
+        | true ↦ λ reads. ((stands e h.0 (eqb-true table e.0.0 (first_true _ _ reads))).0, same_key _ _ (second_true (table == e.0.0) _ reads))
         | false ↦ λ misses. first_fits es h.1
       ] refl
 

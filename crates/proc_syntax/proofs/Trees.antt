@@ -22,9 +22,9 @@ pub every_fold : (A : Type 0) (step : Stmt-F A → A) (P : A → Type 0)
 every_fold A step P each = every_stmt (λ s. P (fold-Stmt A step s)) (λ d. subst P (sym (fold-roll-Stmt A step (stripped d))) (each d))
 
 -- the same of what two folds make of a statement
-pub every_two : (A : Type 0) (step step' : Stmt-F A → A) (R : A → A → Type 0)
-    → ((d : Stmt-F (Such (λ s. R (fold-Stmt A step s) (fold-Stmt A step' s)))) → R (step (map-Stmt Stmt A (fold-Stmt A step) (stripped d))) (step' (map-Stmt Stmt A (fold-Stmt A step') (stripped d))))
-    → (s : Stmt) → R (fold-Stmt A step s) (fold-Stmt A step' s)
-every_two A step step' R each = every_stmt (λ s. R (fold-Stmt A step s) (fold-Stmt A step' s)) (λ d.
-    subst (λ m. R m (fold-Stmt A step' (roll-Stmt (stripped d)))) (sym (fold-roll-Stmt A step (stripped d)))
-    (subst (R (step (map-Stmt Stmt A (fold-Stmt A step) (stripped d)))) (sym (fold-roll-Stmt A step' (stripped d))) (each d)))
+pub every_pair : (A B : Type 0) (f : Stmt-F A → A) (g : Stmt-F B → B) (R : A → B → Type 0)
+    → ((d : Stmt-F (Such (λ s. R (fold-Stmt A f s) (fold-Stmt B g s)))) → R (f (map-Stmt Stmt A (fold-Stmt A f) (stripped d))) (g (map-Stmt Stmt B (fold-Stmt B g) (stripped d))))
+    → (s : Stmt) → R (fold-Stmt A f s) (fold-Stmt B g s)
+every_pair A B f g R each = every_stmt (λ s. R (fold-Stmt A f s) (fold-Stmt B g s)) (λ d.
+    subst (λ a. R a (fold-Stmt B g (roll-Stmt (stripped d)))) (sym (fold-roll-Stmt A f (stripped d)))
+    (subst (R (f (map-Stmt Stmt A (fold-Stmt A f) (stripped d)))) (sym (fold-roll-Stmt B g (stripped d))) (each d)))

@@ -12,17 +12,13 @@ use Rattle.node_model.specs.declared.result.Committed.{Committed}
 use Rattle.rel_base.specs.declared.schema.TableDef.{TableDef}
 use Rattle.rel_base.proofs.Bits.{and_false, or_false, or_true}
 use Rattle.rw_graph.proofs.Alike.{danger_alike}
-use Rattle.rw_graph.proofs.Lists.{In, Pairs, each_at, pairs_from}
+use Rattle.rw_graph.proofs.Lists.{In, Pairs, each_at, none_of, pairs_from}
 use Rattle.rw_graph.specs.Graph.{with_position}
 use Rattle.rw_graph.specs.Laws.{DangerByPosition, EdgesAreAmong, EdgesGrow, places}
 use Rattle.rw_graph.specs.Sets.{AreAmong, is_among}
 
 differs : (a b : ℕ) → a ≢ b → nat_eq a b ≡ false
 differs a b apart = ⊎_elim (λ same. absurd (apart same.1)) (λ other. other.0) (eqb_tells a b)
-
-any_none : {M : Type 0} (test : M → Bool) (xs : List M) → ((x : M) → In x xs → test x ≡ false) → list_any test xs ≡ false
-any_none test [] none = refl
-any_none test (x ∷ xs) none = ap (λ b. b || list_any test xs) (none x (inl refl)) ∙ any_none test xs (λ y h. none y (inr h))
 
 any_same : {M : Type 0} (test other : M → Bool) (xs : List M) → ((x : M) → In x xs → test x ≡ other x) → list_any test xs ≡ list_any other xs
 any_same test other [] same = refl
@@ -34,7 +30,7 @@ pub at_one : (committed : List Committed) → Pairs (λ earlier later. earlier.p
 at_one [] rising done h test = absurd h
 at_one (first ∷ rest) rising done (inl same) test = subst (λ d. list_any (λ other. nat_eq other.pos d.pos && test other) (first ∷ rest) ≡ test d) same
     (ap (λ b. (b && test first) || list_any (λ other. nat_eq other.pos first.pos && test other) rest) (eq-eqb first.pos first.pos refl)
-    ∙ ap (λ b. test first || b) (any_none (λ other. nat_eq other.pos first.pos && test other) rest (λ other k.
+    ∙ ap (λ b. test first || b) (none_of (λ other. nat_eq other.pos first.pos && test other) rest (λ other k.
     ap (λ b. b && test other) (differs other.pos first.pos (let low = each_at (λ later. first.pos < later.pos) rest rising.0 other k in λ same. omega (arith, low, same)))))
     ∙ or_false (test first))
 at_one (first ∷ rest) rising done (inr h) test =
@@ -95,7 +91,7 @@ module _ (tables : List TableDef) (committed : List Committed) (done : Committed
   -- and the others have their edges to it
   own_into : (first : Committed) → In first committed → to_each (committed ++ done ∷ []) first done.pos ≡ touches tables first.reads done.writes
   own_into first h = split_to first done.pos
-      ∙ ap (λ b. b || (nat_eq done.pos done.pos && edge tables first done)) (any_none (λ second. nat_eq second.pos done.pos && edge tables first second) committed (λ second k. ap (λ b. b && edge tables first second) (beside second k)))
+      ∙ ap (λ b. b || (nat_eq done.pos done.pos && edge tables first done)) (none_of (λ second. nat_eq second.pos done.pos && edge tables first second) committed (λ second k. ap (λ b. b && edge tables first second) (beside second k)))
       ∙ ap (λ b. b && edge tables first done) (eq-eqb done.pos done.pos refl)
       ∙ ap (λ b. not b && touches tables first.reads done.writes) (beside first h)
 
@@ -103,7 +99,7 @@ module _ (tables : List TableDef) (committed : List Committed) (done : Committed
   at_other first to apart = split_to first to ∙ ap (λ b. to_each committed first to || (b && edge tables first done)) apart ∙ or_false (to_each committed first to)
 
   none_from : (to : ℕ) → list_any (λ first. nat_eq first.pos done.pos && to_each (committed ++ done ∷ []) first to) committed ≡ false
-  none_from to = any_none (λ first. nat_eq first.pos done.pos && to_each (committed ++ done ∷ []) first to) committed (λ first h. ap (λ b. b && to_each (committed ++ done ∷ []) first to) (beside first h))
+  none_from to = none_of (λ first. nat_eq first.pos done.pos && to_each (committed ++ done ∷ []) first to) committed (λ first h. ap (λ b. b && to_each (committed ++ done ∷ []) first to) (beside first h))
 
   abbrev Goal : ℕ → ℕ → Type 0
   Goal from to = with_position (edge_at tables committed) done.pos (leads_to tables committed done.reads) (comes_from tables committed done.writes) from to ≡ edge_at tables (committed ++ done ∷ []) from to

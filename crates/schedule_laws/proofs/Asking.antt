@@ -1,9 +1,10 @@
 -- What an actor might ask it may ask still, and what actor 0 delivers.
-use Rattle.std.proofs.Common.{Bool, IsSome, List, None, Some, [], ap, cond, false, inl, inr, length, refl, subst, suc, sym, true, zero, ◌++◌, ◌==◌, ◌||◌, ◌∙◌, ◌≡◌, ◌⊎◌, ◌∷◌, ℕ}
+use Rattle.std.proofs.Common.{Bool, IsSome, List, None, Option, Some, [], ap, cond, false, inl, inr, length, refl, subst, suc, sym, true, zero, ◌++◌, ◌==◌, ◌||◌, ◌∙◌, ◌≡◌, ◌⊎◌, ◌∷◌, ℕ}
 use Rattle.node_model.specs.Events.{after, next_read}
 use Rattle.node_model.specs.Fold.{fold}
 use Rattle.node_model.specs.Journals.{IsLegalFrom, delivered, delivery, world}
-use Rattle.node_model.specs.Steps.{Ask, May, ToArrive, ToClaim, ToCommit, ToDeliver, ToFinish, ToRead, ToRelease, ToSeal}
+use Rattle.node_model.specs.Steps as steps
+use Rattle.node_model.specs.Steps.{Answer, Ask, May, ToArrive, ToClaim, ToCommit, ToDeliver, ToFinish, ToRead, ToRelease, ToSeal, claims}
 use Rattle.node_model.specs.World.{Done, Dropped, Held, Holds, Job, JobStatus, Waiting, World, empty, is_done, is_held, is_held_by}
 use Rattle.node_model.specs.declared.journal.Entry.{Entry}
 use Rattle.node_model.specs.declared.journal.Event.TheVariants.{Arrive, Claim, Commit, Deliver, Finish, Read, Release, Seal}
@@ -23,6 +24,22 @@ use Rattle.std.proofs.lemmas.Option.{none-some, same_Some}
 use Rattle.std.specs.List.{list_any, slice_get}
 use Rattle.std.specs.Option.{option_map}
 use Rattle.schedule_laws.proofs.Lasting.{before_facts, others_leave}
+
+-- ---- what a claim answers
+
+abbrev number_in : Answer → Option ℕ
+number_in (steps.Claimed number) = Some number
+number_in _ = None
+
+-- a job was claimed, so that it was the one to claim
+pub claimed_is : (o : Option ℕ) (number : ℕ) → steps.Claimed number ≡ (claims o).0 → o ≡ Some number
+claimed_is None number e = absurd (none-some number (sym (ap number_in e)))
+claimed_is (Some other) number e = ap (λ n. Some n) (same_Some other number (sym (ap number_in e)))
+
+-- none was claimed, so that there was none
+pub none_claimed : (o : Option ℕ) → steps.NoJob ≡ (claims o).0 → o ≡ None
+none_claimed None e = refl
+none_claimed (Some other) e = absurd (none-some other (ap number_in e))
 
 -- ---- what may be asked
 

@@ -62,7 +62,8 @@ module _ (actor : ℕ) where
     ],
   )
 
-  cond_held : (b : Bool) (one two : Job) → (one.status ≡ Held actor → ⊥) → (two.status ≡ Held actor → ⊥) → (cond b one two).status ≡ Held actor → ⊥
+  -- of two jobs that are not held, the one that a test picks
+  pub cond_held : (b : Bool) (one two : Job) → (one.status ≡ Held actor → ⊥) → (two.status ≡ Held actor → ⊥) → (cond b one two).status ≡ Held actor → ⊥
   cond_held true one two p q = p
   cond_held false one two p q = q
 

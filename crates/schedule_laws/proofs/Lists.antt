@@ -1,7 +1,7 @@
 -- Lists of jobs, and what a change of one leaves.
 use Rattle.std.proofs.Common.{Bool, IsSome, List, None, Option, Some, [], ap, arith, bytes_eq, cond, false, inl, inr, is_eq, length, map, refl, slice_get, subst, suc, sym, true, zero, ◌+◌, ◌++◌, ◌==◌, ◌∙◌, ◌≡◌, ◌⊎◌, ◌∷◌, ℕ}
 use Rattle.node_model.specs.World.{Job, change_job, change_place, is_for, is_live, job_at, job_of, same_tx}
-use Rattle.proc_syntax.proofs.Fits.{keys_equal}
+use Rattle.rel_base.proofs.KeyOrder.{same_key}
 use Rattle.proc_syntax.specs.declared.call.Tx.{Tx}
 use Rattle.rel_base.specs.Value.{key_cmp-total, key_eq}
 use Rattle.rel_base.specs.declared.value.Value.{Value}
@@ -21,7 +21,7 @@ same_tx-exact one two e =
     let p : one.id ≡ two.id = (bytes_eq-Decides one.id two.id).0 id.0 in
     let q : one.height ≡ two.height = eqb-true one.height two.height height.0 in
     let r : one.procedure ≡ two.procedure = (bytes_eq-Decides one.procedure two.procedure).0 procedure.0 in
-    let s : one.args ≡ two.args = keys_equal one.args two.args procedure.1 in
+    let s : one.args ≡ two.args = same_key one.args two.args procedure.1 in
     λ i. record { id = p i; height = q i; procedure = r i; args = s i }
 
 same_keys : (one two : List Value) → one ≡ two → key_eq one two ≡ true

@@ -1,13 +1,14 @@
 -- A step is the same step whatever place in memory has what the journal shares.
-use Rattle.std.proofs.Common.{Bool, List, None, Option, Some, [], ap, append-nil, cond, false, length, refl, sym, true, ◌+◌, ◌++◌, ◌==◌, ◌∙◌, ◌≡◌, ◌∷◌, ℕ}
+use Rattle.std.proofs.Common.{Bool, List, None, Option, Some, [], ap, cond, false, length, refl, sym, true, ◌+◌, ◌++◌, ◌==◌, ◌∙◌, ◌≡◌, ◌∷◌, ℕ}
 use Rattle.std.proofs.lemmas.List.{map-append}
 use Rattle.std.specs.Option.{is_some, option_map}
-use Rattle.node_core.specs.Core.{Core, Steps, entries_for, world_of}
+use Rattle.node_core.proofs.Journal.{world_grown}
+use Rattle.node_core.specs.Core.{Core, Steps, world_of}
 use Rattle.node_model.specs.Events.{happens, settled_in}
-use Rattle.node_model.specs.Journals.{delivered, delivery, world}
+use Rattle.node_model.specs.Journals.{delivered, delivery}
 use Rattle.node_model.specs.Steps as steps
 use Rattle.node_model.specs.Steps.{Answer, Ask, Reply, Shared, ToArrive, ToClaim, ToCommit, ToDeliver, ToFinish, ToRead, ToRelease, ToSeal, chosen, claims, commits, commits_due, delivers, finishes, gone_or_kept, is_known, is_ready, noted, reads, reads_unless, reply, seals, seals_due, step}
-use Rattle.node_model.specs.World.{BlockInWork, Job, World, decided, due, empty, job_at}
+use Rattle.node_model.specs.World.{BlockInWork, Job, World, decided, due, job_at}
 use Rattle.node_model.specs.declared.journal.Entry.{Entry}
 use Rattle.node_model.specs.declared.journal.Event.TheVariants.{Arrive, Claim, Commit, Deliver, Finish, Read, Release, Seal}
 use Rattle.node_model.specs.declared.journal.Event.{Event}
@@ -16,7 +17,6 @@ use Rattle.proc_syntax.specs.declared.call.Tx.{Tx}
 use Rattle.proc_syntax.specs.declared.tree.App.{App}
 use Rattle.schedule_sim.specs.Bare.{Takes, bare_entry, bare_event, bare_journal, bare_world, state_of}
 use Rattle.schedule_sim.specs.Running.{after_ask, shared}
-use Rattle.schedule_laws.proofs.Lasting.{world-more}
 
 -- ---- what is asked and answered
 
@@ -100,10 +100,6 @@ noted_bared app w actor (Some event) =
     ap (λ journal. record (happens app w actor event) { journal = journal }) (map-append bare_entry w.journal (record { actor = actor; event = event } ∷ []))
     ∙ sym (happens_bared app w actor event (bare_journal w.journal ++ record { actor = actor; event = bare_event event } ∷ []))
 
-pub world_noted : (app : App) (journal : List Entry) (actor : ℕ) (o : Option Event) → world app (journal ++ entries_for actor o) ≡ noted app (world app journal) actor o
-world_noted app journal actor None = ap (world app) (append-nil journal)
-world_noted app journal actor (Some event) = world-more app empty journal (record { actor = actor; event = event })
-
 -- ---- a call is a step of the schedule
 
 pub stepped : (old new : Core) (actor : ℕ) (ask : Ask) (answer : Answer) → Steps old actor ask answer new → Takes old actor (Some (bare_ask ask)) new
@@ -112,7 +108,7 @@ stepped old new actor ask answer is =
     record {
       app = ap (λ (core : Core). core.app) new_is;
       state = ap state_of new_is
-          ∙ ap bare_world (world_noted old.app old.journal actor (reply old.app (world_of old) ask).1)
+          ∙ ap bare_world (world_grown old.app old.journal actor (reply old.app (world_of old) ask).1)
           ∙ noted_bared old.app (world_of old) actor (reply old.app (world_of old) ask).1
           ∙ ap (λ (told : Reply). noted old.app (state_of old) actor told.1) (sym (reply_bared old.app (world_of old) ask));
     }

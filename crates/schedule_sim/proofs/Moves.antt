@@ -1,9 +1,10 @@
 -- What a step of one actor leaves to the others, and what it changes for its own.
 use Rattle.std.proofs.Common.{Bool, List, None, Option, Some, [], ap, append-nil, cond, false, find, inl, inr, refl, subst, sym, true, ◌++◌, ◌==◌, ◌∙◌, ◌≡◌, ◌∷◌, ℕ}
 use Rattle.std.proofs.lemmas.Bool.{eqb-true, false≢true}
-use Rattle.std.proofs.lemmas.Option.{none-some, same_Some}
+use Rattle.std.proofs.lemmas.Option.{same_Some}
 use Rattle.std.specs.Option.{is_some, option_and_then, option_map}
 use Rattle.node_core.proofs.Claims.{changed_at}
+use Rattle.node_core.proofs.Journal.{world_grown}
 use Rattle.node_core.specs.Answers.{got_as, is_gone}
 use Rattle.node_core.specs.Core.{Core, IsHeld, MayAsk, Steps, entries_for, world_of}
 use Rattle.node_core.specs.Hands.{IsAnswered, IsClaimed}
@@ -23,12 +24,11 @@ use Rattle.node_model.specs.declared.journal.Event.{Event}
 use Rattle.node_model.specs.declared.journal.Pick.{Pick}
 use Rattle.proc_syntax.specs.declared.tree.App.{App}
 use Rattle.rel_base.specs.Tables.{Stamped}
-use Rattle.schedule_laws.proofs.Asking.{may_stays}
+use Rattle.schedule_laws.proofs.Asking.{claimed_is, may_stays, none_claimed}
 use Rattle.schedule_laws.proofs.Facts.{facts_always_hold}
-use Rattle.schedule_laws.proofs.Lasting.{legal_more, others_leave}
+use Rattle.schedule_laws.proofs.Lasting.{cond_held, legal_more, others_leave}
 use Rattle.schedule_laws.proofs.Lists.{job-change}
 use Rattle.schedule_laws.specs.Stable.{IsLater, entries_by}
-use Rattle.schedule_sim.proofs.Bared.{world_noted}
 use Rattle.schedule_sim.specs.InHands.{IsHand, IsWorkOf, WasGone}
 
 pub legal_noted : (app : App) (journal : List Entry) (actor : ℕ) (ask : Ask) (o : Option Event) → IsLegal app journal → May app (world app journal) actor ask → (reply app (world app journal) ask).1 ≡ o
@@ -104,21 +104,9 @@ module _ (old : Core) (actor : ℕ) (ask : Ask) (legal : IsLegal old.app old.jou
     keeps other apart hand is = subst (λ (core : Core). IsHand core other hand) (sym new_is) (keeps_later other apart hand is)
 
     world_new : world_of new ≡ noted old.app (world_of old) actor noted_event
-    world_new = ap world_of new_is ∙ world_noted old.app old.journal actor noted_event
+    world_new = ap world_of new_is ∙ world_grown old.app old.journal actor noted_event
 
 -- ---- a claim
-
-abbrev number_in : Answer → Option ℕ
-number_in (steps.Claimed number) = Some number
-number_in _ = None
-
-claimed_is : (o : Option ℕ) (number : ℕ) → steps.Claimed number ≡ (claims o).0 → o ≡ Some number
-claimed_is None number e = absurd (none-some number (sym (ap number_in e)))
-claimed_is (Some other) number e = ap (λ n. Some n) (same_Some other number (sym (ap number_in e)))
-
-none_claimed : (o : Option ℕ) → steps.NoJob ≡ (claims o).0 → o ≡ None
-none_claimed None e = refl
-none_claimed (Some other) e = absurd (none-some other (ap number_in e))
 
 module _ (old new : Core) (actor : ℕ) (pick : Pick) (legal : IsLegal old.app old.journal) (may : MayAsk old actor (ToClaim pick)) (none : HoldsNone (world_of old) actor) where
   pub claims_none : Steps old actor (ToClaim pick) steps.NoJob new → HoldsNone (world_of new) actor
@@ -205,10 +193,6 @@ module _ (old new : Core) (work work' : InHand) (g : Got) (legal : IsLegal old.a
   }
 
 -- ---- the end of a work
-
-cond_held : (actor : ℕ) (b : Bool) (one two : Job) → (one.status ≡ Held actor → ⊥) → (two.status ≡ Held actor → ⊥) → (cond b one two).status ≡ Held actor → ⊥
-cond_held actor true one two p q = p
-cond_held actor false one two p q = q
 
 -- a change that lets a held job go
 lets_go : (old : Core) (work : InHand) (change : Job → Job) → IsWorkOf old work.actor work → ((change (job_in work)).status ≡ Held work.actor → ⊥)

@@ -5,6 +5,7 @@ use Rattle.std.proofs.lemmas.Bool.Decides.{eqb_tells}
 use Rattle.std.proofs.lemmas.List.{append-nil}
 use Rattle.node_model.specs.Order.{is_free, order, order_from, place, take_first}
 use Rattle.serial_order.proofs.Mapped.{take_first-map}
+use Rattle.serial_order.proofs.Unreached.{comers-cons}
 use Rattle.serial_order.proofs.Taken.{IsTaken, Takes, here, taken, takes_length, there}
 use Rattle.serial_order.specs.Counts.{IsLeft, predecessors, entries, entry_of, has_none, lowered}
 use Rattle.serial_order.specs.declared.left.Left.{Left}
@@ -16,11 +17,12 @@ sum_free false n c e = let same : 0 + n ≡ n = omega arith in ap (λ m. m == 0)
 module _ (has : ℕ → ℕ → Bool) where
   comers_free : (set : List ℕ) (to : ℕ) → (predecessors has set to == 0) ≡ is_free has set to
   comers_free [] to = refl
-  comers_free (from ∷ rest) to = sum_free (has from to) (predecessors has rest to) _ (comers_free rest to)
+  comers_free (from ∷ rest) to = ap (λ n. n == 0) (comers-cons has to from rest) ∙ sum_free (has from to) (predecessors has rest to) _ (comers_free rest to)
 
   comers_takes : {from : ℕ} (to : ℕ) (set rest : List ℕ) → Takes from set rest → predecessors has set to ≡ cond (has from to) 1 0 + predecessors has rest to
-  comers_takes to set rest here = refl
-  comers_takes to set rest (there {xs = xs} {rest = more} t) = let e = comers_takes to xs more t in omega (arith, e)
+  comers_takes {from} to set rest here = comers-cons has to from rest
+  comers_takes to set rest (there {x = x} {xs = xs} {rest = more} t) =
+      let e = comers_takes to xs more t in omega (arith, e, comers-cons has to x xs, comers-cons has to x more)
 
   lowered_entries : {from : ℕ} (set rest : List ℕ) → Takes from set rest → (ys : List ℕ) → map (lowered has from) (map (entry_of has set) ys) ≡ map (entry_of has rest) ys
   lowered_entries set rest t [] = refl

@@ -1,5 +1,6 @@
--- Positions without an edge.
+-- How many edges come to a position, and positions without an edge.
 use Rattle.std.proofs.Common.{ap, arith, cond, map, refl, sym, Bool, List, false, [], ◌+◌, ◌-◌, ◌∙◌, ◌≡◌, ◌∷◌, ℕ}
+use Rattle.std.proofs.lemmas.List.Sums.{sum_by-cons}
 use Rattle.serial_order.specs.Counts.{predecessors, lowered}
 use Rattle.serial_order.specs.declared.left.Left.{Left}
 
@@ -10,10 +11,14 @@ minus : (n : ℕ) → n - 0 ≡ n
 minus n = omega arith
 
 module _ (has : ℕ → ℕ → Bool) where
+  -- one position more
+  pub comers-cons : (to from : ℕ) (rest : List ℕ) → predecessors has (from ∷ rest) to ≡ cond (has from to) 1 0 + predecessors has rest to
+  comers-cons to from rest = sum_by-cons (λ from. cond (has from to) 1 0) from rest
+
   -- no position has an edge to one to which none comes
   pub comers_none : (to : ℕ) (set : List ℕ) → ((from : ℕ) → has from to ≡ false) → predecessors has set to ≡ 0
   comers_none to [] none = refl
-  comers_none to (from ∷ rest) none = ap (λ b. cond b 1 0 + predecessors has rest to) (none from) ∙ plus (predecessors has rest to) ∙ comers_none to rest none
+  comers_none to (from ∷ rest) none = comers-cons to from rest ∙ ap (λ b. cond b 1 0 + predecessors has rest to) (none from) ∙ plus (predecessors has rest to) ∙ comers_none to rest none
 
   -- an entry keeps its count when one is placed from which no edge leads
   kept : (from : ℕ) (entry : Left) → ((to : ℕ) → has from to ≡ false) → lowered has from entry ≡ entry

@@ -1,8 +1,8 @@
 -- How many edges come to a position from those that are left.
 use Rattle.node_model.specs.Order.{order, order_from, take_first}
 use Rattle.serial_order.specs.declared.left.Left.{Left}
-use Rattle.std.specs.List.{slice_index_or}
-use Rattle.std.specs.Prelude.{Bool, List, Some, cond, length, map, remove, [], ◌+◌, ◌++◌, ◌-◌, ◌<◌, ◌==◌, ◌≡◌, ◌∷◌, ℕ}
+use Rattle.std.specs.List.{count_by, slice_index_or}
+use Rattle.std.specs.Prelude.{Bool, List, Some, cond, length, map, remove, ◌++◌, ◌-◌, ◌<◌, ◌==◌, ◌≡◌, ℕ}
 
 -- what is taken out first is the element at a place
 abbrev pub IsTakenAt : {A : Type 0} → (A → Bool) → List A → ℕ → Type 0
@@ -10,8 +10,7 @@ IsTakenAt {A} test list index = (index < length list) × ((d : A) → take_first
 
 -- how many of some positions have an edge to a position
 abbrev pub predecessors : (ℕ → ℕ → Bool) → List ℕ → ℕ → ℕ
-predecessors has [] to = 0
-predecessors has (from ∷ rest) to = cond (has from to) 1 0 + predecessors has rest to
+predecessors has positions to = count_by (λ from. has from to) positions
 
 -- a position among some that are left
 abbrev pub entry_of : (ℕ → ℕ → Bool) → List ℕ → ℕ → Left

@@ -5,13 +5,9 @@ use Rattle.std.specs.Cmp.{eq_by_cmp_equiv, tied_itself}
 use Rattle.std.specs.Map.{lookup}
 use Rattle.std.specs.Ordering.{is_eq}
 use Rattle.rel_base.specs.declared.value.Value.{Value}
-use Rattle.rel_base.specs.Value.{key_cmp, key_cmp-exact, key_cmp-total, key_eq}
-use Rattle.rel_base.proofs.Bits.{is_Equal}
+use Rattle.rel_base.specs.Value.{key_cmp, key_cmp-total, key_eq}
+pub use Rattle.rel_base.proofs.KeyOrder.{same_key}
 use Rattle.version_index.specs.Chains.{IsPlaced, first_some, slot_by, slot_in}
-
--- keys that are one in the order are one
-pub same_key : (a b : List Value) → key_eq a b ≡ true → a ≡ b
-same_key a b tied = key_cmp-exact a b (is_Equal (key_cmp a b) tied)
 
 -- a key is one with itself
 pub key_itself : (key : List Value) → key_eq key key ≡ true

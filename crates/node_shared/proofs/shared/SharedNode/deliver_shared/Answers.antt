@@ -1,10 +1,10 @@
-use Rattle.std.proofs.Common.{ap, rules, subst, sym, ◌∙◌, ◌≡◌}
-use Rattle.turn_lock.specs.Passes.{pass_base, pass_number, seen}
+use Rattle.std.proofs.Common.{rules}
+use Rattle.turn_lock.specs.Passes.{mine, pass_number, seen}
 use Rattle.node_core.specs.Answers.{delivered_as}
-use Rattle.node_core.specs.Core.{Core, Delivers}
-use Rattle.node_model.specs.Journals.{IsLegal}
-use Rattle.node_model.specs.Steps.{Answer, ToDeliver}
-use Rattle.node_shared.proofs.Turns.{call_adds, later_of, ok_map, step_adds, step_seen, story_of}
+use Rattle.node_core.specs.Core.{Delivers}
+use Rattle.node_model.specs.Steps.{ToDeliver}
+use Rattle.node_shared.specs.Turn.{IsFound}
+use Rattle.node_shared.proofs.Turns.{call_adds, later_of, ok_map, step_adds, story_of, turn_of}
 use Rattle.node_shared.proofs.shared.SharedNode.deliver_shared.Goals as goal
 
 pub give-requires-clause-story : goal.give-requires-clause-story
@@ -32,22 +32,11 @@ returns-clause-turn g c =
     let old = c.take-core.result in
     let new = c.deliver_shared-answer.new.self in
     let n = c.number-number.result in
-    let base : old.app ≡ pass_base p = c.take-core.ensures.base in
-    let same : n ≡ pass_number p = c.number-number.ensures.number in
-    let legal : IsLegal old.app old.journal = c.journal_len.ensures.legal in
-    let legal_after : IsLegal new.app new.journal = c.journal_len-2.ensures.legal in
-    let at : seen c.give.new.pass ≡ new.journal = c.give.ensures.seen in
+    let found : IsFound old.app (pass_number p) (seen p) (mine p) old.journal = record { legal = c.journal_len.ensures.legal; later = c.take-core.ensures.later; own = c.take-core.ensures.own } in
     ok_map _ _ c.deliver_shared-answer.result c.deliver_shared-answer.ensures.step (λ got step.
-    let stepped = step_seen old new n (pass_number p) (pass_base p) (seen c.give.new.pass) (ToDeliver step.shared) (delivered_as got) base same at step.step in
-    let app_same : new.app ≡ pass_base p = ap (λ (q : Answer × Core). q.1.app) step.step ∙ base in
     record {
       shared = step.shared;
       same = step.same;
-      turn = record {
-        journal = old.journal;
-        found = record { legal = subst (λ a. IsLegal a old.journal) base legal; later = c.take-core.ensures.later; own = c.take-core.ensures.own };
-        step = stepped;
-        own = search rules;
-        legal = subst (λ j. IsLegal (pass_base p) j) (sym at) (subst (λ a. IsLegal a new.journal) app_same legal_after);
-      };
+      turn = turn_of p c.give.new.pass old new n c.take-core.ensures.base c.number-number.ensures.number found c.journal_len-2.ensures.legal c.give.ensures.seen (ToDeliver step.shared) (delivered_as got) step.step
+          (search rules);
     })
