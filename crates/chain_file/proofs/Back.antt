@@ -20,7 +20,7 @@ use Rattle.proc_syntax.specs.declared.call.Tx.{Tx}
 use Rattle.proc_syntax.specs.declared.call.Block.{Block}
 use Rattle.tx_text.specs.Fields.{is_space, past_word}
 use Rattle.tx_text.specs.Lines.{tx_text, HasLine}
-use Rattle.tx_text.proofs.Again.{tx_again, word_again, past_again}
+use Rattle.tx_text.proofs.Again.{digit_no_space, tx_again, word_again, past_again}
 use Rattle.proc_syntax.specs.declared.chain_fault.ChainKind.{ChainKind}
 use Rattle.proc_syntax.specs.declared.chain_fault.ChainKind.TheVariants as kind
 use Rattle.proc_syntax.specs.declared.chain_fault.ChainFault.{ChainFault}
@@ -85,9 +85,6 @@ hash_are_digits bytes = (omega (arith, length-encode_with lower_digits (sha256 b
 no_space-from : (p : ℕ → Bool) → ((b : ℕ) → p b ≡ true → not (is_space b) ≡ true) → (bytes : List ℕ) → list_all p bytes ≡ true → list_all (λ b. not (is_space b)) bytes ≡ true
 no_space-from p then_none [] all = refl
 no_space-from p then_none (b ∷ bs) all = let parts = and_parts (p b) (list_all p bs) all in and_from (not (is_space b)) _ (then_none b parts.0) (no_space-from p then_none bs parts.1)
-
-digit_no_space : (b : ℕ) → is_ascii_digit b ≡ true → not (is_space b) ≡ true
-digit_no_space b = λ e. grind (arith, nat_tests)
 
 hex_plain : (b : ℕ) → is_hex b ≡ true → not (b == 10) ≡ true
 hex_plain b = λ e. grind (arith, nat_tests)

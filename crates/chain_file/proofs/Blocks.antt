@@ -1,26 +1,15 @@
 -- A block that the code makes is the one that is meant.
 use Rattle.std.proofs.Common.{◌≡◌, ◌≤◌, ◌<◌, ℕ, pos, List, ◌∷◌, ◌++◌, Bool, true, false, Some, None, length, refl, sym, ◌∙◌, ap, subst, arith}
-use Rattle.std.proofs.Math.Bridge.{le_prop}
-use Rattle.std.proofs.Math.Bool.{Bool-set}
 use Rattle.std.specs.Prelude.{ℤ, nat_le, int_le}
 use Rattle.std.proofs.lemmas.Bool.{le-leb, leb-true, both_ways}
 use Rattle.proc_syntax.specs.declared.call.Tx.{Tx}
 use Rattle.proc_syntax.specs.declared.call.Block.{Block}
+use Rattle.proc_syntax.proofs.Blocks.{block, same_facts}
 use Rattle.chain_file.specs.Draft.{block_if, block_of}
 use Rattle.chain_file.specs.Chain.{ended_blocks}
 
-abbrev block : (number : ℕ) (time : ℤ) (txs : List Tx) → length txs ≤ 1024 → int_le (pos 0) time ≡ true → Block
-block number time txs few fine = record { number = number; time = time; txs = txs; few = few; not_negative = fine }
-
--- the facts of a block do not tell two blocks apart
-same_facts : (number : ℕ) (txs : List Tx) (few less : length txs ≤ 1024) (fine good : int_le (pos 0) (pos 0) ≡ true) → block number (pos 0) txs few fine ≡ block number (pos 0) txs less good
-same_facts number txs few less fine good =
-    let one : IsProp (length txs ≤ 1024) = hlevel (le_prop, Bool-set) in
-    let two : IsProp (int_le (pos 0) (pos 0) ≡ true) = hlevel (le_prop, Bool-set) in
-    ap (λ (f : length txs ≤ 1024). block number (pos 0) txs f fine) (one few less) ∙ ap (λ (g : int_le (pos 0) (pos 0) ≡ true). block number (pos 0) txs less g) (two fine good)
-
 made : (number : ℕ) (txs : List Tx) (few : length txs ≤ 1024) (fine : int_le (pos 0) (pos 0) ≡ true) (test : Bool) (e : nat_le (length txs) 1024 ≡ test) → block_if number txs test e ≡ Some (block number (pos 0) txs few fine)
-made number txs few fine true e = ap (λ b. Some b) (same_facts number txs (leb-true (length txs) 1024 e) few refl fine)
+made number txs few fine true e = ap (λ b. Some b) (same_facts number (pos 0) txs (leb-true (length txs) 1024 e) few refl fine)
 made number txs few fine false e = absurd (both_ways (nat_le (length txs) 1024) e (le-leb (length txs) 1024 few))
 
 made_now : (number : ℕ) (txs : List Tx) (few : length txs ≤ 1024) (fine : int_le (pos 0) (pos 0) ≡ true) → block_of number txs ≡ Some (block number (pos 0) txs few fine)

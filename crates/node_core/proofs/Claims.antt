@@ -4,18 +4,18 @@ use Rattle.std.proofs.lemmas.Bool.{false≢true}
 use Rattle.std.proofs.lemmas.Option.{none-some, same_Some}
 use Rattle.std.specs.List.{position_from}
 use Rattle.std.specs.Option.{IsSomeAnd, is_some, option_and_then, option_map}
-use Rattle.std.specs.Prelude.{IfSome, ℤ}
+use Rattle.std.specs.Prelude.{ℤ}
 use Rattle.block_work.proofs.Places.{is_known}
 use Rattle.block_work.specs.Causes.{early_by}
-use Rattle.block_work.specs.Ids.{HasFirstPlaces, place_of_id}
+use Rattle.block_work.specs.Ids.{place_of_id}
 use Rattle.node_core.proofs.Journal.{facts, quiet, world_noted}
 use Rattle.node_core.proofs.Rowed.{eligible_of_rows, number_of_rows, row_of, rows_put, status_is}
-use Rattle.node_core.proofs.Settled.{height_is}
+use Rattle.node_core.proofs.Settled.{first_places, height_is, works_on}
 use Rattle.node_core.proofs.Table.{count_put}
 use Rattle.node_core.specs.Choosing.{due_in, due_of, if_waiting, waiting_in}
 use Rattle.node_core.specs.Core.{IsHeld}
 use Rattle.node_core.specs.InHand.{InHand}
-use Rattle.node_core.specs.Kept.{AreRowsOf, IsNode, IsRowOf, IsWorkingOn, Kept, number_of_work, outcomes_of, shown_work, told_in, world_in}
+use Rattle.node_core.specs.Kept.{AreRowsOf, IsNode, IsRowOf, Kept, shown_work, told_in, world_in}
 use Rattle.node_core.specs.Rows.{count_held, put_row, row_at, row_waits, shown_all, status_of}
 use Rattle.node_core.specs.declared.jobs.JobRow.{JobRow}
 use Rattle.node_core.specs.declared.jobs.Stage.TheVariants as stage
@@ -127,11 +127,9 @@ module _ (kept : Kept) (node : IsNode kept) where
   -- the cause that is known without a run
   pub early_is : (working : Working) (tx : Tx) → kept.work ≡ Some working → early_by (is_some (place_of_id kept.ids tx.id)) kept.app working.done.number tx ≡ early_cause kept.app (world_in kept) (shown_work working) tx
   early_is working tx here =
-      let fits : IsWorkingOn (tables_of kept.app) working = subst (λ (w : Option Working). IfSome w (IsWorkingOn (tables_of kept.app))) here node.working in
-      let first : HasFirstPlaces kept.ids (world_in kept).sealed working.done.number working.done.outcomes.items =
-      subst (λ (w : Option Working). HasFirstPlaces kept.ids (world_in kept).sealed (number_of_work w) (outcomes_of w)) here node.ids in
-      ap (λ b. early_by b kept.app working.done.number tx) (is_known kept.ids (world_in kept).sealed working.done.number working.done.outcomes.items tx.id first)
-      ∙ ap (λ n. early kept.app (ids_of (world_in kept).sealed ++ ids_told working.done.outcomes.items) n tx) fits.number
+      ap (λ b. early_by b kept.app working.done.number tx)
+      (is_known kept.ids (world_in kept).sealed working.done.number working.done.outcomes.items tx.id (first_places kept node working here))
+      ∙ ap (λ n. early kept.app (ids_of (world_in kept).sealed ++ ids_told working.done.outcomes.items) n tx) (works_on kept node working here).number
 
   due_is : (working : Working) → kept.work ≡ Some working → (found : Option Tx) → due_of kept.app kept.ids working.done.number kept.rows found ≡ due_number kept.app (world_in kept) (shown_work working) found
   due_is working here None = refl

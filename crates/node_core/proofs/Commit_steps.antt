@@ -1,5 +1,5 @@
 -- After a commit the node keeps what its journal comes to.
-use Rattle.std.proofs.Common.{IfSome, List, None, Option, Some, [], ap, arith, false, length, refl, subst, sym, true, ◌+◌, ◌++◌, ◌-◌, ◌<◌, ◌∙◌, ◌≡◌, ◌≤◌, ◌||◌, ◌∷◌, ℕ}
+use Rattle.std.proofs.Common.{List, None, Option, Some, [], ap, arith, false, length, refl, subst, sym, true, ◌+◌, ◌++◌, ◌-◌, ◌<◌, ◌∙◌, ◌≡◌, ◌≤◌, ◌||◌, ◌∷◌, ℕ}
 use Rattle.std.proofs.lemmas.List.Folds.{list_any-append}
 use Rattle.std.proofs.lemmas.List.{map-append}
 use Rattle.std.proofs.lemmas.Option.{slice_get_within}
@@ -13,15 +13,15 @@ use Rattle.block_work.specs.Chain.{HoldsChain}
 use Rattle.block_work.specs.Ids.{HasFirstPlaces, SamePlaces}
 use Rattle.block_work.specs.declared.ids.IdIndex.{IdIndex}
 use Rattle.node_core.proofs.Claims.{early_is}
-use Rattle.node_core.proofs.Commits.{commit_idle, commit_so, inside, reply_of, rows_take, rows_told, told_here}
+use Rattle.node_core.proofs.Commits.{commit_idle, commit_so, reply_of, rows_take, rows_told, told_here}
 use Rattle.node_core.proofs.Due_jobs.{IsByJob, IsEarly, IsJobOf, is_done, its_job, its_stage, ran_is, row_tx}
 use Rattle.node_core.proofs.Journal.{core_of, facts, legal_noted, stays, steps, world_noted}
-use Rattle.node_core.proofs.Settled.{number_next}
+use Rattle.node_core.proofs.Settled.{first_places, inside, number_next, works_on}
 use Rattle.node_core.proofs.Table.{count_put}
 use Rattle.node_core.specs.Core.{Steps}
 use Rattle.node_core.specs.Deciding.{IsDecided, outcome_by}
 use Rattle.node_core.specs.Due.{due_by}
-use Rattle.node_core.specs.Kept.{AreRowsOf, IsNode, IsWorkingOn, Kept, number_of_work, outcomes_of, shown_work, told_in, world_in}
+use Rattle.node_core.specs.Kept.{AreRowsOf, IsNode, Kept, shown_work, told_in, world_in}
 use Rattle.node_core.specs.Rows.{count_held, one_held, put_row}
 use Rattle.node_core.specs.declared.due.Due.TheVariants as stand
 use Rattle.node_core.specs.declared.due.Due.{Due}
@@ -52,12 +52,6 @@ at_pos number pos = record { block = number; pos = pos }
 
 module _ (kept : Kept) (node : IsNode kept) (working : Working) (here : kept.work ≡ Some working) where
   -- ---- the block in work
-
-  pub works_on : IsWorkingOn (tables_of kept.app) working
-  works_on = subst (λ (w : Option Working). IfSome w (IsWorkingOn (tables_of kept.app))) here node.working
-
-  first_places : HasFirstPlaces kept.ids (world_in kept).sealed working.done.number working.done.outcomes.items
-  first_places = subst (λ (w : Option Working). HasFirstPlaces kept.ids (world_in kept).sealed (number_of_work w) (outcomes_of w)) here node.ids
 
   -- so many are decided
   pub few_decided : length working.done.outcomes.items ≤ 1024
@@ -93,14 +87,14 @@ module _ (kept : Kept) (node : IsNode kept) (working : Working) (here : kept.wor
     sound = node.sound;
     holds = node.holds;
     ids = λ id. places id ∙ subst (λ (told : List Told). HasFirstPlaces kept.ids (world_in kept).sealed working'.done.number told) (sym same.outcomes)
-        (subst (λ n. HasFirstPlaces kept.ids (world_in kept).sealed n working.done.outcomes.items) (sym same.number) first_places) id;
+        (subst (λ n. HasFirstPlaces kept.ids (world_in kept).sealed n working.done.outcomes.items) (sym same.number) (first_places kept node working here)) id;
     work = ap (λ (b : Shared Block). Some (record { block = b.value; done = work_of working'.done })) block
         ∙ ap (λ (told : List Told). Some (record { block = working.block.value; done = record { outcomes = told; committed = working'.done.committed.items } })) same.outcomes
         ∙ ap (λ committed. Some (record { block = working.block.value; done = record { outcomes = working.done.outcomes.items; committed = committed } })) same.committed
         ∙ sym (inside kept node working here);
     working = record {
-      number = same.number ∙ works_on.number ∙ sym (ap (λ (b : Shared Block). b.value.number) block);
-      time = same.time ∙ works_on.time ∙ sym (ap (λ (b : Shared Block). b.value.time) block);
+      number = same.number ∙ (works_on kept node working here).number ∙ sym (ap (λ (b : Shared Block). b.value.number) block);
+      time = same.time ∙ (works_on kept node working here).time ∙ sym (ap (λ (b : Shared Block). b.value.time) block);
       consistent = consistent;
     };
     rows = subst (λ told. AreRowsOf (tables_of kept.app) told kept.rows (world_in kept).jobs) (told_here kept node working here ∙ sym (ap ids_told same.outcomes)) node.rows;
@@ -133,7 +127,7 @@ module _ (kept : Kept) (node : IsNode kept) (working : Working) (here : kept.wor
       (sym (early_is kept node working found.tx here) ∙ found.late)
       ∙ ap (λ (ran : Ran). or_committed (by_run (tables_of kept.app) (writes_between found.tx.height (working.block.value.number - 1) (history_of (world_in kept).sealed)) working.done.committed.items ran)) (ran_is kept node working number found)
       ∙ ap (λ (tx : Tx). or_committed (by_run (tables_of kept.app) (writes_between tx.height (working.block.value.number - 1) (history_of (world_in kept).sealed)) working.done.committed.items found.recorded.ran)) (sym (row_tx kept node working number found))
-      ∙ ap (λ n. or_committed (by_run (tables_of kept.app) (writes_between found.row.tx.value.height (n - 1) (history_of (world_in kept).sealed)) working.done.committed.items found.recorded.ran)) (sym works_on.number)
+      ∙ ap (λ n. or_committed (by_run (tables_of kept.app) (writes_between found.row.tx.value.height (n - 1) (history_of (world_in kept).sealed)) working.done.committed.items found.recorded.ran)) (sym (works_on kept node working here).number)
       ∙ ap (λ (history : List Stamped). or_committed (by_run (tables_of kept.app) (writes_between found.row.tx.value.height (working.done.number - 1) history) working.done.committed.items found.recorded.ran)) (sym node.holds.writes)
 
   module _ (actor pos : ℕ) (zero_actor : actor ≡ 0) (told : reply kept.app (world_in kept) ToCommit ≡ (Decided pos, Some (event.Commit pos))) (journal' : List Entry)
@@ -166,15 +160,15 @@ module _ (kept : Kept) (node : IsNode kept) (working : Working) (here : kept.wor
         ids = subst (λ (w : World). HasFirstPlaces ids' w.sealed working'.done.number working'.done.outcomes.items) (sym after_it)
             (subst (λ n. HasFirstPlaces ids' (world_in kept).sealed n working'.done.outcomes.items) (sym decided.number)
             (subst (λ (told : List Told). HasFirstPlaces ids' (world_in kept).sealed working.done.number told) (sym outcomes_are)
-            (places_more kept.ids ids' (world_in kept).sealed working.done.number working.done.outcomes.items told_one (record { block = working.done.number; pos = length working.done.outcomes.items + 1 }) first_places
+            (places_more kept.ids ids' (world_in kept).sealed working.done.number working.done.outcomes.items told_one (record { block = working.done.number; pos = length working.done.outcomes.items + 1 }) (first_places kept node working here)
             (ap (at_pos working.done.number) turned) decided.place)));
         work = ap (λ (b : Shared Block). Some (record { block = b.value; done = work_of working'.done })) decided.block
             ∙ ap (λ (d : Work). Some (record { block = working.block.value; done = d })) decided.work
             ∙ sym (ap (λ (w : World). w.work) after_it ∙ ap (commit_next kept.app (world_in kept).sealed (world_in kept).jobs) (inside kept node working here)
             ∙ ap (λ (found : Option Tx). Some (decide_due kept.app (world_in kept).sealed (world_in kept).jobs (shown_work working) found)) decided.first);
         working = record {
-          number = decided.number ∙ works_on.number ∙ sym (ap (λ (b : Shared Block). b.value.number) decided.block);
-          time = decided.time ∙ works_on.time ∙ sym (ap (λ (b : Shared Block). b.value.time) decided.block);
+          number = decided.number ∙ (works_on kept node working here).number ∙ sym (ap (λ (b : Shared Block). b.value.number) decided.block);
+          time = decided.time ∙ (works_on kept node working here).time ∙ sym (ap (λ (b : Shared Block). b.value.time) decided.block);
           consistent = consistent;
         };
         rows = subst (λ (w : World). AreRowsOf (tables_of kept.app) (ids_told working'.done.outcomes.items) rows' w.jobs) (sym after_it)

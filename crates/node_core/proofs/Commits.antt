@@ -4,7 +4,7 @@ use Rattle.std.proofs.lemmas.Bool.{and_parts, false≢true}
 use Rattle.std.proofs.lemmas.List.Folds.{list_any-append}
 use Rattle.node_core.proofs.Claims.{HasNone, Numbered, early_is, numbered}
 use Rattle.node_core.proofs.Rowed.{number_of_rows, row_of, rows_put}
-use Rattle.node_core.proofs.Settled.{height_is}
+use Rattle.node_core.proofs.Settled.{height_is, inside}
 use Rattle.node_core.specs.Due.{by_job, by_number, by_row, by_stage, by_tx, due_by, or_job}
 use Rattle.node_core.specs.Kept.{AreRowsOf, IsNode, IsStageOf, Kept, shown_work, told_in, world_in}
 use Rattle.node_core.specs.Rows.{put_row}
@@ -79,9 +79,6 @@ rows_take tables told rows jobs number job here done known are =
 -- ---- the answer
 
 module _ (kept : Kept) (node : IsNode kept) (working : Working) (here : kept.work ≡ Some working) where
-  pub inside : (world_in kept).work ≡ Some (shown_work working)
-  inside = sym node.work ∙ ap (option_map shown_work) here
-
   pub told_here : told_in kept.work ≡ ids_told working.done.outcomes.items
   told_here = ap told_in here
 
@@ -146,7 +143,7 @@ module _ (kept : Kept) (node : IsNode kept) (working : Working) (here : kept.wor
       by (Some cause) is = refl
 
   pub commit_so : (pos : ℕ) → pos ≡ length working.done.outcomes.items + 1 → reply kept.app (world_in kept) ToCommit ≡ reply_of (due_by kept.app kept.ids working kept.rows) pos working.block.value.number
-  commit_so pos at = ap (commits kept.app (world_in kept)) inside ∙ tx_is (due (shown_work working)) pos at
+  commit_so pos at = ap (commits kept.app (world_in kept)) (inside kept node working here) ∙ tx_is (due (shown_work working)) pos at
 
 -- no block is in work
 pub commit_idle : (kept : Kept) (node : IsNode kept) (height : ℕ) → height ≡ length kept.results → kept.work ≡ None → reply kept.app (world_in kept) ToCommit ≡ (NoBlock height, None)

@@ -10,7 +10,7 @@ use Rattle.std.specs.Cmp.Lexicographic.{slice_cmp}
 use Rattle.std.specs.Ordering.{nat_cmp}
 use Rattle.std.specs.Prelude.{is_some, vec_capacity, vec_len}
 use Rattle.std.specs.Str.{bytes_eq}
-use Rattle.node_core.specs.ById.{HasRoom, Holds, Indexes, KeepsHeld, SameJobs, behind_first, newest, newest_of, number_at, olders, or_zero, tx_ids}
+use Rattle.node_core.specs.ById.{HasEntry, HasRoom, Indexes, KeepsHeld, SameJobs, behind_first, newest, newest_of, number_at, olders, or_zero, tx_ids}
 use Rattle.node_core.specs.declared.index.JobIndex.{JobIndex}
 use Rattle.node_model.specs.Steps.{Shared}
 use Rattle.proc_syntax.specs.declared.call.Tx.{Tx}
@@ -41,7 +41,7 @@ set_kept old new id number sets = λ other held. subst (λ found. IsTrue (is_som
     by true found held = refl
     by false found held = held
 
-pub set_held : (old new : JobIndex) (id : List ℕ) (number : ℕ) → Sets old new id number → Holds new id
+pub set_held : (old new : JobIndex) (id : List ℕ) (number : ℕ) → Sets old new id number → HasEntry new id
 set_held old new id number sets =
     let same : bytes_eq id id ≡ true = (bytes_eq-Decides id id).1 refl in
     subst (λ found. IsTrue (is_some found)) (sym (by_id old new id number sets id ∙ ap (λ b. cond b (Some number) (number_at old id)) same)) refl
@@ -59,7 +59,7 @@ hold_same old new id absent sets = λ other. set_newest old new id 0 sets other 
     by other false is = refl
 
 -- an id that is held is found
-pub held_found : (index : JobIndex) (id : List ℕ) → Holds index id → number_at index id ≡ None → ⊥
+pub held_found : (index : JobIndex) (id : List ℕ) → HasEntry index id → number_at index id ≡ None → ⊥
 held_found index id held absent = by (number_at index id) held absent
   where
     by : (found : Option ℕ) → IsTrue (is_some found) → found ≡ None → ⊥
@@ -67,12 +67,12 @@ held_found index id held absent = by (number_at index id) held absent
     by (Some number) held is = cc
 
 -- one more id is held
-pub held_more : (old new : JobIndex) (front more : List (Shared Tx)) (tx : Shared Tx) → more ≡ front ++ tx ∷ [] → KeepsHeld old new → Holds new tx.value.id → All (Holds old) (tx_ids front)
-    → All (Holds new) (tx_ids more)
+pub held_more : (old new : JobIndex) (front more : List (Shared Tx)) (tx : Shared Tx) → more ≡ front ++ tx ∷ [] → KeepsHeld old new → HasEntry new tx.value.id → All (HasEntry old) (tx_ids front)
+    → All (HasEntry new) (tx_ids more)
 held_more old new front more tx are keeps held was =
-    subst (λ txs. All (Holds new) (tx_ids txs)) (sym are)
-    (subst (All (Holds new)) (sym (map-append (λ (tx : Shared Tx). tx.value.id) front (tx ∷ [])))
-    (All-append (Holds new) (tx_ids front) (tx.value.id ∷ []) (All-weaker (Holds old) (Holds new) keeps (tx_ids front) was) (All-cons (Holds new) tx.value.id [] held (All-nil (Holds new)))))
+    subst (λ txs. All (HasEntry new) (tx_ids txs)) (sym are)
+    (subst (All (HasEntry new)) (sym (map-append (λ (tx : Shared Tx). tx.value.id) front (tx ∷ [])))
+    (All-append (HasEntry new) (tx_ids front) (tx.value.id ∷ []) (All-weaker (HasEntry old) (HasEntry new) keeps (tx_ids front) was) (All-cons (HasEntry new) tx.value.id [] held (All-nil (HasEntry new)))))
 
 pub same_jobs : (old new : JobIndex) → ((id : List ℕ) → newest_of new id ≡ newest_of old id) → new.older.items ≡ old.older.items → SameJobs old new
 same_jobs old new numbers older = λ ids was. record { newest = λ id. numbers id ∙ was.newest id; older = older ∙ was.older }
@@ -81,10 +81,10 @@ same_jobs old new numbers older = λ ids was. record { newest = λ id. numbers i
 pub room_one : (index : JobIndex) (id : List ℕ) (ids : List (List ℕ)) → HasRoom index (id ∷ ids) → HasRoom index (id ∷ [])
 room_one index id ids has = record {
   room = let room = has.room in omega (arith, room);
-  held = All-cons (Holds index) id [] (has.held 0 id (omega arith)) (All-nil (Holds index));
+  held = All-cons (HasEntry index) id [] (has.held 0 id (omega arith)) (All-nil (HasEntry index));
 }
 
-pub room_all : (index : JobIndex) (txs : List (Shared Tx)) → vec_len index.older + length txs ≤ vec_capacity index.older → All (Holds index) (tx_ids txs) → HasRoom index (tx_ids txs)
+pub room_all : (index : JobIndex) (txs : List (Shared Tx)) → vec_len index.older + length txs ≤ vec_capacity index.older → All (HasEntry index) (tx_ids txs) → HasRoom index (tx_ids txs)
 room_all index txs room held =
     let same : length (tx_ids txs) ≡ length txs = length-map txs (λ (tx : Shared Tx). tx.value.id) in
     record { room = omega (arith, same, room); held = held }

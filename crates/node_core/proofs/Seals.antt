@@ -14,10 +14,10 @@ use Rattle.block_work.specs.Chain.{HoldsChain, StoreFits}
 use Rattle.block_work.specs.Ids.{HasFirstPlaces, place_of_id}
 use Rattle.node_core.proofs.Journal.{core_of, facts, legal_noted, stays, world_noted}
 use Rattle.node_core.proofs.Rowed.{status_is}
-use Rattle.node_core.proofs.Settled.{height_is, number_next}
+use Rattle.node_core.proofs.Settled.{first_places, height_is, inside, number_next, works_on}
 use Rattle.node_core.specs.Answers.{sealed_as}
 use Rattle.node_core.specs.Core.{Steps}
-use Rattle.node_core.specs.Kept.{AreRowsOf, IsNode, IsRowOf, IsStageOf, IsWorkingOn, Kept, number_of_work, outcomes_of, shown_work, told_in, world_in}
+use Rattle.node_core.specs.Kept.{AreRowsOf, IsNode, IsRowOf, IsStageOf, Kept, shown_work, told_in, world_in}
 use Rattle.node_core.specs.Over.{CanJoin, drop_among, drop_settled, not_sealed}
 use Rattle.node_core.specs.Rows.{at_stage, is_open}
 use Rattle.node_core.specs.declared.answers.Sealed as answers
@@ -107,20 +107,14 @@ module _ (kept : Kept) (node : IsNode kept) (height : ℕ) where
 -- ---- the block in work
 
 module _ (kept : Kept) (node : IsNode kept) (working : Working) (here : kept.work ≡ Some working) where
-  inside : (world_in kept).work ≡ Some (shown_work working)
-  inside = sym node.work ∙ ap (option_map shown_work) here
-
-  fits : IsWorkingOn (tables_of kept.app) working
-  fits = subst (λ (w : Option Working). IfSome w (IsWorkingOn (tables_of kept.app))) here node.working
-
   joins : CanJoin (tables_of kept.app) (length kept.results) working
   joins =
-      let within = ((facts kept node).work_fits (shown_work working) inside).within in
+      let within = ((facts kept node).work_fits (shown_work working) (inside kept node working here)).within in
       let most = working.block.value.few in
       record {
         next = number_next kept node working here ∙ ap (λ n. n + 1) (sym (height_is kept node));
         few = omega (arith, within, most);
-        consistent = fits.consistent;
+        consistent = (works_on kept node working here).consistent;
       }
 
   -- the block as it is sealed, and the chain with it
@@ -131,15 +125,12 @@ module _ (kept : Kept) (node : IsNode kept) (working : Working) (here : kept.wor
   grown = (world_in kept).sealed ++ block ∷ []
 
   block_is : sealed_of working.done ≡ block
-  block_is = λ i. record { number = fits.number i; time = fits.time i; outcomes = working.done.outcomes.items; committed = working.done.committed.items }
+  block_is = λ i. record { number = (works_on kept node working here).number i; time = (works_on kept node working here).time i; outcomes = working.done.outcomes.items; committed = working.done.committed.items }
 
   -- ---- ids
 
-  places : HasFirstPlaces kept.ids (world_in kept).sealed working.done.number working.done.outcomes.items
-  places = subst (λ (w : Option Working). HasFirstPlaces kept.ids (world_in kept).sealed (number_of_work w) (outcomes_of w)) here node.ids
-
   places_after : HasFirstPlaces kept.ids grown 0 []
-  places_after = places_sealed kept.ids (world_in kept).sealed block 0 (subst (λ n. HasFirstPlaces kept.ids (world_in kept).sealed n working.done.outcomes.items) fits.number places)
+  places_after = places_sealed kept.ids (world_in kept).sealed block 0 (subst (λ n. HasFirstPlaces kept.ids (world_in kept).sealed n working.done.outcomes.items) (works_on kept node working here).number (first_places kept node working here))
 
   -- the ids that have a place are those that are settled
   settled_now : (id : List ℕ) → is_some (place_of_id kept.ids id) ≡ is_settled id grown
@@ -148,7 +139,7 @@ module _ (kept : Kept) (node : IsNode kept) (working : Working) (here : kept.wor
   -- and those of the block are among them
   told_settled : (id : List ℕ) → list_any (bytes_eq id) (ids_told working.done.outcomes.items) ≡ true → is_some (place_of_id kept.ids id) ≡ true
   told_settled id told =
-      is_known kept.ids (world_in kept).sealed working.done.number working.done.outcomes.items id places
+      is_known kept.ids (world_in kept).sealed working.done.number working.done.outcomes.items id (first_places kept node working here)
       ∙ list_any-append (bytes_eq id) (ids_of (world_in kept).sealed) (ids_told working.done.outcomes.items)
       ∙ ap (λ b. list_any (bytes_eq id) (ids_of (world_in kept).sealed) || b) told
       ∙ or_true (list_any (bytes_eq id) (ids_of (world_in kept).sealed))
@@ -191,16 +182,16 @@ module _ (kept : Kept) (node : IsNode kept) (working : Working) (here : kept.wor
     answer_as n = (Digest n (chain_digest (tables_of kept.app) grown), Some (Seal n))
 
     told : reply kept.app (world_in kept) ToSeal ≡ answer_as number
-    told = ap (seals kept.app (world_in kept)) inside ∙ ap (seals_due kept.app (world_in kept) (shown_work working)) all ∙ ap answer_as (sym (numbered ∙ fits.number))
+    told = ap (seals kept.app (world_in kept)) (inside kept node working here) ∙ ap (seals_due kept.app (world_in kept) (shown_work working)) all ∙ ap answer_as (sym (numbered ∙ (works_on kept node working here).number))
 
     after_it : world kept.app journal' ≡ after kept.app (world_in kept) (record { actor = actor; event = Seal number })
     after_it = world_noted kept node actor ToSeal (Digest number (chain_digest (tables_of kept.app) grown)) (Seal number) zero_actor told journal' noted
 
     sealed_now : (world kept.app journal').sealed ≡ grown
-    sealed_now = ap (λ (w : World). w.sealed) after_it ∙ ap (with_sealed (world_in kept).sealed) inside
+    sealed_now = ap (λ (w : World). w.sealed) after_it ∙ ap (with_sealed (world_in kept).sealed) (inside kept node working here)
 
     jobs_now : (world kept.app journal').jobs ≡ map (drop_over grown) (world_in kept).jobs
-    jobs_now = ap (λ (w : World). w.jobs) after_it ∙ ap (λ (work : Option BlockInWork). map (drop_over (with_sealed (world_in kept).sealed work)) (world_in kept).jobs) inside
+    jobs_now = ap (λ (w : World). w.jobs) after_it ∙ ap (λ (work : Option BlockInWork). map (drop_over (with_sealed (world_in kept).sealed work)) (world_in kept).jobs) (inside kept node working here)
 
     module _ (app' : App) (tables' : List TableDef) (history' : List Stamped) (results' : List BlockResult) (same_app : app' ≡ kept.app) (sound : StoreFits app' tables' history' results')
         (grows : (chain : List SealedBlock) → HoldsChain (tables_of kept.app) chain kept.history kept.results → HoldsChain (tables_of kept.app) (chain ++ sealed_of working.done ∷ []) history' results') where
@@ -232,7 +223,7 @@ module _ (kept : Kept) (node : IsNode kept) (working : Working) (here : kept.wor
   -- an id that is not settled is known where it is one of the block in work
   known_if : (id : List ℕ) → is_settled id (world_in kept).sealed ≡ false → list_any (bytes_eq id) told_ids ≡ is_some (place_of_id kept.ids id)
   known_if id unsettled =
-      sym (is_known kept.ids (world_in kept).sealed working.done.number working.done.outcomes.items id (places kept node working here)
+      sym (is_known kept.ids (world_in kept).sealed working.done.number working.done.outcomes.items id (first_places kept node working here)
       ∙ list_any-append (bytes_eq id) (ids_of (world_in kept).sealed) told_ids
       ∙ ap (λ b. b || list_any (bytes_eq id) told_ids) (sym (settled-known id (world_in kept).sealed) ∙ unsettled))
 
@@ -280,7 +271,7 @@ module _ (kept : Kept) (node : IsNode kept) (height : ℕ) (none : not_sealed he
   block_number =
       let all = whole kept node height none in
       subst (λ (w : Option Working). IfSome w (λ working. block.value.number ≡ working.done.number)) (sym all.1)
-      (ap (λ (b : Shared Block). b.value.number) block_same ∙ sym (fits kept node all.0 all.1).number)
+      (ap (λ (b : Shared Block). b.value.number) block_same ∙ sym (works_on kept node all.0 all.1).number)
 
 pub can_join : (kept : Kept) (node : IsNode kept) (height : ℕ) → not_sealed height kept.work ≡ None → IsSomeAnd kept.work (CanJoin (tables_of kept.app) (length kept.results))
 can_join kept node height none =

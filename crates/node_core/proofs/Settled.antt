@@ -7,7 +7,7 @@ use Rattle.std.specs.Option.{option_map, option_or}
 use Rattle.std.specs.Prelude.{nat_le}
 use Rattle.std.specs.Str.{bytes_eq}
 use Rattle.block_work.proofs.Grown.{results_length}
-use Rattle.block_work.specs.Ids.{first_among, first_in, place_of_id}
+use Rattle.block_work.specs.Ids.{HasFirstPlaces, first_among, first_in, place_of_id}
 use Rattle.node_core.proofs.Journal.{facts}
 use Rattle.node_core.specs.Kept.{IsNode, IsWorkingOn, Kept, number_of_work, outcomes_of, shown_work, up_to, world_in}
 use Rattle.node_core.specs.declared.working.Working.{Working}
@@ -89,12 +89,24 @@ upto_or height (Some place) got below above = let within : nat_le place.block he
 
 -- ---- of a node
 
--- the block in work is the next
-pub number_next : (kept : Kept) (node : IsNode kept) (working : Working) → kept.work ≡ Some working → working.done.number ≡ length (world_in kept).sealed + 1
-number_next kept node working here =
-    let inside : (world_in kept).work ≡ Some (shown_work working) = sym node.work ∙ ap (option_map shown_work) here in
-    let fits : IsWorkingOn (tables_of kept.app) working = subst (λ (w : Option Working). IfSome w (IsWorkingOn (tables_of kept.app))) here node.working in
-    fits.number ∙ ((facts kept node).work_fits (shown_work working) inside).next
+-- ---- the block in work
+
+module _ (kept : Kept) (node : IsNode kept) (working : Working) (here : kept.work ≡ Some working) where
+  pub inside : (world_in kept).work ≡ Some (shown_work working)
+  inside = sym node.work ∙ ap (option_map shown_work) here
+
+  pub works_on : IsWorkingOn (tables_of kept.app) working
+  works_on = subst (λ (w : Option Working). IfSome w (IsWorkingOn (tables_of kept.app))) here node.working
+
+  -- ids have their first places in the chain and in the block
+  pub first_places : HasFirstPlaces kept.ids (world_in kept).sealed working.done.number working.done.outcomes.items
+  first_places = subst (λ (w : Option Working). HasFirstPlaces kept.ids (world_in kept).sealed (number_of_work w) (outcomes_of w)) here node.ids
+
+  -- it is the next
+  pub number_next : working.done.number ≡ length (world_in kept).sealed + 1
+  number_next = works_on.number ∙ ((facts kept node).work_fits (shown_work working) inside).next
+
+-- ---- what is settled
 
 pub settled_is : (kept : Kept) (node : IsNode kept) (height : ℕ) (id : List ℕ) → height ≡ length kept.results → up_to height (place_of_id kept.ids id) ≡ settled_in id (world_in kept).sealed
 settled_is kept node height id at =

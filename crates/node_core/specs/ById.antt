@@ -50,8 +50,8 @@ abbrev pub newest_of : JobIndex → List ℕ → ℕ
 newest_of index id = or_zero (number_at index id)
 
 -- an id has an entry, so that a number can be noted without memory
-abbrev pub Holds : JobIndex → List ℕ → Type 0
-Holds index id = IsTrue (is_some (number_at index id))
+abbrev pub HasEntry : JobIndex → List ℕ → Type 0
+HasEntry index id = IsTrue (is_some (number_at index id))
 
 -- an index is that of the jobs with these ids
 pub record Indexes (index : JobIndex) (ids : List (List ℕ)) : Type 0 where
@@ -61,11 +61,11 @@ pub record Indexes (index : JobIndex) (ids : List (List ℕ)) : Type 0 where
 -- there is room for jobs with these ids
 pub record HasRoom (index : JobIndex) (ids : List (List ℕ)) : Type 0 where
   pub room : vec_len index.older + length ids ≤ vec_capacity index.older
-  pub held : All (Holds index) ids
+  pub held : All (HasEntry index) ids
 
 -- what holds an entry does so still
 abbrev pub KeepsHeld : JobIndex → JobIndex → Type 0
-KeepsHeld old new = (id : List ℕ) → Holds old id → Holds new id
+KeepsHeld old new = (id : List ℕ) → HasEntry old id → HasEntry new id
 
 -- an index is that of the same jobs
 abbrev pub SameJobs : JobIndex → JobIndex → Type 0

@@ -2,7 +2,7 @@
 
 ghost use Rattle.std.specs.Prelude.{◌≡◌, ◌<◌, ◌≤◌, ◌+◌, ◌++◌, ◌∷◌, All, List, OnOk, Some, [], cond, length, slice_get, vec_capacity, vec_len, ℕ};
 ghost use Rattle.std.specs.Str.{bytes_eq};
-ghost use Rattle.node_core.specs.ById.{HasRoom, Holds, Indexes, KeepsHeld, SameJobs, newest_of, tx_ids};
+ghost use Rattle.node_core.specs.ById.{HasEntry, HasRoom, Indexes, KeepsHeld, SameJobs, newest_of, tx_ids};
 
 use proc_syntax::Tx;
 use rel_base::{Id, NoMemory, Twin};
@@ -60,7 +60,7 @@ impl JobIndex {
 
     /// Holds an id, so that a job of it can be noted without memory.
     pub fn hold(&mut self, id: &Id) -> Result<(), NoMemory>
-        ensures held { OnOk result (Holds self.new id.now) }
+        ensures held { OnOk result (HasEntry self.new id.now) }
         ensures kept { KeepsHeld self.old self.new }
         ensures newest { (other : List ℕ) → newest_of self.new other ≡ newest_of self.old other }
         ensures older { self.new.older ≡ self.old.older }
@@ -75,7 +75,7 @@ impl JobIndex {
 
     // Notes the newest job of an id that is held.
     fn set(&mut self, id: &Id, number: u64)
-        requires { Holds self.old id.now }
+        requires { HasEntry self.old id.now }
         ensures set { (other : List ℕ) → newest_of self.new other ≡ cond (bytes_eq other id.now) number (newest_of self.old other) }
         ensures kept { KeepsHeld self.old self.new }
         ensures older { self.new.older ≡ self.old.older }
@@ -100,7 +100,7 @@ impl JobIndex {
 
 /// Holds the ids of transactions.
 pub fn hold_all(index: &mut JobIndex, txs: &[Arc<Tx>]) -> Result<(), NoMemory>
-    ensures held { OnOk result (All (Holds index.new) (tx_ids txs.now)) }
+    ensures held { OnOk result (All (HasEntry index.new) (tx_ids txs.now)) }
     ensures newest { (other : List ℕ) → newest_of index.new other ≡ newest_of index.old other }
     ensures older { index.new.older ≡ index.old.older }
 {

@@ -6,11 +6,12 @@ use Rattle.std.specs.Prelude.{int_le, pos, ◌≤◌, ℤ}
 use Rattle.proc_syntax.specs.declared.call.Block.{Block}
 use Rattle.proc_syntax.specs.declared.call.Tx.{Tx}
 
-abbrev block : (number : ℕ) (time : ℤ) (txs : List Tx) → length txs ≤ 1024 → int_le (pos 0) time ≡ true → Block
+-- a block of its parts
+abbrev pub block : (number : ℕ) (time : ℤ) (txs : List Tx) → length txs ≤ 1024 → int_le (pos 0) time ≡ true → Block
 block number time txs few fine = record { number = number; time = time; txs = txs; few = few; not_negative = fine }
 
 -- the facts of a block do not tell two blocks apart
-same_facts : (number : ℕ) (time : ℤ) (txs : List Tx) (few less : length txs ≤ 1024) (fine good : int_le (pos 0) time ≡ true) → block number time txs few fine ≡ block number time txs less good
+pub same_facts : (number : ℕ) (time : ℤ) (txs : List Tx) (few less : length txs ≤ 1024) (fine good : int_le (pos 0) time ≡ true) → block number time txs few fine ≡ block number time txs less good
 same_facts number time txs few less fine good =
     let one : IsProp (length txs ≤ 1024) = hlevel (le_prop, Bool-set) in
     let two : IsProp (int_le (pos 0) time ≡ true) = hlevel (le_prop, Bool-set) in

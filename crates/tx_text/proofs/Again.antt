@@ -110,7 +110,7 @@ id_byte_no_space b = λ e. grind (arith, nat_tests)
 name_byte_no_space : (b : ℕ) → is_name_byte b ≡ true → not (is_space b) ≡ true
 name_byte_no_space b = λ e. grind (arith, nat_tests)
 
-digit_no_space : (b : ℕ) → is_ascii_digit b ≡ true → not (is_space b) ≡ true
+pub digit_no_space : (b : ℕ) → is_ascii_digit b ≡ true → not (is_space b) ≡ true
 digit_no_space b = λ e. grind (arith, nat_tests)
 
 lower_no_space : (b : ℕ) → is_lower_case b ≡ true → not (is_space b) ≡ true

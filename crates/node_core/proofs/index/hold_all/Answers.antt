@@ -1,7 +1,7 @@
 use Rattle.std.proofs.Common.{All, [], ap, length, rules, subst, sym, take, ◌+◌, ◌++◌, ◌<◌, ◌≤◌, ◌∙◌, ◌∷◌}
 use Rattle.std.proofs.lemmas.List.{take_all, take_more}
 use Rattle.node_core.proofs.Newest.{held_more}
-use Rattle.node_core.specs.ById.{Holds, tx_ids}
+use Rattle.node_core.specs.ById.{HasEntry, tx_ids}
 use Rattle.node_core.proofs.index.hold_all.Goals as goal
 
 pub loop-tx-preserved : goal.loop-tx-preserved
@@ -16,4 +16,4 @@ loop-tx-preserved c =
 pub returns-clause-held : goal.returns-clause-held
 returns-clause-held c =
     let end : length c.args.txs.now ≤ c.loop-tx.tx-index = search rules in
-    subst (λ txs. All (Holds c.loop-tx.index) (tx_ids txs)) (take_all c.loop-tx.tx-index c.args.txs.now end) c.loop-tx.invariant.0
+    subst (λ txs. All (HasEntry c.loop-tx.index) (tx_ids txs)) (take_all c.loop-tx.tx-index c.args.txs.now end) c.loop-tx.invariant.0

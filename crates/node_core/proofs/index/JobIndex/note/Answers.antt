@@ -3,7 +3,7 @@ use Rattle.std.specs.Prelude.{vec_capacity, vec_len}
 use Rattle.std.specs.Str.{bytes_eq}
 use Rattle.std.proofs.lemmas.List.Elements.{All-tail, All-weaker}
 use Rattle.node_core.proofs.Newest.{indexes_more}
-use Rattle.node_core.specs.ById.{Holds, newest_of}
+use Rattle.node_core.specs.ById.{HasEntry, newest_of}
 use Rattle.node_core.proofs.index.JobIndex.note.Goals as goal
 
 pub returns-clause-noted : goal.returns-clause-noted
@@ -18,5 +18,5 @@ returns-clause-room c ids was =
     let capacity : vec_capacity c.set.new.self.older ≡ vec_capacity c.args.self.now.older = search rules in
     record {
       room = omega (arith, len, capacity, was.room);
-      held = All-weaker (Holds c.args.self.now) (Holds c.set.new.self) (λ other held. c.set.ensures.kept other held) ids (All-tail (Holds c.args.self.now) c.args.id.now ids was.held);
+      held = All-weaker (HasEntry c.args.self.now) (HasEntry c.set.new.self) (λ other held. c.set.ensures.kept other held) ids (All-tail (HasEntry c.args.self.now) c.args.id.now ids was.held);
     }

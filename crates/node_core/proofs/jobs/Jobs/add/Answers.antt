@@ -3,13 +3,13 @@ use Rattle.std.proofs.lemmas.List.Elements.{All-cons, All-nil}
 use Rattle.std.specs.Prelude.{vec_capacity, vec_len}
 use Rattle.node_core.proofs.Newest.{same_jobs}
 use Rattle.node_core.proofs.Standing.{table_more}
-use Rattle.node_core.specs.ById.{Holds, SameJobs}
+use Rattle.node_core.specs.ById.{HasEntry, SameJobs}
 use Rattle.node_core.proofs.jobs.Jobs.add.Goals as goal
 
 pub push_row-requires-clause-index_room : goal.push_row-requires-clause-index_room
 push_row-requires-clause-index_room c = record {
   room = let room : vec_len c.hold.new.self.older + 1 ≤ vec_capacity c.hold.new.self.older = search rules in room;
-  held = All-cons (Holds c.hold.new.self) c.args.tx.value.id [] (search rules) (All-nil (Holds c.hold.new.self));
+  held = All-cons (HasEntry c.hold.new.self) c.args.tx.value.id [] (search rules) (All-nil (HasEntry c.hold.new.self));
 }
 
 pub invariant_of-self-2 : goal.invariant_of-self-2

@@ -2,7 +2,7 @@ use Rattle.std.proofs.Common.{All, List, length, rules, subst, ◌≡◌, ◌≤
 use Rattle.std.specs.Prelude.{vec_capacity, vec_len}
 use Rattle.node_core.proofs.Newest.{room_all, same_jobs}
 use Rattle.node_core.proofs.Standing.{table_more, table_same}
-use Rattle.node_core.specs.ById.{Holds, SameJobs, tx_ids}
+use Rattle.node_core.specs.ById.{HasEntry, SameJobs, tx_ids}
 use Rattle.node_model.specs.Steps.{Shared}
 use Rattle.proc_syntax.specs.declared.call.Tx.{Tx}
 use Rattle.node_core.proofs.jobs.Jobs.add_all.Goals as goal
@@ -19,7 +19,7 @@ pub push_rows-requires-clause-index_room : goal.push_rows-requires-clause-index_
 push_rows-requires-clause-index_room c =
     let room : vec_len c.hold_all.new.index.older + length c.args.txs.items ≤ vec_capacity c.hold_all.new.index.older = search rules in
     let txs : c.as_slice.result.now ≡ c.args.txs.items = search rules in
-    room_all c.hold_all.new.index c.args.txs.items room (subst (λ (txs : List (Shared Tx)). All (Holds c.hold_all.new.index) (tx_ids txs)) txs c.in_ok-hold_all.ensures.held)
+    room_all c.hold_all.new.index c.args.txs.items room (subst (λ (txs : List (Shared Tx)). All (HasEntry c.hold_all.new.index) (tx_ids txs)) txs c.in_ok-hold_all.ensures.held)
 
 pub invariant_of-self-2 : goal.invariant_of-self-2
 invariant_of-self-2 c =

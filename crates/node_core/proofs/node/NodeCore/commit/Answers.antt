@@ -1,6 +1,7 @@
 use Rattle.std.proofs.Common.{None, Some, [], ap, arith, length, rules, refl, subst, sym, ◌+◌, ◌++◌, ◌∙◌, ◌≡◌, ◌≤◌, ◌∷◌}
 use Rattle.std.specs.Prelude.{vec_capacity, vec_len}
-use Rattle.node_core.proofs.Commit_steps.{by_job_kept, commit_same, commit_steps, early_kept, few_decided, fewer, no_block, not_ready, replies, taken_held, works_on}
+use Rattle.node_core.proofs.Settled.{works_on}
+use Rattle.node_core.proofs.Commit_steps.{by_job_kept, commit_same, commit_steps, early_kept, few_decided, fewer, no_block, not_ready, replies, taken_held}
 use Rattle.node_core.proofs.Due_jobs.{by_job_of, early_of, is_done}
 use Rattle.node_core.specs.Answers.{decided_as}
 use Rattle.node_core.specs.Core.{Core, Steps}
