@@ -135,7 +135,9 @@ def measure(program, work, per_block, rounds):
         seconds, peak = product_seconds(program, work, work.calls, per_block)
         whole.append(seconds)
         peer.append(sqlite_seconds(work))
-    took = max(min(whole) - min(alone), 1e-6)
+    took = min(whole) - min(alone)
+    if took < min(alone) / 20:
+        raise SystemExit(f"{work.name}: the accounts alone took {min(alone):.2f} s of {min(whole):.2f} s, which tells nothing of the calls: the machine is too busy, or they are too few")
     versions = work.accounts + sum({"pay": 2, "add": 1}.get(call[0], 0) for call in work.calls)
     return len(work.calls) / took, len(work.calls) / min(peer), peak / versions
 
