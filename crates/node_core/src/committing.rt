@@ -131,7 +131,7 @@ fn judge_job<V: Versions>(
                 tx,
                 stage: Stage::Done(recorded),
             },
-        ) => chain.judge(work, &recorded.ran, tx.height),
+        ) => chain.judge(work, &recorded.get().ran, tx.height),
         _ => unreachable!(),
     }
 }

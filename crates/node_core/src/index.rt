@@ -73,15 +73,21 @@ impl JobIndex {
         Ok(())
     }
 
-    // Notes the newest job of an id that is held.
-    fn set(&mut self, id: &Id, number: u64)
+    // Notes the newest job of an id that is held, and answers the one before it.
+    fn set(&mut self, id: &Id, number: u64) -> u64
         requires { HasEntry self.old id.now }
+        ensures was { result ≡ newest_of self.old id.now }
         ensures set { (other : List ℕ) → newest_of self.new other ≡ cond (bytes_eq other id.now) number (newest_of self.old other) }
         ensures kept { KeepsHeld self.old self.new }
         ensures older { self.new.older ≡ self.old.older }
     {
-        if let Some(newest) = self.newest.get_mut(id) {
-            *newest = number;
+        match self.newest.get_mut(id) {
+            None => 0,
+            Some(newest) => {
+                let before = *newest;
+                *newest = number;
+                before
+            }
         }
     }
 
@@ -91,10 +97,9 @@ impl JobIndex {
         ensures noted { (ids : List (List ℕ)) → Indexes self.old ids → Indexes self.new (ids ++ id.now ∷ []) }
         ensures room { (ids : List (List ℕ)) → HasRoom self.old (id.now ∷ ids) → HasRoom self.new ids }
     {
-        let older = self.newest(id);
         let number = self.older.len() as u64 + 1;
+        let older = self.set(id, number);
         self.older.push_reserved(older);
-        self.set(id, number);
     }
 }
 

@@ -8,6 +8,7 @@ use crate::bounds::WaitBounds;
 use crate::dropping::drop_all;
 use crate::index::{JobIndex, hold_all};
 use crate::job_rows::{change_stage, is_waiting, one_held, push_row, push_rows};
+use crate::kept_record::KeptRecord;
 use crate::lookup::find_number;
 use proc_syntax::Tx;
 use proc_syntax::run::Ran;
@@ -32,7 +33,7 @@ pub enum Stage {
     /// This actor holds it, with what is recorded of its run.
     Held(u32),
     /// It is done.
-    Done(Record),
+    Done(KeptRecord),
     /// It is done, and what was recorded of its run was taken to decide its transaction.
     Taken,
     /// It is over.
@@ -195,7 +196,7 @@ impl Jobs {
     }
 
     /// Ends a held job, with what is recorded of its run. Takes no memory.
-    pub fn finish(&mut self, number: u64, recorded: Record)
+    pub fn finish(&mut self, number: u64, recorded: KeptRecord)
         requires { IsSomeAnd (row_at self.old number) (λ row. is_held (status_of row.stage) ≡ true) }
         ensures { self.new ≡ put_row self.old number (Done recorded) }
     {
@@ -217,7 +218,7 @@ impl Jobs {
         ensures now { self.new ≡ put_row self.old number Taken }
     {
         match self.set(number, Stage::Taken) {
-            Stage::Done(recorded) => recorded,
+            Stage::Done(recorded) => recorded.into_record(),
             _ => unreachable!(),
         }
     }

@@ -12,6 +12,7 @@ pub mod due;
 pub mod index;
 pub mod job_rows;
 pub mod jobs;
+pub mod kept_record;
 pub mod known;
 pub mod looking;
 pub mod lookup;

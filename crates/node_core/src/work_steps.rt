@@ -11,7 +11,8 @@ ghost use Rattle.rel_base.specs.Late.{least_hit};
 ghost use Rattle.rel_base.specs.Tables.{place_of, writes_between};
 
 use crate::answers::{Finished, Got};
-use crate::jobs::{Jobs, Record};
+use crate::jobs::Jobs;
+use crate::kept_record::KeptRecord;
 use crate::known::settled_in;
 use crate::node::NodeCore;
 use crate::room::make_room;
@@ -42,7 +43,7 @@ fn got_of(hit: Option<Place>) -> Got
 }
 
 // Ends a held job, or drops it where its id is settled.
-fn end_job(jobs: &mut Jobs, job: u64, settled: Option<u64>, recorded: Record) -> Finished
+fn end_job(jobs: &mut Jobs, job: u64, settled: Option<u64>, recorded: KeptRecord) -> Finished
     requires held { IsSomeAnd (row_at jobs.old job) (λ row. is_held (status_of row.stage) ≡ true) }
     ensures rows { jobs.new ≡ put_row jobs.old job (stage_at_end settled recorded) }
     ensures answer { result ≡ finished_of settled }
@@ -118,6 +119,10 @@ impl<V: Versions> NodeCore<V> {
         ensures err { OnErr result (self.new ≡ self.old) }
         ensures back { IfErr result (λ refused. refused.0 ≡ work) }
     {
+        let room = match KeptRecord::room(self.alloc) {
+            Ok(room) => room,
+            Err(refused) => return Err((work, refused)),
+        };
         let height = self.chain.height();
         let settled = settled_in(&self.ids, height, work.id());
         let job = work.job();
@@ -127,7 +132,7 @@ impl<V: Versions> NodeCore<V> {
         };
         let recorded = work.into_record(self.alloc);
         self.journal.push_reserved(entry);
-        Ok(end_job(&mut self.jobs, job, settled, recorded))
+        Ok(end_job(&mut self.jobs, job, settled, room.with(recorded)))
     }
 
     /// Gives a held work up. Its job waits again with nothing read, or is dropped where its id is settled. Takes no memory: the claim took

@@ -1,4 +1,4 @@
-use Rattle.std.proofs.Common.{Some, rules, ap, ◌-◌, ◌∙◌, ◌≡◌}
+use Rattle.std.proofs.Common.{Some, rules, ap, sym, ◌-◌, ◌∙◌, ◌≡◌}
 use Rattle.block_work.proofs.Answering.{if_ok_then}
 use Rattle.block_work.specs.Causes.{outcome_of}
 use Rattle.node_core.proofs.Readied.{judged_as}
@@ -17,8 +17,10 @@ returns-clause-outcome g c =
     let history = g.V.Versions.history c.args.chain.now.versions in
     let row = c.in-Some-Done.field-0.now in
     let there : row_at c.args.jobs.now c.args.number ≡ Some row = search rules in
-    let stands : row.stage ≡ stage.Done c.in-Some-Done.recorded = search rules in
+    let kept : row.stage ≡ stage.Done c.in-Some-Done.recorded = search rules in
+    let recorded = c.get-in-Some-Done.result.now in
+    let stands : row.stage ≡ stage.Done recorded = kept ∙ ap stage.Done (sym c.get-in-Some-Done.ensures) in
     if_ok_then c.judge.result
-    (λ verdict. outcome_of verdict ≡ or_committed (by_run tables (writes_between c.deref.result.now.height (c.args.work.now.number - 1) history) c.args.work.now.committed.items c.in-Some-Done.recorded.ran))
+    (λ verdict. outcome_of verdict ≡ or_committed (by_run tables (writes_between c.deref.result.now.height (c.args.work.now.number - 1) history) c.args.work.now.committed.items recorded.ran))
     (λ verdict. (done : IsDone tables c.args.jobs.now c.args.number) → outcome_of verdict ≡ outcome_by tables history c.args.work.now c.args.jobs.now done) c.judge.ensures.outcome
-    (λ verdict is done. is ∙ judged_as tables c.args.jobs.now c.args.number done history c.args.work.now row c.in-Some-Done.recorded c.deref.result.now.height there stands (ap (λ (tx : Tx). tx.height) c.deref.ensures))
+    (λ verdict is done. is ∙ judged_as tables c.args.jobs.now c.args.number done history c.args.work.now row recorded c.deref.result.now.height there stands (ap (λ (tx : Tx). tx.height) c.deref.ensures))
