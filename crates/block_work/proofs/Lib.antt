@@ -5,6 +5,7 @@ pub mod Consistent
 pub mod Bounds
 pub mod Fitting
 pub mod Grown
+pub mod Marking
 pub mod Outcomes
 pub mod Places
 pub mod Replayed

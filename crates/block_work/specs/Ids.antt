@@ -1,13 +1,11 @@
 -- The ids of a chain, each with the place where it first stands.
+use Rattle.block_work.specs.Marks.{value_of}
 use Rattle.block_work.specs.declared.ids.IdIndex.{IdIndex}
 use Rattle.node_model.specs.History.{SealedBlock, ids_told}
 use Rattle.node_model.specs.declared.result.Told.{Told}
 use Rattle.rel_base.specs.declared.access.Place.{Place}
-use Rattle.std.specs.BTreeMap.{get}
-use Rattle.std.specs.Cmp.Lexicographic.{slice_cmp}
 use Rattle.std.specs.List.{list_any}
 use Rattle.std.specs.Option.{option_or}
-use Rattle.std.specs.Ordering.{nat_cmp}
 use Rattle.std.specs.Prelude.{IfSome, List, None, Option, Some, [], cond, ◌+◌, ◌==◌, ◌≡◌, ◌≤◌, ◌∷◌, ℕ}
 use Rattle.std.specs.Str.{bytes_eq}
 
@@ -27,7 +25,7 @@ first_in (block ∷ rest) id = option_or (first_among block.number 1 block.outco
 
 -- the place that an index has for an id
 abbrev pub place_of_id : IdIndex → List ℕ → Option Place
-place_of_id index id = get (slice_cmp nat_cmp) index.places id
+place_of_id index id = value_of index.places id
 
 -- an index has the place at which each id first stands in a chain, or else among the outcomes so far of the block of a number
 abbrev pub HasFirstPlaces : IdIndex → List SealedBlock → ℕ → List Told → Type 0

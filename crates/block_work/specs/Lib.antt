@@ -1,4 +1,5 @@
 pub mod Ids
+pub mod Marks
 pub mod Causes
 pub mod Block
 pub mod Chain

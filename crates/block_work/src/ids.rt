@@ -3,16 +3,15 @@
 ghost use Rattle.std.specs.Prelude.{◌≡◌, List, None, OnErr, OnOk, ℕ};
 ghost use Rattle.block_work.specs.Ids.{AddsPlace, Forgets, SamePlaces, place_of_id, without};
 
+use crate::marked_ids::MarkedIds;
 use node_model::Told;
 use rel_base::{Id, NoMemory, Place};
 use std::alloc::Global;
-use std::collections::BTreeMap;
 
-/// The ids of a chain, each with the place where it first stands: an ordered map, so that an id is found in a number of steps that
-/// grows as the logarithm.
+/// The ids of a chain, each with the place where it first stands.
 #[derive(Drop)]
 pub struct IdIndex {
-    places: BTreeMap<Id, Place>,
+    places: MarkedIds<Place>,
 }
 
 impl IdIndex {
@@ -21,7 +20,7 @@ impl IdIndex {
         ensures { (id : List ℕ) → place_of_id result id ≡ None }
     {
         IdIndex {
-            places: BTreeMap::new(alloc),
+            places: MarkedIds::new(alloc),
         }
     }
 
@@ -29,7 +28,7 @@ impl IdIndex {
     pub fn find(&self, id: &Id) -> Option<Place>
         ensures { result ≡ place_of_id self.now id.now }
     {
-        self.places.get(id).copied()
+        self.places.get(id)
     }
 
     /// Notes the place of an id, unless it has one. Where memory is wanting, each id has the place that it had.
@@ -37,11 +36,10 @@ impl IdIndex {
         ensures added { OnOk result (AddsPlace self.old self.new id place) }
         ensures same { OnErr result (SamePlaces self.old self.new) }
     {
-        if self.places.contains_key(&id) {
+        if self.find(&id).is_some() {
             return Ok(());
         }
-        self.places.insert(id, place)?;
-        Ok(())
+        self.places.insert(id, place)
     }
 
     // Takes an id out where it first stands in the block of a number.
@@ -50,7 +48,7 @@ impl IdIndex {
     {
         if let Some(place) = self.find(id) {
             if place.block == number {
-                let _ = self.places.remove(id);
+                self.places.remove(id);
             }
         }
     }

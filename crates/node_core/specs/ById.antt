@@ -1,11 +1,9 @@
 -- Jobs by the ids of their transactions: the number of the newest job with each id, and for each job the number of the one before it with the same id.
+use Rattle.block_work.specs.Marks.{value_of}
 use Rattle.node_core.specs.declared.index.JobIndex.{JobIndex}
 use Rattle.node_core.specs.declared.jobs.JobRow.{JobRow}
 use Rattle.node_model.specs.Steps.{Shared}
 use Rattle.proc_syntax.specs.declared.call.Tx.{Tx}
-use Rattle.std.specs.BTreeMap.{get}
-use Rattle.std.specs.Cmp.Lexicographic.{slice_cmp}
-use Rattle.std.specs.Ordering.{nat_cmp}
 use Rattle.std.specs.Prelude.{All, Bool, IsTrue, List, None, Option, Some, [], false, is_some, length, map, suc, true, vec_capacity, vec_len, zero, ◌+◌, ◌++◌, ◌≡◌, ◌≤◌, ◌∷◌, ℕ}
 use Rattle.std.specs.Str.{bytes_eq}
 
@@ -39,7 +37,7 @@ olders front (id ∷ ids) = newest id front ∷ olders (front ++ id ∷ []) ids
 
 -- what an index holds for an id
 abbrev pub number_at : JobIndex → List ℕ → Option ℕ
-number_at index id = get (slice_cmp nat_cmp) index.newest id
+number_at index id = value_of index.newest id
 
 abbrev pub or_zero : Option ℕ → ℕ
 or_zero None = 0

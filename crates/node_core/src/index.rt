@@ -4,17 +4,17 @@ ghost use Rattle.std.specs.Prelude.{◌≡◌, ◌<◌, ◌≤◌, ◌+◌, ◌+
 ghost use Rattle.std.specs.Str.{bytes_eq};
 ghost use Rattle.node_core.specs.ById.{HasEntry, HasRoom, Indexes, KeepsHeld, SameJobs, newest_of, tx_ids};
 
+use block_work::MarkedIds;
 use proc_syntax::Tx;
 use rel_base::{Id, NoMemory, Twin};
 use std::alloc::Global;
-use std::collections::BTreeMap;
 use std::sync::Arc;
 
-/// The newest job of each id, by an ordered map, and for each job the one before it with the same id; 0 stands for none. So the jobs of
-/// an id are found in a number of steps that grows as the logarithm. An id may be held before it has a job.
+/// The newest job of each id, and for each job the one before it with the same id; 0 stands for none. So the jobs of an id are found in a
+/// number of steps that grows as the logarithm. An id may be held before it has a job.
 #[derive(Drop)]
 pub struct JobIndex {
-    newest: BTreeMap<Id, u64>,
+    newest: MarkedIds<u64>,
     older: Vec<u64>,
     alloc: Global,
 }
@@ -25,7 +25,7 @@ impl JobIndex {
         ensures { Indexes result [] }
     {
         JobIndex {
-            newest: BTreeMap::new(alloc),
+            newest: MarkedIds::new(alloc),
             older: Vec::new(alloc),
             alloc,
         }
@@ -37,7 +37,7 @@ impl JobIndex {
     {
         match self.newest.get(id) {
             None => 0,
-            Some(number) => *number,
+            Some(number) => number,
         }
     }
 
@@ -65,7 +65,7 @@ impl JobIndex {
         ensures newest { (other : List ℕ) → newest_of self.new other ≡ newest_of self.old other }
         ensures older { self.new.older ≡ self.old.older }
     {
-        if self.newest.contains_key(id) {
+        if self.newest.get(id).is_some() {
             return Ok(());
         }
         let id = id.copy(self.alloc)?;
@@ -81,13 +81,9 @@ impl JobIndex {
         ensures kept { KeepsHeld self.old self.new }
         ensures older { self.new.older ≡ self.old.older }
     {
-        match self.newest.get_mut(id) {
+        match self.newest.replace(id, number) {
             None => 0,
-            Some(newest) => {
-                let before = *newest;
-                *newest = number;
-                before
-            }
+            Some(before) => before,
         }
     }
 

@@ -1,5 +1,6 @@
 -- The slots of keys in the two maps of a table.
 use Rattle.std.proofs.Common.{◌≡◌, ◌∙◌, ℕ, List, Bool, true, false, cond, Option, Some, None, refl, ap, is_some, subst, sym, Result, Ok, Err, OnOk}
+use Rattle.std.specs.Option.{option_or}
 use Rattle.std.specs.BTreeMap.{is_at}
 use Rattle.std.specs.Cmp.{eq_by_cmp_equiv, tied_itself}
 use Rattle.std.specs.Map.{lookup}
@@ -7,7 +8,7 @@ use Rattle.std.specs.Ordering.{is_eq}
 use Rattle.rel_base.specs.declared.value.Value.{Value}
 use Rattle.rel_base.specs.Value.{key_cmp, key_cmp-total, key_eq}
 pub use Rattle.rel_base.proofs.KeyOrder.{same_key}
-use Rattle.version_index.specs.Chains.{IsPlaced, first_some, slot_by, slot_in}
+use Rattle.version_index.specs.Chains.{IsPlaced, slot_by, slot_in}
 
 -- a key is one with itself
 pub key_itself : (key : List Value) → key_eq key key ≡ true
@@ -32,12 +33,12 @@ module _ (living ended living_now ended_now : List (List Value × ℕ)) (key : L
       → IsPlaced key slot true living ended living_now ended_now
   placed_living put taken =
       record {
-        slots = λ k. (λ i. first_some (put k i) (taken k i)) ∙ first_of (key_eq k key) (slot_in living k) (slot_in ended k);
+        slots = λ k. (λ i. option_or (put k i) (taken k i)) ∙ first_of (key_eq k key) (slot_in living k) (slot_in ended k);
         lives_now = λ k. ap is_some (put k) ∙ lives_after (key_eq k key) (slot_in living k);
         apart = λ apart k lives. taken k ∙ apart_after (key_eq k key) (slot_in living k) (slot_in ended k) (apart k) (ap is_some (sym (put k)) ∙ lives);
       }
     where
-      first_of : (b : Bool) (x y : Option ℕ) → first_some (cond b (Some slot) x) (cond b None y) ≡ cond b (Some slot) (first_some x y)
+      first_of : (b : Bool) (x y : Option ℕ) → option_or (cond b (Some slot) x) (cond b None y) ≡ cond b (Some slot) (option_or x y)
       first_of true x y = refl
       first_of false x y = refl
 
@@ -61,12 +62,12 @@ module _ (living ended living_now ended_now : List (List Value × ℕ)) (key : L
       → IsPlaced key slot false living ended living_now ended_now
   placed_ended put taken =
       record {
-        slots = λ k. (λ i. first_some (taken k i) (put k i)) ∙ first_of (key_eq k key) (slot_in living k) (slot_in ended k);
+        slots = λ k. (λ i. option_or (taken k i) (put k i)) ∙ first_of (key_eq k key) (slot_in living k) (slot_in ended k);
         lives_now = λ k. ap is_some (taken k) ∙ lives_after (key_eq k key) (slot_in living k);
         apart = λ apart k lives. put k ∙ apart_after (key_eq k key) (slot_in living k) (slot_in ended k) (apart k) (ap is_some (sym (taken k)) ∙ lives);
       }
     where
-      first_of : (b : Bool) (x y : Option ℕ) → first_some (cond b None x) (cond b (Some slot) y) ≡ cond b (Some slot) (first_some x y)
+      first_of : (b : Bool) (x y : Option ℕ) → option_or (cond b None x) (cond b (Some slot) y) ≡ cond b (Some slot) (option_or x y)
       first_of true x y = refl
       first_of false x y = refl
 

@@ -1,5 +1,6 @@
 -- Spans of the key of a table, where it is one column.
 use Rattle.std.proofs.Common.{◌≡◌, ◌∙◌, ℕ, suc, zero, ◌<◌, ◌≤◌, ◌⊎◌, inl, inr, List, [], ◌∷◌, Bool, true, false, ◌||◌, ◌==◌, All, Contains, Option, Some, None, is_some, refl, ap, sym, subst, arith, length, map, slice_get}
+use Rattle.std.specs.Option.{option_or}
 use Rattle.std.specs.BTreeMap.Range.{range_contains}
 use Rattle.std.proofs.lemmas.Bool.Decides.{Decides-eqb}
 use Rattle.std.proofs.lemmas.List.{append-nil}
@@ -15,7 +16,7 @@ use Rattle.row_sets.specs.Watched.{is_watched}
 use Rattle.row_sets.specs.declared.hits.Watch.{Watch}
 use Rattle.version_index.specs.Candidates.{IsBetween, IsWrittenFrom, StandsBetween, key_end_of}
 use Rattle.version_index.specs.Chain.{is_on}
-use Rattle.version_index.specs.Chains.{AreApart, first_some, list_or_none, lists_of, numbers_at, slot_in, slot_of}
+use Rattle.version_index.specs.Chains.{AreApart, list_or_none, lists_of, numbers_at, slot_in, slot_of}
 use Rattle.version_index.specs.Hits.{IsOnKeyBetween}
 use Rattle.version_index.specs.Numbers.{ArePassing, passes, passes_at, passing}
 use Rattle.version_index.specs.Span.{HasKeyAt, IsChangedAbove, IsLostBetween}
@@ -46,12 +47,12 @@ past_lists (numbers ∷ lists) (suc slot) past = past_lists lists slot (omega (a
 -- ---- the slots of the two maps
 
 pub living_own : (chains : Chains) (key : List Value) (slot : ℕ) → slot_in chains.living.entries key ≡ Some slot → slot_of chains key ≡ Some slot
-living_own chains key slot is = ap (λ found. first_some found (slot_in chains.ended.entries key)) is
+living_own chains key slot is = ap (λ found. option_or found (slot_in chains.ended.entries key)) is
 
 pub ended_own : (chains : Chains) → AreApart chains.living.entries chains.ended.entries → (key : List Value) (slot : ℕ) → slot_in chains.ended.entries key ≡ Some slot → slot_of chains key ≡ Some slot
 ended_own chains apart key slot is = go (slot_in chains.living.entries key) refl
   where
-    go : (found : Option ℕ) → slot_in chains.living.entries key ≡ found → first_some found (slot_in chains.ended.entries key) ≡ Some slot
+    go : (found : Option ℕ) → slot_in chains.living.entries key ≡ found → option_or found (slot_in chains.ended.entries key) ≡ Some slot
     go None none = is
     go (Some other) some = absurd (no_both (is_some (slot_in chains.ended.entries key)) (ap is_some is) (ap is_some (apart key (ap is_some some))))
 
@@ -82,7 +83,7 @@ module _ (view : TableView) (is : IsView view) where
         go (slot_in chains.living.entries key) (slot_in chains.ended.entries key) refl refl
         (subst (λ numbers. Contains numbers number) (sym (is.index.chains.numbers key)) (passing_all (passes_at (is_on (view.table, key)) history) view.noted number below on))
       where
-        go : (living ended : Option ℕ) → slot_in chains.living.entries key ≡ living → slot_in chains.ended.entries key ≡ ended → Contains (numbers_at (lists_of chains) (first_some living ended)) number
+        go : (living ended : Option ℕ) → slot_in chains.living.entries key ≡ living → slot_in chains.ended.entries key ≡ ended → Contains (numbers_at (lists_of chains) (option_or living ended)) number
             → HasIt chains.living.entries ⊎ HasIt chains.ended.entries
         go (Some slot) ended lives gone inside = inl (slot, lives, inside)
         go None (Some slot) lives gone inside = inr (slot, gone, inside)

@@ -1,5 +1,6 @@
 -- A span finds each key that it wants.
 use Rattle.std.proofs.Common.{◌≡◌, ◌∙◌, ℕ, suc, zero, ◌<◌, ◌⊎◌, inl, inr, List, [], ◌∷◌, ◌++◌, Bool, true, false, ◌&&◌, ◌||◌, ◌==◌, All, Contains, cond, Option, Some, None, is_some, refl, ap, sym, subst, arith, length, map, slice_get, take}
+use Rattle.std.specs.Option.{option_or}
 use Rattle.std.specs.Cmp.{tied_itself}
 use Rattle.std.specs.Ordering.{is_eq, is_le, ordering_reverse}
 use Rattle.std.specs.declared.cmp.Ordering.{Ordering}
@@ -21,7 +22,7 @@ use Rattle.rel_base.proofs.Columns.{span_column_below}
 use Rattle.rel_base.proofs.KeyOrder.{Stands, all_stand}
 use Rattle.row_sets.proofs.Histories.{unwrapped}
 use Rattle.version_index.specs.Candidates.{IsBetween, IsMarkedBetween, IsTouchedAbove, IsWrittenFrom, only_value}
-use Rattle.version_index.specs.Chains.{first_some, lives_in, slot_in, slot_of}
+use Rattle.version_index.specs.Chains.{lives_in, slot_in, slot_of}
 use Rattle.version_index.specs.Columns.{IsColumn, cell, has, touches, touches_at}
 use Rattle.version_index.specs.Index.{HasColumns, index_columns}
 use Rattle.version_index.specs.Left.{left_at}
@@ -81,7 +82,7 @@ module _ (view : TableView) (is : IsView view) (height : ℕ) where
   has_a_slot : (key : List Value) → lives_in chains key ≡ true → (slot : ℕ) × (slot_of chains key ≡ Some slot)
   has_a_slot key lives = go (slot_in chains.living.entries key) lives
     where
-      go : (found : Option ℕ) → is_some found ≡ true → (slot : ℕ) × (first_some found (slot_in chains.ended.entries key) ≡ Some slot)
+      go : (found : Option ℕ) → is_some found ≡ true → (slot : ℕ) × (option_or found (slot_in chains.ended.entries key) ≡ Some slot)
       go None none = cc
       go (Some slot) some = (slot, refl)
 

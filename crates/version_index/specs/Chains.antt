@@ -1,4 +1,5 @@
 -- The writes on each key of a table.
+use Rattle.std.specs.Option.{option_or}
 use Rattle.std.specs.Prelude.{◌≡◌, ◌<◌, ◌≤◌, IsSomeAnd, ℕ, List, [], ◌∷◌, ◌++◌, Bool, true, Option, Some, None, cond, is_some, length, map, slice_get, slice_set, take}
 use Rattle.std.specs.BTreeMap.{is_at}
 use Rattle.std.specs.Map.{lookup}
@@ -19,14 +20,9 @@ use Rattle.version_index.specs.declared.chains.Chains.{Chains}
 abbrev pub slot_in : List (List Value × ℕ) → List Value → Option ℕ
 slot_in slots key = lookup (is_at (key_cmp key)) slots
 
--- the first of two slots that is there
-abbrev pub first_some : Option ℕ → Option ℕ → Option ℕ
-first_some None second = second
-first_some (Some slot) second = Some slot
-
 -- the slot of a key: that among the keys with a row, or else that among the keys whose row was deleted
 abbrev pub slot_by : List (List Value × ℕ) → List (List Value × ℕ) → List Value → Option ℕ
-slot_by living ended key = first_some (slot_in living key) (slot_in ended key)
+slot_by living ended key = option_or (slot_in living key) (slot_in ended key)
 
 abbrev pub slot_of : Chains → List Value → Option ℕ
 slot_of chains key = slot_by chains.living.entries chains.ended.entries key

@@ -5,7 +5,7 @@ ghost use Rattle.std.specs.Option.{option_map};
 ghost use Rattle.std.specs.Vec.{vec_len, vec_capacity};
 ghost use Rattle.rel_base.specs.Value.{key_eq};
 ghost use Rattle.rel_base.specs.declared.value.Value.{Value as Cell};
-ghost use Rattle.version_index.specs.Chains.{AreApart, IsNoted, IsPlaced, IsSame, first_some, lists_of, lives_in, numbers_at, slot_by, slot_in, slot_of};
+ghost use Rattle.version_index.specs.Chains.{AreApart, IsNoted, IsPlaced, IsSame, lists_of, lives_in, numbers_at, slot_by, slot_in, slot_of};
 
 use crate::guesses::{Guesses, hold_guess};
 use crate::lists::{hold_room, list_at, one_number, push_at};
