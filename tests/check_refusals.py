@@ -8,11 +8,13 @@ it. Nothing crashes, hangs or is written twice. Reads and writes that move one b
 bytes before it were written.
 Of runs with many growths some are chosen, evenly, unless all are asked for. Usage: check_refusals.py PROGRAM [--all]
 """
+import concurrent.futures
 import os
 import struct
 import subprocess
 import sys
 import tempfile
+import threading
 
 HERE = os.path.dirname(os.path.abspath(__file__))
 SECONDS = 30
@@ -63,23 +65,24 @@ def runs(folder):
 
 
 class Refuser:
-    """The library, the program, and the file in which the calls are counted."""
+    """The library, the program, and the folder of the files in which the calls are counted, one for each thread."""
 
     def __init__(self, folder, program):
-        self.program, self.library, self.told = program, os.path.join(folder, "refuse.so"), os.path.join(folder, "told")
+        self.program, self.folder, self.library = program, folder, os.path.join(folder, "refuse.so")
         subprocess.run(["cc", "-shared", "-fPIC", "-O1", "-o", self.library, os.path.join(HERE, "refuse.c"), "-ldl"], check=True)
 
     def run(self, run, kind, number, most=None):
         """The status and the bytes of a run in which the call of a number is refused, and how many of that kind it made."""
-        with open(self.told, "wb") as out:
+        told = os.path.join(self.folder, f"told-{threading.get_ident()}")
+        with open(told, "wb") as out:
             out.write(bytes(8))
-        given = {"LD_PRELOAD": self.library, "REFUSE_KIND": kind, "REFUSE_AT": str(number), "REFUSE_TOLD": self.told}
+        given = {"LD_PRELOAD": self.library, "REFUSE_KIND": kind, "REFUSE_AT": str(number), "REFUSE_TOLD": told}
         if most is not None:
             given["REFUSE_MOST"] = str(most)
         done = subprocess.run([self.program, *run.words], cwd=run.folder, env=given, stdin=subprocess.DEVNULL, stdout=subprocess.PIPE,
                               stderr=subprocess.DEVNULL, timeout=SECONDS)
-        with open(self.told, "rb") as told:
-            return done.returncode, done.stdout, struct.unpack("q", told.read(8))[0]
+        with open(told, "rb") as count:
+            return done.returncode, done.stdout, struct.unpack("q", count.read(8))[0]
 
 
 def fault_of(run, kind, status, stdout):
@@ -93,6 +96,13 @@ def fault_of(run, kind, status, stdout):
     return None if run.stdout.startswith(stdout) else "no front of what it writes"
 
 
+class Tried:
+    """One run with a refusal: what was refused, whether it was met, and what is wrong with how the run has ended, if anything is."""
+
+    def __init__(self, what, met, fault):
+        self.what, self.met, self.fault = what, met, fault
+
+
 class Tally:
     def __init__(self):
         self.passed, self.failed, self.refused = 0, 0, {kind: 0 for kind in ENDS}
@@ -102,32 +112,32 @@ class Tally:
         if fault is not None:
             print(f"{run.name}, {what}: {fault}")
 
+    def note_all(self, run, kind, tries):
+        for tried in tries:
+            self.refused[kind] += tried.met
+            self.note(run, tried.what, tried.fault)
 
-def try_one(refuser, run, kind, number, tally):
+
+def try_one(refuser, run, kind, number):
+    what = f"{kind} {number} refused"
     try:
         status, stdout, count = refuser.run(run, kind, number)
     except subprocess.TimeoutExpired:
-        tally.note(run, f"{kind} {number} refused", "hangs")
-        return
-    if count >= number:
-        tally.refused[kind] += 1
-    tally.note(run, f"{kind} {number} refused", fault_of(run, kind, status, stdout))
+        return Tried(what, False, "hangs")
+    return Tried(what, count >= number, fault_of(run, kind, status, stdout))
 
 
-def try_front(refuser, run, number, tally):
+def try_front(refuser, run, number):
     """Refuses one write where each moves one byte: a run that writes its answer at once has no other front than none or all of it."""
     what = f"write {number} of one byte refused"
     try:
         status, stdout, count = refuser.run(run, "write", number, most=1)
     except subprocess.TimeoutExpired:
-        tally.note(run, what, "hangs")
-        return
-    if count >= number:
-        tally.refused["write"] += 1
+        return Tried(what, False, "hangs")
     fault = fault_of(run, "write", status, stdout)
     if fault is None and status == 7 and stdout != run.stdout[:number - 1]:
         fault = f"{len(stdout)} bytes at status 7"
-    tally.note(run, what, fault)
+    return Tried(what, count >= number, fault)
 
 
 def numbers_of(count, takes_all):
@@ -136,23 +146,21 @@ def numbers_of(count, takes_all):
     return sorted({*range(1, count + 3, step), *range(1, min(count, 10) + 1), *range(max(1, count - 10), count + 3)})
 
 
-def check_run(refuser, run, takes_all, tally):
+def check_run(refuser, run, takes_all, tally, pool):
     for kind in ENDS:
         run.status, run.stdout, count = refuser.run(run, kind, 0)
-        for number in numbers_of(count, takes_all):
-            try_one(refuser, run, kind, number, tally)
-    for number in numbers_of(len(run.stdout), takes_all):
-        try_front(refuser, run, number, tally)
+        tally.note_all(run, kind, pool.map(lambda number: try_one(refuser, run, kind, number), numbers_of(count, takes_all)))
+    tally.note_all(run, "write", pool.map(lambda number: try_front(refuser, run, number), numbers_of(len(run.stdout), takes_all)))
     status, stdout, _ = refuser.run(run, "none", 0, most=1)
     tally.note(run, "one byte at a time", None if (status, stdout) == (run.status, run.stdout) else f"status {status}")
 
 
 def main():
     takes_all, tally = "--all" in sys.argv, Tally()
-    with tempfile.TemporaryDirectory() as folder:
+    with tempfile.TemporaryDirectory() as folder, concurrent.futures.ThreadPoolExecutor(os.cpu_count()) as pool:
         refuser = Refuser(folder, os.path.abspath(sys.argv[1]))
         for run in runs(folder):
-            check_run(refuser, run, takes_all, tally)
+            check_run(refuser, run, takes_all, tally, pool)
     print(", ".join(f"{count} {kind}s refused" for kind, count in tally.refused.items()))
     print(f"{tally.passed} passed, {tally.failed} failed")
     sys.exit(1 if tally.failed or not all(tally.refused.values()) else 0)

@@ -4,6 +4,7 @@
 A schedule is made of steps in any order, most of which change nothing where they stand, and of a tail that seals what is left. The arrivals
 are transactions of the blocks, some of them with another argument, another height or another id. Usage: draw_schedules.py PROGRAM [COUNT] [SEED]
 """
+import concurrent.futures
 import os
 import random
 import subprocess
@@ -16,6 +17,8 @@ CASES = ["first-hit-wins", "chain-of-three", "chain-of-three-middle-last", "writ
          "lots", "same-key-in-block", "late-insert", "duplicate-key", "stale-after-reinsert"]
 ACTORS = range(1, 17)
 READS = 12
+FILES = ["--app", "a.app", "--blocks", "b.draft"]
+LOOKS = ["--orders", "--digests"]
 
 
 def read(path):
@@ -92,33 +95,51 @@ def write(folder, name, lines):
         file.write("\n".join(lines) + "\n")
 
 
+class Draw:
+    """A schedule that was drawn for a case, with what arrives."""
+
+    def __init__(self, number, draw):
+        self.number, self.case = number, CASES[number % len(CASES)]
+        blocks = blocks_of(read(os.path.join(HERE, "cases", self.case, "b.draft")))
+        self.arrivals = arrivals_of(draw, blocks)
+        self.steps = [any_step(draw, len(self.arrivals)) for _ in range(draw.randrange(120))] + tail(blocks)
+
+    def report(self, program):
+        """The status and the report of a simulation by the schedule."""
+        with tempfile.TemporaryDirectory() as folder:
+            copy_case(self.case, folder)
+            write(folder, "p1", ["arrivals 1", *self.arrivals])
+            write(folder, "s", ["schedule 1", *self.steps])
+            return run(program, folder, ["simulate", *FILES, "--schedule", "s", "--arrivals", "p", *LOOKS])
+
+
+def copy_case(case, folder):
+    for name in ("a.app", "b.draft"):
+        write(folder, name, [read(os.path.join(HERE, "cases", case, name)).rstrip("\n")])
+
+
+def wanted_of(program, case):
+    """The status and the report of a run of a case."""
+    with tempfile.TemporaryDirectory() as folder:
+        copy_case(case, folder)
+        return run(program, folder, ["run", *FILES, *LOOKS])
+
+
 def main():
     program = os.path.abspath(sys.argv[1])
     count = int(sys.argv[2]) if len(sys.argv) > 2 else 60
     seed = int(sys.argv[3]) if len(sys.argv) > 3 else 1
     draw = random.Random(seed)
-    passed = failed = 0
-    with tempfile.TemporaryDirectory() as folder:
-        for number in range(count):
-            case = CASES[number % len(CASES)]
-            draft = read(os.path.join(HERE, "cases", case, "b.draft"))
-            write(folder, "a.app", [read(os.path.join(HERE, "cases", case, "a.app")).rstrip("\n")])
-            write(folder, "b.draft", [draft.rstrip("\n")])
-            blocks = blocks_of(draft)
-            arrivals = arrivals_of(draw, blocks)
-            write(folder, "p1", ["arrivals 1", *arrivals])
-            steps = [any_step(draw, len(arrivals)) for _ in range(draw.randrange(120))]
-            write(folder, "s", ["schedule 1", *steps, *tail(blocks)])
-            looks = ["--orders", "--digests"]
-            wanted = run(program, folder, ["run", "--app", "a.app", "--blocks", "b.draft", *looks])
-            found = run(program, folder, ["simulate", "--app", "a.app", "--blocks", "b.draft", "--schedule", "s", "--arrivals", "p", *looks])
-            if wanted == found:
-                passed += 1
-            else:
+    draws = [Draw(number, draw) for number in range(count)]
+    wanted = {case: wanted_of(program, case) for case in CASES}
+    failed = 0
+    with concurrent.futures.ThreadPoolExecutor(os.cpu_count()) as pool:
+        for drawn, found in zip(draws, pool.map(lambda drawn: drawn.report(program), draws)):
+            if found != wanted[drawn.case]:
                 failed += 1
-                print(f"draw {number} of seed {seed}, case {case}: wanted {wanted[0]}, found {found[0]}\n{found[1][:400]!r}")
-    print(f"{passed} passed, {failed} failed")
-    sys.exit(1 if failed or not passed else 0)
+                print(f"draw {drawn.number} of seed {seed}, case {drawn.case}: wanted {wanted[drawn.case][0]}, found {found[0]}\n{found[1][:400]!r}")
+    print(f"{count - failed} passed, {failed} failed")
+    sys.exit(1 if failed or not count else 0)
 
 
 if __name__ == "__main__":

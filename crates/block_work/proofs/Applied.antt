@@ -1,6 +1,6 @@
 -- The writes of a block are applied, and the chain has one block more.
 use Rattle.std.proofs.Common.{All, List, [], ap, append_assoc, arith, inl, inr, length, map, refl, subst, sym, ◌++◌, ◌*◌, ◌+◌, ◌<◌, ◌^◌, ◌∙◌, ◌≡◌, ◌≤◌, ◌∷◌, ℕ}
-use Rattle.std.proofs.lemmas.List.Elements.{All-append, All-cons, All-head, All-map, All-nil, All-same, All-tail, All-weaker}
+use Rattle.std.proofs.lemmas.List.Elements.{All-append, All-head, All-map, All-nil, All-same, All-tail, All-weaker}
 use Rattle.std.proofs.lemmas.List.{length-append, length-map}
 use Rattle.block_work.proofs.Grown.{results_grown, stamps_placed}
 use Rattle.block_work.specs.Block.{StandInOrder, sealed_of}

@@ -7,7 +7,7 @@ use Rattle.node_model.specs.declared.result.Told.{Told}
 use Rattle.node_model.specs.Edges.{StandByPosition}
 use Rattle.rel_base.specs.declared.access.Placed.{Placed}
 use Rattle.rel_base.specs.declared.access.Write.{Write}
-use Rattle.std.specs.Prelude.{All, List, [], length, ◌≤◌, ◌∷◌, ℕ}
+use Rattle.std.specs.Prelude.{All, List, length, ◌≤◌, ℕ}
 
 -- a write at a position
 abbrev pub placed_at : ℕ → Write → Placed

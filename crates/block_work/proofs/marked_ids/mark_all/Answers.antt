@@ -1,4 +1,4 @@
-use Rattle.std.proofs.Common.{ap, refl, subst, sym, true, ◌<◌, ◌∙◌, ◌≡◌}
+use Rattle.std.proofs.Common.{ap, refl, subst, sym, ◌<◌, ◌∙◌}
 use Rattle.rel_base.proofs.Bits.{or_right}
 use Rattle.block_work.proofs.Marking.{all_marked, is_among, marked_next}
 use Rattle.block_work.specs.Marks.{has_mark}

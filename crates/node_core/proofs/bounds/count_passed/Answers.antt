@@ -1,4 +1,4 @@
-use Rattle.std.proofs.Common.{Some, arith, length, subst, sym, take, ◌-◌, ◌∙◌, ◌≡◌}
+use Rattle.std.proofs.Common.{arith, length, subst, sym, take, ◌-◌, ◌∙◌, ◌≡◌}
 use Rattle.std.proofs.lemmas.List.{take_all}
 use Rattle.node_core.proofs.Quiet.{StandBefore, before_first, none_above}
 use Rattle.node_core.specs.Waiting.{WaitAbove}

@@ -1,4 +1,4 @@
-use Rattle.std.proofs.Common.{arith, length, rules, ◌<◌, ◌∙◌, ◌≡◌}
+use Rattle.std.proofs.Common.{arith, length, rules, ◌∙◌, ◌≡◌}
 use Rattle.block_work.proofs.Consistent.{after_commit, all_above, fewer, into_among, out_among}
 use Rattle.block_work.proofs.block.BlockInWork.commit.Goals as goal
 
