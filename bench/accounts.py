@@ -1,4 +1,4 @@
-"""The application of accounts that the measurements share: payments, sweeps of an owner by an index, inserts and removals."""
+"""The application of accounts that the measurements and some checks share: payments, sweeps of an owner by an index, inserts and removals."""
 
 APP = """table acct (id int, owner text, bal int) key (id) index (owner);
 proc add(i int, o text, b int) { insert acct (i, o, b); }

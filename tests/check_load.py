@@ -12,17 +12,10 @@ import subprocess
 import sys
 import tempfile
 
-ACCOUNTS = """table acct (id int, owner text, bal int) key (id) index (owner);
-proc add(i int, o text, b int) { insert acct (i, o, b); }
-proc pay(f int, t int, n int) {
-  get a from acct key (f) {
-    get b from acct key (t) {
-      update acct key (f) set bal = a.bal - n;
-      update acct key (t) set bal = b.bal + n;
-    } else { fail "no payee"; }
-  } else { fail "no payer"; }
-}
-"""
+sys.path.insert(0, os.path.join(os.path.dirname(os.path.dirname(os.path.abspath(__file__))), "bench"))
+
+from accounts import APP
+
 # the longest line has an id, the name of a procedure that nobody declared, and texts of 255 bytes
 TEXTS = b' "%s"' % (b"a" * 255) * 15
 # what a byte of such a file may take, and what the program may take beside
@@ -56,7 +49,7 @@ def run(program, folder, words, space=None):
 
 def write_app(folder):
     with open(os.path.join(folder, "app"), "w") as out:
-        out.write(ACCOUNTS)
+        out.write(APP)
 
 
 def plain_words(*more):

@@ -17,21 +17,14 @@ import tempfile
 import threading
 
 HERE = os.path.dirname(os.path.abspath(__file__))
+sys.path.insert(0, os.path.join(os.path.dirname(HERE), "bench"))
+
+from accounts import APP
+
 SECONDS = 30
 MOST_CHOSEN = 120
 # how a run may end in which a call of a kind was refused
 ENDS = {"growth": (8, 3, 7), "read": (3,), "write": (7,)}
-ACCOUNTS = """table acct (id int, owner text, bal int) key (id) index (owner);
-proc add(i int, o text, b int) { insert acct (i, o, b); }
-proc pay(f int, t int, n int) {
-  get a from acct key (f) {
-    get b from acct key (t) {
-      update acct key (f) set bal = a.bal - n;
-      update acct key (t) set bal = b.bal + n;
-    } else { fail "no payee"; }
-  } else { fail "no payer"; }
-}
-"""
 PAYMENTS = ["tx p1 1 pay 1 2 5", "tx p2 1 pay 3 4 5"]
 
 
@@ -53,7 +46,7 @@ def side_by_side(folder):
     """Two payments between different accounts, which arrive before their block at a node with two executors."""
     adds = [f'tx a{n} 0 add {n} "ann" 50' for n in range(1, 5)]
     blocks = "".join(f"block {number}\n" + "".join(line + "\n" for line in lines) + "end\n" for number, lines in enumerate((adds, PAYMENTS), 1))
-    for name, text in (("a.app", ACCOUNTS), ("b.draft", "draft 1\n" + blocks), ("arrivals1", "arrivals 1\n" + "".join(line + "\n" for line in PAYMENTS))):
+    for name, text in (("a.app", APP), ("b.draft", "draft 1\n" + blocks), ("arrivals1", "arrivals 1\n" + "".join(line + "\n" for line in PAYMENTS))):
         with open(os.path.join(folder, name), "w") as out:
             out.write(text)
     return folder, ["run", "--app", "a.app", "--blocks", "b.draft", "--arrivals", "arrivals", "--executors", "2"]
