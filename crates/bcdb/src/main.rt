@@ -22,8 +22,6 @@ pub mod sealing;
 pub mod simulating;
 pub mod simulation;
 pub mod status;
-#[cfg(test)]
-mod tests;
 pub mod top;
 pub mod words;
 

@@ -8,8 +8,6 @@ pub mod calls;
 pub mod draws;
 pub mod laws;
 pub mod load;
-#[cfg(test)]
-mod tests;
 pub mod txs;
 
 pub use load::{Load, generate};

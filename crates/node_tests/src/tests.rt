@@ -1,3 +1,7 @@
+ghost use Rattle.std.specs.Prelude.{◌≡◌};
+ghost use Rattle.cluster_run.specs.Standing.{HasNone};
+ghost use Rattle.turn_lock.specs.Passes.{HoldsNoTurn, IsPassOf, IsSamePass, pass_number};
+
 use crate::bringing::bring_all;
 use crate::crews::{join_crew, split_crew};
 use crate::folding::{fold_plainly, process_beside};
@@ -10,9 +14,10 @@ use cluster_run::working::{run_one, take_work};
 use cluster_run::{Crew, NoGate};
 use cluster_tests::calls::{accounts, add, block, pay};
 use node_model::{Entry, Event, NodeResult, Pick};
+use node_shared::{NodePass, SharedNode};
 use proc_check::Checked;
 use proc_syntax::{Block, Tx};
-use rel_base::{Id, List};
+use rel_base::{List, NoMemory};
 use std::alloc::Global;
 use std::sync::{Arc, Wait};
 use std::test::Fail;
@@ -34,22 +39,51 @@ fn said(entry: &Entry) -> (u32, &'static str, u64) {
     }
 }
 
-// What two passes of a node tell of an insert: one delivers, commits and seals, the other runs it. Also whether its outcome is told.
-fn insert_by_two<R: Wait>(rt: &R, alloc: Global) -> Result<(NodeResult, bool), Fail> {
-    let (node, mut pass) = open_node::<IndexVersions>(alloc, &accounts(alloc)?)?;
-    let mut other = split_off(&node, &mut pass);
+// A block of one insert.
+fn insert(alloc: Global) -> Result<Block, Fail> {
     let mut txs = List::new(alloc);
     txs.push(add(alloc, "a1", 1, "ann", 50)?)?;
-    let (gate, block) = (NoGate, block(1, txs)?);
+    Ok(block(1, txs)?)
+}
+
+// An insert step by step: one pass delivers, commits and seals, the other runs it. Answers whether its outcome is told.
+fn step_by_step<R: Wait>(
+    rt: &R,
+    alloc: Global,
+    node: &SharedNode<IndexVersions>,
+    pass: &mut NodePass<IndexVersions>,
+    other: &mut NodePass<IndexVersions>,
+    block: &Block,
+) -> Result<bool, NoMemory>
+    requires locks { IsPassOf node.now.lock pass.old × IsPassOf node.now.lock other.old }
+    requires no_turn { HoldsNoTurn pass.old × HoldsNoTurn other.old }
+    requires processor { pass_number pass.old ≡ 0 }
+    requires hand { HasNone other.old }
+    ensures same { IsSamePass pass.old pass.new × IsSamePass other.old other.new }
+    ensures no_turn { HoldsNoTurn pass.new × HoldsNoTurn other.new }
+{
+    let gate = NoGate;
     let crew = Crew::new(1, 1, &[], &[], &gate);
-    node.deliver(rt, &mut pass, &block)?;
-    run_one(rt, &node, &crew, &mut other, Pick::Due)?;
-    node.commit(rt, &mut pass)?;
-    node.seal(rt, &mut pass)?;
-    let told = node.outcome(rt, alloc, &mut pass, &Id::new(alloc, "a1")?)?;
+    node.deliver(rt, pass, block)?;
+    run_one(rt, node, &crew, other, Pick::Due)?;
+    node.commit(rt, pass)?;
+    node.seal(rt, pass)?;
+    match block.txs.first() {
+        None => Ok(false),
+        Some(tx) => Ok(node.outcome(rt, alloc, pass, &tx.id)?.is_some()),
+    }
+}
+
+// What two passes of a node tell of an insert, and whether its outcome is told.
+fn insert_by_two<R: Wait>(rt: &R, alloc: Global) -> Result<(NodeResult, bool), Fail> {
+    let app = accounts(alloc)?;
+    let block = insert(alloc)?;
+    let (node, mut pass) = open_node::<IndexVersions>(alloc, &app)?;
+    let mut other = split_off(&node, &mut pass);
+    let told = step_by_step(rt, alloc, &node, &mut pass, &mut other, &block);
     node.join(&mut pass, other);
     let made = node.close(pass).close()?;
-    Ok((made, told.is_some()))
+    Ok((made, told?))
 }
 
 #[test]
@@ -68,17 +102,36 @@ fn an_insert_by_two_passes(rt: HostRuntime) -> Result<(), Fail> {
     Ok(())
 }
 
+// Whether the read of a call that one pass brings is told to another, which takes its job.
+fn look_at_read<R: Wait>(
+    rt: &R,
+    node: &SharedNode<IndexVersions>,
+    bringer: &mut NodePass<IndexVersions>,
+    other: &mut NodePass<IndexVersions>,
+    call: &Tx,
+) -> Result<bool, Fail>
+    requires locks { IsPassOf node.now.lock bringer.old × IsPassOf node.now.lock other.old }
+    requires no_turn { HoldsNoTurn bringer.old × HoldsNoTurn other.old }
+    requires hand { HasNone other.old }
+{
+    node.arrive(rt, bringer, call)?;
+    let Ok(Some(mut work)) = take_work(rt, node, other, Pick::Nth(0)) else {
+        return Err("no job waits".into());
+    };
+    let looked = look_ahead(rt, node, other, 0, &mut work);
+    drop(work);
+    Ok(looked?.is_some())
+}
+
 #[test]
 fn a_look_at_what_an_insert_reads(rt: HostRuntime) -> Result<(), Fail> {
     let alloc = rt.alloc();
-    let (node, mut pass) = open_node::<IndexVersions>(alloc, &accounts(alloc)?)?;
+    let app = accounts(alloc)?;
+    let call = add(alloc, "a1", 1, "ann", 50)?;
+    let (node, mut pass) = open_node::<IndexVersions>(alloc, &app)?;
     let (mut bringer, mut other) = (split_off(&node, &mut pass), split_off(&node, &mut pass));
-    node.arrive(&rt, &mut bringer, &add(alloc, "a1", 1, "ann", 50)?)?;
-    let Ok(Some(mut work)) = take_work(&rt, &node, &mut other, Pick::Nth(0)) else {
-        return Err("no job waits".into());
-    };
-    let looked = look_ahead(&rt, &node, &mut other, 0, &mut work)?;
-    assert!(rt; looked.is_some());
+    let is_told = look_at_read(&rt, &node, &mut bringer, &mut other, &call)?;
+    assert!(rt; is_told);
     Ok(())
 }
 
@@ -134,9 +187,10 @@ fn run_beside_eight<R: Threads + Wait + Sync>(
     app: &Arc<Checked>,
     blocks: &[Block],
 ) -> Result<NodeResult, Fail> {
+    let arriving = calls(alloc, 600)?;
     let (node, mut pass) = open_node::<IndexVersions>(alloc, app)?;
     let mut bringer = split_off(&node, &mut pass);
-    bring_all(rt, &node, &mut bringer, calls(alloc, 600)?.as_slice());
+    bring_all(rt, &node, &mut bringer, arriving.as_slice());
     let passes = split_crew(alloc, &node, &mut pass, 8)?;
     let gate = NoGate;
     let crew = Crew::new(1, 8, blocks, &[], &gate);

@@ -11,6 +11,7 @@ ghost use Rattle.plain_run.specs.State.{state, IsReady};
 use crate::run::Run;
 use crate::scene::Scene;
 use rel_base::{List, Made, NoMemory, Read, Row, Seen, TableDef, Twin};
+use row_sets::Overlay;
 use snapshots::Snapshot;
 use std::alloc::Global;
 
@@ -37,6 +38,30 @@ fn record_read(run: &mut Run, read: Read, seens: List<Seen>) -> Result<(), NoMem
     Ok(())
 }
 
+/// The rows of a read: those of the snapshot, and those that the transaction sees.
+struct ReadRows {
+    committed: List<Seen>,
+    seen: List<Row>,
+}
+
+/// Looks for the rows of a read, with what the transaction wrote itself.
+fn look<S: Snapshot>(
+    scene: &Scene<'_, S>,
+    def: &TableDef,
+    read: &Read,
+    own: &Overlay,
+) -> Result<ReadRows, NoMemory>
+    requires ready { IsReady scene.now.tables.now (S.declared scene.now.snapshot.now) (S.tables scene.now.snapshot.now) }
+    requires here { slice_get scene.now.tables.now (read_table read.now) ≡ Some def.now }
+    requires fits { ReadFits def.now read.now }
+    ensures committed { IfOk result (λ found. found.committed ≡ rows def.now read.now (S.tables scene.now.snapshot.now)) }
+    ensures seen { IfOk result (λ found. found.seen ≡ merged def.now read.now (own_of own.now) (rows def.now read.now (S.tables scene.now.snapshot.now))) }
+{
+    let committed = fetch(scene, def, read)?;
+    let seen = own.merge(scene.alloc, def, read, &committed)?;
+    Ok(ReadRows { committed, seen })
+}
+
 /// Makes a read, and answers the rows that the transaction sees.
 pub fn ask<S: Snapshot>(
     scene: &Scene<'_, S>,
@@ -51,9 +76,8 @@ pub fn ask<S: Snapshot>(
     ensures asked { OnOk result (state run.new ≡ asked (state run.old) read (rows def.now read (S.tables scene.now.snapshot.now))) }
     ensures own { run.new.own ≡ run.old.own }
 {
-    let seens = fetch(scene, def, &read)?;
-    let seen = run.own.merge(scene.alloc, def, &read, &seens)?;
-    record_read(run, read, seens)?;
+    let ReadRows { committed, seen } = look(scene, def, &read, &run.own)?;
+    record_read(run, read, committed)?;
     Ok(seen)
 }
 
@@ -89,9 +113,8 @@ pub fn ask_key<S: Snapshot>(
     ensures asked { OnOk result (state run.new ≡ asked (state run.old) read (rows def.now read (S.tables scene.now.snapshot.now))) }
     ensures own { run.new.own ≡ run.old.own }
 {
-    let seens = fetch(scene, def, &read)?;
-    let seen = run.own.merge(scene.alloc, def, &read, &seens)?;
-    let before = first_row(scene.alloc, seens.as_slice())?;
-    record_read(run, read, seens)?;
+    let ReadRows { committed, seen } = look(scene, def, &read, &run.own)?;
+    let before = first_row(scene.alloc, committed.as_slice())?;
+    record_read(run, read, committed)?;
     Ok(KeyRows { before, seen })
 }

@@ -8,8 +8,6 @@ pub mod laws;
 pub mod parse;
 pub mod query;
 pub mod select;
-#[cfg(test)]
-mod tests;
 
 pub use parse::parse_query;
 pub use query::{Query, QueryFault};

@@ -13,12 +13,8 @@ use std::alloc::Global;
 use std::sync::Arc;
 use std::test::Fail;
 
-/// A call, and how it is to end: the name of a fault, the text of a `fail`, or `good`.
-#[derive(Drop)]
-pub struct Case {
-    tx: Tx,
-    end: &'static str,
-}
+/// A call in a table: its procedure, its arguments, and how it is to end, which is the name of a fault, the text of a `fail`, or `good`.
+pub type Call<'a> = (&'a str, &'a [Arg<'a>], &'a str);
 
 /// A value in a case.
 #[derive(Clone, Copy)]
@@ -46,22 +42,14 @@ fn values(alloc: Global, args: &[Arg<'_>]) -> Result<Row, Fail> {
     Ok(Row::new(values)?)
 }
 
-/// Puts a call of a procedure on a list of cases.
-pub fn add(
-    alloc: Global,
-    cases: &mut List<Case>,
-    procedure: &str,
-    args: &[Arg<'_>],
-    end: &'static str,
-) -> Result<(), Fail> {
-    let tx = Tx {
+/// The transaction of a call.
+fn tx_of(alloc: Global, procedure: &str, args: &[Arg<'_>]) -> Result<Tx, Fail> {
+    Ok(Tx {
         id: Id::new(alloc, "x")?,
         height: 1,
         procedure: Name::new(alloc, procedure)?,
         args: values(alloc, args)?,
-    };
-    cases.push(Case { tx, end })?;
-    Ok(())
+    })
 }
 
 /// Puts the write of a new row on a list of writes. Its key has a number of values.
@@ -119,23 +107,25 @@ fn holds(
     alloc: Global,
     app: &Arc<Checked>,
     tables: &RowTables<'_>,
-    case: &Case,
+    call: &Call<'_>,
 ) -> Result<bool, Fail>
     requires { tables.now.declared.now ≡ tables_of app.now.value.app }
 {
     if !tables.is_ready(alloc)? {
         return Ok(false);
     }
-    let found = agree(alloc, app, tables, &case.tx)?;
-    Ok(matches!(&found, Some(ran) if name_of(&ran.ending) == case.end))
+    let (procedure, args, end) = *call;
+    let tx = tx_of(alloc, procedure, args)?;
+    let found = agree(alloc, app, tables, &tx)?;
+    Ok(matches!(&found, Some(ran) if name_of(&ran.ending) == end))
 }
 
-/// The number of the first case that does not hold on the tables that writes make, or of all cases where each holds.
+/// The number of the first call that does not hold on the tables that writes make, or of all calls where each holds.
 pub fn first_failed(
     alloc: Global,
     text: &str,
     writes: &List<Write>,
-    cases: &List<Case>,
+    calls: &[Call<'_>],
 ) -> Result<usize, Fail> {
     if text.len() > 10_000 {
         return Ok(0);
@@ -143,10 +133,10 @@ pub fn first_failed(
     let app = Arc::new(alloc, check(alloc, parse(alloc, text.as_bytes())?)?)?;
     let mut tables = RowTables::new(alloc, app.tables());
     tables.apply(alloc, Place { block: 1, pos: 1 }, writes.as_slice())?;
-    for (at, case) in cases.as_slice().iter().enumerate() {
-        if !holds(alloc, &app, &tables, case)? {
+    for (at, call) in calls.iter().enumerate() {
+        if !holds(alloc, &app, &tables, call)? {
             return Ok(at);
         }
     }
-    Ok(cases.len())
+    Ok(calls.len())
 }

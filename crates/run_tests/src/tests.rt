@@ -1,10 +1,96 @@
 //! Calls of two applications, on tables in memory.
 
-use crate::cases::{Arg, Case, accounts, add, add_row, first_failed};
+use crate::cases::{Arg, Call, accounts, add_row, first_failed};
 use load_gen::application::APPLICATION;
 use rel_base::List;
-use std::alloc::Global;
 use std::test::Fail;
+
+/// Calls on 35 accounts, each on the same tables.
+const ON_ACCOUNTS: [Call<'static>; 35] = [
+    (
+        "add",
+        &[Arg::Int(40), Arg::Text("eve"), Arg::Int(7)],
+        "good",
+    ),
+    (
+        "add",
+        &[Arg::Int(-1), Arg::Text("eve"), Arg::Int(7)],
+        "good",
+    ),
+    (
+        "add",
+        &[Arg::Int(3), Arg::Text("eve"), Arg::Int(7)],
+        "duplicate-key",
+    ),
+    ("remove", &[Arg::Int(1)], "good"),
+    ("remove", &[Arg::Int(3)], "good"),
+    ("remove", &[Arg::Int(40)], "no-row"),
+    ("remove", &[Arg::Text("1")], "ill typed"),
+    ("vanish", &[Arg::Int(1)], "ill typed"),
+    ("pay", &[Arg::Int(1), Arg::Int(2), Arg::Int(10)], "good"),
+    ("pay", &[Arg::Int(2), Arg::Int(1), Arg::Int(-5)], "good"),
+    ("pay", &[Arg::Int(2), Arg::Int(2), Arg::Int(20)], "good"),
+    ("pay", &[Arg::Int(3), Arg::Int(3), Arg::Int(31)], "funds"),
+    ("pay", &[Arg::Int(1), Arg::Int(2), Arg::Int(11)], "funds"),
+    ("pay", &[Arg::Int(1), Arg::Int(90), Arg::Int(1)], "no payee"),
+    ("pay", &[Arg::Int(90), Arg::Int(1), Arg::Int(1)], "no payer"),
+    (
+        "pay",
+        &[Arg::Int(90), Arg::Int(90), Arg::Int(1)],
+        "no payer",
+    ),
+    (
+        "pay",
+        &[Arg::Int(1), Arg::Int(2), Arg::Int(i64::MIN)],
+        "overflow",
+    ),
+    ("both", &[Arg::Int(1), Arg::Int(2), Arg::Int(30)], "good"),
+    ("both", &[Arg::Int(1), Arg::Int(2), Arg::Int(31)], "low"),
+    ("both", &[Arg::Int(1), Arg::Int(1), Arg::Int(20)], "good"),
+    (
+        "both",
+        &[Arg::Int(1), Arg::Int(90), Arg::Int(1)],
+        "no second",
+    ),
+    (
+        "both",
+        &[Arg::Int(90), Arg::Int(1), Arg::Int(1)],
+        "no first",
+    ),
+    ("sweep", &[Arg::Text("ann"), Arg::Int(2)], "good"),
+    ("sweep", &[Arg::Text("ann"), Arg::Int(1)], "good"),
+    ("sweep", &[Arg::Text("bob"), Arg::Int(5)], "good"),
+    ("sweep", &[Arg::Text("eve"), Arg::Int(1)], "good"),
+    ("sweep", &[Arg::Text("ann"), Arg::Int(90)], "no-row"),
+    ("trio", &[Arg::Int(1), Arg::Int(2), Arg::Int(3)], "good"),
+    ("trio", &[Arg::Int(1), Arg::Int(1), Arg::Int(1)], "good"),
+    ("trio", &[Arg::Int(90), Arg::Int(2), Arg::Int(80)], "good"),
+    (
+        "spin",
+        &[Arg::Int(2), Arg::Int(3), Arg::Int(4), Arg::Int(5)],
+        "good",
+    ),
+    (
+        "spin",
+        &[Arg::Int(0), Arg::Int(9), Arg::Int(9), Arg::Int(9)],
+        "good",
+    ),
+    (
+        "spinmore",
+        &[Arg::Int(3), Arg::Int(1), Arg::Int(0), Arg::Int(2)],
+        "good",
+    ),
+    (
+        "spin",
+        &[Arg::Int(9), Arg::Int(23), Arg::Int(13), Arg::Int(35)],
+        "good",
+    ),
+    (
+        "spinmore",
+        &[Arg::Int(9), Arg::Int(23), Arg::Int(13), Arg::Int(35)],
+        "steps",
+    ),
+];
 
 /// Lots at sites.
 const LOTS: &str = r#"
@@ -17,144 +103,72 @@ proc hold(s text) {
 }
 "#;
 
+/// The lots that there are.
+const LOT_ROWS: [[Arg<'static>; 4]; 3] = [
+    [
+        Arg::Text("a"),
+        Arg::Int(1),
+        Arg::Bytes(b"\x01\xff"),
+        Arg::Bool(false),
+    ],
+    [
+        Arg::Text("a"),
+        Arg::Int(2),
+        Arg::Bytes(b"\x01\xff"),
+        Arg::Bool(true),
+    ],
+    [
+        Arg::Text("b"),
+        Arg::Int(1),
+        Arg::Bytes(b"\x01\xff"),
+        Arg::Bool(false),
+    ],
+];
+
+/// Calls on these lots, each on the same tables.
+const ON_LOTS: [Call<'static>; 8] = [
+    (
+        "put",
+        &[Arg::Text("a"), Arg::Int(3), Arg::Bytes(b"")],
+        "good",
+    ),
+    (
+        "put",
+        &[Arg::Text(""), Arg::Int(0), Arg::Bytes(b"")],
+        "good",
+    ),
+    (
+        "put",
+        &[Arg::Text("a"), Arg::Int(2), Arg::Bytes(b"")],
+        "duplicate-key",
+    ),
+    (
+        "put",
+        &[Arg::Text("b"), Arg::Int(1), Arg::Bytes(b"")],
+        "duplicate-key",
+    ),
+    ("hold", &[Arg::Text("a")], "good"),
+    ("hold", &[Arg::Text("b")], "good"),
+    ("hold", &[Arg::Text("c")], "good"),
+    ("hold", &[Arg::Int(1)], "ill typed"),
+];
+
 #[test]
-fn accounts_come_and_go(rt: HostRuntime) -> Result<(), Fail> {
+fn accounts_in_both_ways(rt: HostRuntime) -> Result<(), Fail> {
     let alloc = rt.alloc();
-    let mut cases = List::new(alloc);
-    for (id, end) in [(4, "good"), (-1, "good"), (3, "duplicate-key")] {
-        let args = [Arg::Int(id), Arg::Text("eve"), Arg::Int(7)];
-        add(alloc, &mut cases, "add", &args, end)?;
-    }
-    for (id, end) in [(1, "good"), (3, "good"), (4, "no-row")] {
-        add(alloc, &mut cases, "remove", &[Arg::Int(id)], end)?;
-    }
-    add(alloc, &mut cases, "remove", &[Arg::Text("1")], "ill typed")?;
-    add(alloc, &mut cases, "vanish", &[Arg::Int(1)], "ill typed")?;
-    let failed = first_failed(alloc, APPLICATION, &accounts(alloc, 3)?, &cases)?;
-    assert_eq!(rt; failed, cases.len());
+    let failed = first_failed(alloc, APPLICATION, &accounts(alloc, 35)?, &ON_ACCOUNTS)?;
+    assert_eq!(rt; failed, ON_ACCOUNTS.len());
     Ok(())
 }
 
 #[test]
-fn payments(rt: HostRuntime) -> Result<(), Fail> {
-    let alloc = rt.alloc();
-    let mut cases = List::new(alloc);
-    for (from, to, amount, end) in [
-        (1, 2, 10, "good"),
-        (2, 1, -5, "good"),
-        (2, 2, 20, "good"),
-        (3, 3, 31, "funds"),
-        (1, 2, 11, "funds"),
-        (1, 9, 1, "no payee"),
-        (9, 1, 1, "no payer"),
-        (9, 9, 1, "no payer"),
-        (1, 2, i64::MIN, "overflow"),
-    ] {
-        let args = [Arg::Int(from), Arg::Int(to), Arg::Int(amount)];
-        add(alloc, &mut cases, "pay", &args, end)?;
-    }
-    for (first, second, amount, end) in [
-        (1, 2, 30, "good"),
-        (1, 2, 31, "low"),
-        (1, 1, 20, "good"),
-        (1, 9, 1, "no second"),
-        (9, 1, 1, "no first"),
-    ] {
-        let args = [Arg::Int(first), Arg::Int(second), Arg::Int(amount)];
-        add(alloc, &mut cases, "both", &args, end)?;
-    }
-    let failed = first_failed(alloc, APPLICATION, &accounts(alloc, 3)?, &cases)?;
-    assert_eq!(rt; failed, cases.len());
-    Ok(())
-}
-
-#[test]
-fn sweeps_and_looks(rt: HostRuntime) -> Result<(), Fail> {
-    let alloc = rt.alloc();
-    let mut cases = List::new(alloc);
-    for (owner, to, end) in [
-        ("ann", 2, "good"),
-        ("ann", 1, "good"),
-        ("bob", 5, "good"),
-        ("eve", 1, "good"),
-        ("ann", 9, "no-row"),
-    ] {
-        add(
-            alloc,
-            &mut cases,
-            "sweep",
-            &[Arg::Text(owner), Arg::Int(to)],
-            end,
-        )?;
-    }
-    for ids in [[1, 2, 3], [1, 1, 1], [9, 2, 8]] {
-        let args = [Arg::Int(ids[0]), Arg::Int(ids[1]), Arg::Int(ids[2])];
-        add(alloc, &mut cases, "trio", &args, "good")?;
-    }
-    let failed = first_failed(alloc, APPLICATION, &accounts(alloc, 5)?, &cases)?;
-    assert_eq!(rt; failed, cases.len());
-    Ok(())
-}
-
-/// Puts a call of a procedure with four numbers on a list of cases.
-fn add_spin(
-    alloc: Global,
-    cases: &mut List<Case>,
-    procedure: &str,
-    ends: [i64; 4],
-    end: &'static str,
-) -> Result<(), Fail> {
-    let args = [
-        Arg::Int(ends[0]),
-        Arg::Int(ends[1]),
-        Arg::Int(ends[2]),
-        Arg::Int(ends[3]),
-    ];
-    add(alloc, cases, procedure, &args, end)
-}
-
-#[test]
-fn spins(rt: HostRuntime) -> Result<(), Fail> {
-    let alloc = rt.alloc();
-    let mut cases = List::new(alloc);
-    add_spin(alloc, &mut cases, "spin", [2, 3, 4, 5], "good")?;
-    add_spin(alloc, &mut cases, "spin", [0, 9, 9, 9], "good")?;
-    add_spin(alloc, &mut cases, "spinmore", [3, 1, 0, 2], "good")?;
-    add_spin(alloc, &mut cases, "spin", [9, 23, 13, 35], "good")?;
-    add_spin(alloc, &mut cases, "spinmore", [9, 23, 13, 35], "steps")?;
-    let failed = first_failed(alloc, APPLICATION, &accounts(alloc, 35)?, &cases)?;
-    assert_eq!(rt; failed, cases.len());
-    Ok(())
-}
-
-#[test]
-fn lots(rt: HostRuntime) -> Result<(), Fail> {
+fn lots_in_both_ways(rt: HostRuntime) -> Result<(), Fail> {
     let alloc = rt.alloc();
     let mut writes = List::new(alloc);
-    for (site, number, held) in [("a", 1, false), ("a", 2, true), ("b", 1, false)] {
-        let row = [
-            Arg::Text(site),
-            Arg::Int(number),
-            Arg::Bytes(b"\x01\xff"),
-            Arg::Bool(held),
-        ];
+    for row in LOT_ROWS {
         add_row(alloc, &mut writes, 2, &row)?;
     }
-    let mut cases = List::new(alloc);
-    for (site, number, end) in [
-        ("a", 3, "good"),
-        ("", 0, "good"),
-        ("a", 2, "duplicate-key"),
-        ("b", 1, "duplicate-key"),
-    ] {
-        let args = [Arg::Text(site), Arg::Int(number), Arg::Bytes(b"")];
-        add(alloc, &mut cases, "put", &args, end)?;
-    }
-    for site in ["a", "b", "c"] {
-        add(alloc, &mut cases, "hold", &[Arg::Text(site)], "good")?;
-    }
-    add(alloc, &mut cases, "hold", &[Arg::Int(1)], "ill typed")?;
-    let failed = first_failed(alloc, LOTS, &writes, &cases)?;
-    assert_eq!(rt; failed, cases.len());
+    let failed = first_failed(alloc, LOTS, &writes, &ON_LOTS)?;
+    assert_eq!(rt; failed, ON_LOTS.len());
     Ok(())
 }

@@ -15,6 +15,3 @@ pub use dangers::danger;
 pub use edge_search::{edges_of, touches};
 pub use edge_set::EdgeSet;
 pub use edges::Edges;
-
-#[cfg(test)]
-mod tests;

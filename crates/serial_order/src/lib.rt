@@ -7,6 +7,3 @@ pub mod placing;
 
 pub use check::check_order;
 pub use placing::order;
-
-#[cfg(test)]
-mod tests;

@@ -1,14 +1,15 @@
 // What no clause says: that turns come, that threads start, and that a refused start is met.
-ghost use Rattle.std.specs.Prelude.{◌≡◌, ◌≢◌, []};
+ghost use Rattle.std.specs.Prelude.{◌≡◌, ◌≢◌, ◌≤◌, []};
 ghost use Rattle.std.specs.Arc.{arc_value};
 ghost use Rattle.turn_lock.specs.Passes.{IsPassOf, pass_number, mine, HoldsNoTurn};
 
 use crate::crew::{PassOf, fill, work_unless_stopped};
 use crate::tally::{Note, Tally};
-use std::sync::Arc;
+use std::alloc::Global;
 use std::sync::atomic::{AtomicBool, Ordering};
+use std::sync::{Arc, Wait};
 use std::test::Fail;
-use std::thread::Builder;
+use std::thread::{Builder, Threads};
 use turn_lock::{Pass, TurnLock};
 
 const LABEL: u64 = 7;
@@ -24,37 +25,26 @@ fn in_order(notes: &[Note], actor: u32, count: u64) -> bool {
         .eq(0..count)
 }
 
-#[test]
-fn one_thread_makes_its_calls_in_order(rt: HostRuntime) -> Result<(), Fail> {
-    let alloc = rt.alloc();
-    let (tally, done) = fill(&rt, alloc, Tally::new(alloc, LABEL, 0)?, 0, TURNS)?;
-    assert_eq!(rt; (done, tally.label), (TURNS, LABEL));
-    assert_eq!(rt; tally.notes.len(), 1000);
-    assert!(rt; in_order(&tally.notes, 0, TURNS));
-    Ok(())
+// Whether a thread and so many others beside it each make their calls in order, and no other is noted.
+fn keep_order<R: Threads + Wait + Sync>(rt: &R, alloc: Global, others: u32) -> Result<bool, Fail>
+    requires { others ≤ 16 }
+{
+    let (tally, done) = fill(rt, alloc, Tally::new(alloc, LABEL, 0)?, others, TURNS)?;
+    let all = 1000 * (others as usize + 1);
+    Ok(
+        done == TURNS
+            && tally.label == LABEL
+            && tally.notes.len() == all
+            && (0..=others).all(|actor| in_order(&tally.notes, actor, TURNS)),
+    )
 }
 
 #[test]
-fn two_threads_make_their_calls_in_order(rt: HostRuntime) -> Result<(), Fail> {
+fn each_thread_makes_its_calls_in_order(rt: HostRuntime) -> Result<(), Fail> {
     let alloc = rt.alloc();
-    let (tally, done) = fill(&rt, alloc, Tally::new(alloc, LABEL, 0)?, 1, TURNS)?;
-    assert_eq!(rt; (done, tally.label), (TURNS, LABEL));
-    assert_eq!(rt; tally.notes.len(), 2000);
-    for actor in 0..2 {
-        assert!(rt; in_order(&tally.notes, actor, TURNS));
-    }
-    Ok(())
-}
-
-#[test]
-fn four_threads_make_their_calls_in_order(rt: HostRuntime) -> Result<(), Fail> {
-    let alloc = rt.alloc();
-    let (tally, done) = fill(&rt, alloc, Tally::new(alloc, LABEL, 0)?, 3, TURNS)?;
-    assert_eq!(rt; (done, tally.label), (TURNS, LABEL));
-    assert_eq!(rt; tally.notes.len(), 4000);
-    for actor in 0..4 {
-        assert!(rt; in_order(&tally.notes, actor, TURNS));
-    }
+    assert!(rt; keep_order(&rt, alloc, 0)?);
+    assert!(rt; keep_order(&rt, alloc, 1)?);
+    assert!(rt; keep_order(&rt, alloc, 3)?);
     Ok(())
 }
 
