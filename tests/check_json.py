@@ -7,7 +7,9 @@ compact spelling of that value, byte for byte: keys in byte order, no space, esc
 stand behind both as the same lines. The status is the same, and so is all that is written where there is no report.
 Usage: check_json.py PROGRAM
 """
+import concurrent.futures
 import contextlib
+import itertools
 import json
 import os
 import re
@@ -182,13 +184,11 @@ def read(path):
         return file.read()
 
 
-def check_prefixes(program, name, tally):
+def check_prefix(program, name, length, tally):
     folder = os.path.join(CASES, name)
-    application, whole = read(os.path.join(folder, "a.app")), read(os.path.join(folder, "b.draft"))
-    words = ["run", "--app", "a.app", "--blocks", "b.draft"]
-    for length in range(len(whole) + 1):
-        with scratch_with({"a.app": application, "b.draft": whole[:length]}) as scratch:
-            compare(program, f"{name} at {length}", scratch, words, tally)
+    files = {"a.app": read(os.path.join(folder, "a.app")), "b.draft": read(os.path.join(folder, "b.draft"))[:length]}
+    with scratch_with(files) as scratch:
+        compare(program, f"{name} at {length}", scratch, ["run", "--app", "a.app", "--blocks", "b.draft"], tally)
 
 
 def check_folder(program, name, tally):
@@ -198,19 +198,37 @@ def check_folder(program, name, tally):
         check_case(program, name, folder, words, tally)
 
 
-def main():
-    program = os.path.abspath(sys.argv[1])
-    tally = Tally()
+def check_limit(program, number, tally):
+    name, files, _, _ = next(itertools.islice(limits.cases(), number, None))
+    with scratch_with(files) as scratch:
+        compare(program, name, scratch, ["run", "--app", "a.app", "--blocks", "b.draft"], tally)
+
+
+def checks():
+    """What is checked, as a function and what it takes behind the program; those at the limits come first, since two of them are long."""
+    for number in reversed(range(len([*limits.cases()]))):
+        yield check_limit, number
     for name in sorted(os.listdir(CASES)):
         if name == "prefixes-of-a-draft":
-            check_prefixes(program, name, tally)
+            yield from ((check_prefix, name, length) for length in range(os.path.getsize(os.path.join(CASES, name, "b.draft")) + 1))
         else:
-            check_folder(program, name, tally)
-    for name, files, _, _ in limits.cases():
-        with scratch_with(files) as scratch:
-            compare(program, name, scratch, ["run", "--app", "a.app", "--blocks", "b.draft"], tally)
-    print(f"{tally.passed} passed, {tally.failed} failed")
-    sys.exit(1 if tally.failed or not tally.passed else 0)
+            yield check_folder, name
+
+
+def counted(program, check, *arguments):
+    """How many comparisons of a check passed and how many failed."""
+    tally = Tally()
+    check(program, *arguments, tally)
+    return tally.passed, tally.failed
+
+
+def main():
+    program = os.path.abspath(sys.argv[1])
+    with concurrent.futures.ProcessPoolExecutor() as pool:
+        counts = [it.result() for it in [pool.submit(counted, program, *check) for check in checks()]]
+    passed, failed = (sum(column) for column in zip(*counts))
+    print(f"{passed} passed, {failed} failed")
+    sys.exit(1 if failed or not passed else 0)
 
 
 if __name__ == "__main__":

@@ -50,9 +50,9 @@ impl<V: Versions> NodeCore<V> {
             tx,
         ) {
             Arrived::Queued => {
+                make_room(&mut self.journal, 1, self.jobs.held())?;
                 let shared = tx.clone()?;
                 let noted = tx.clone()?;
-                make_room(&mut self.journal, 1, self.jobs.held())?;
                 let job = self.jobs.len() + 1;
                 self.jobs.add(shared)?;
                 self.journal.push_reserved(Entry {

@@ -107,10 +107,10 @@ impl<V: Versions> NodeCore<V> {
         match self.choose(pick) {
             None => Ok(None),
             Some(job) => {
+                make_room(&mut self.journal, 2, self.jobs.held())?;
                 let tx = share_tx(&self.jobs, job)?;
                 let time = self.chain.time_of(tx.height);
                 let machine = Machine::start(self.alloc, &self.chain.app, &tx, time)?;
-                make_room(&mut self.journal, 2, self.jobs.held())?;
                 self.jobs.hold(job, actor);
                 self.journal.push_reserved(Entry {
                     actor,

@@ -142,6 +142,7 @@ impl<V: Versions> NodeCore<V> {
         if block.number != expected {
             return Ok(Delivered::NotNext { expected });
         }
+        make_room(&mut self.journal, 1, self.jobs.held())?;
         let shared = block.clone()?;
         let noted = block.clone()?;
         let (fresh, ids) = fresh_txs(
@@ -152,7 +153,6 @@ impl<V: Versions> NodeCore<V> {
             block,
             txs,
         )?;
-        make_room(&mut self.journal, 1, self.jobs.held())?;
         self.jobs.add_all(fresh)?;
         self.work = Some(Working {
             done: BlockInWork::new(self.alloc, block),

@@ -17,7 +17,6 @@ use std::marker::Model;
 use std::sync::Arc;
 
 /// A job that an actor holds, with its run so far. Its reads are answered by the node; between two reads it runs outside of every turn.
-#[derive(Drop)]
 pub struct Work {
     job: u64,
     actor: u32,
@@ -31,6 +30,21 @@ pub struct Work {
     cut: bool,
     /// Whether the last read found that the id is settled.
     gone: bool,
+}
+
+impl Drop for Work {
+    fn drop(self) {
+        let Work {
+            job: _,
+            actor: _,
+            tx: _,
+            machine: _,
+            wants: _,
+            ended: _,
+            cut: _,
+            gone: _,
+        } = self;
+    }
 }
 
 impl Model for Work {
@@ -162,15 +176,24 @@ impl Work {
         ensures record { IsRecordOf self result }
         ensures all { self.cut ≡ false → AreAllReads self.told }
     {
-        let cut = self.cut;
+        let Work {
+            machine,
+            cut,
+            job: _,
+            actor: _,
+            tx: _,
+            wants: _,
+            ended: _,
+            gone: _,
+        } = self;
         let ran = if cut {
             Ran {
-                reads: self.machine.cut(),
+                reads: machine.cut(),
                 writes: List::new(alloc),
                 ending: Ending::Good,
             }
         } else {
-            self.machine.finish()
+            machine.finish()
         };
         Record { ran, cut }
     }

@@ -101,9 +101,9 @@ impl<V: Versions> NodeCore<V> {
         match work.wanted() {
             None => unreachable!(),
             Some(read) => {
+                make_room(&mut self.journal, 1, self.jobs.held())?;
                 let hit = find_hit(&self.chain.versions, after, height, read);
                 let rows = self.chain.versions.visible(after, read)?;
-                make_room(&mut self.journal, 1, self.jobs.held())?;
                 work.answer(rows, hit.is_some());
                 self.journal.push_reserved(entry);
                 Ok(got_of(hit))

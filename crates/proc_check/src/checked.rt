@@ -18,7 +18,6 @@ use rel_base::{List, TableDef};
 use std::alloc::Global;
 
 /// An application that is well typed, the declarations of its tables, and its code, in which the names are resolved.
-#[derive(Drop)]
 pub struct Checked {
     app: App,
     tables: List<TableDef>,
@@ -26,6 +25,16 @@ pub struct Checked {
     ghost well_typed: { walk_app app ≡ Ok tt },
     ghost declared: { tables ≡ tables_of app },
     ghost resolved: { code ≡ code_of app },
+}
+
+impl Drop for Checked {
+    fn drop(self) {
+        let Checked {
+            app: _,
+            tables: _,
+            code: _,
+        } = self;
+    }
 }
 
 /// Checks an application, up to its first fault, and resolves its names.

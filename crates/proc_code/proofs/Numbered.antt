@@ -14,7 +14,6 @@ use Rattle.std.proofs.lemmas.List.Folds.{list_any-append}
 use Rattle.std.proofs.lemmas.List.Recursion.{is_position_or_len}
 use Rattle.std.proofs.lemmas.List.Sums.{prefix_len-le-length}
 use Rattle.std.proofs.lemmas.Map.Text.{is_eq-slice_cmp}
-use Rattle.std.proofs.lemmas.Slice.Eq.{bytes_eq-Decides}
 use Rattle.proc_code.specs.Numbers.{Names, AreNumbersOf, has_name, number_if, number_of_name, with_name, with_names}
 use Rattle.rel_base.proofs.Bytes.{bytes_same, equal_bytes}
 use Rattle.rel_base.proofs.Bits.{or_left, or_right}

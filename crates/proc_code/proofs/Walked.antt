@@ -7,6 +7,9 @@ use Rattle.proc_syntax.specs.declared.tree.Named.{Named}
 use Rattle.proc_syntax.specs.declared.tree.Stmt.{Stmt, fold-roll-Stmt, roll-Stmt}
 use Rattle.proc_syntax.specs.declared.tree.Stmt.TheOpen as opened
 use Rattle.proc_syntax.specs.declared.tree.Stmt.TheVariants as stmt
+use Rattle.proc_syntax.specs.declared.run.Stop.{Stop}
+use Rattle.proc_syntax.specs.Values.{◌>>=◌}
+use Rattle.proc_eval.proofs.Lists.{after, after_more}
 use Rattle.proc_code.specs.Numbers.{Names, bound_names, bound_step, joined, with_name, with_names}
 use Rattle.proc_code.proofs.Numbered.{with_both}
 
@@ -26,6 +29,18 @@ mapped f xs i x made pushed y within here before pushed_is is =
     ∙ append_assoc made (y ∷ []) (map f (drop (i + 1) xs))
     ∙ ap (λ y. made ++ y ∷ map f (drop (i + 1) xs)) is
     ∙ ap (λ l. made ++ map f l) (sym (left xs i x within here))
+    ∙ before
+
+-- values that are gathered one by one
+pub gathered : {X Y : Type 0} (f : X → Result Y Stop) (all : List X → Result (List Y) Stop) → ((x : X) (rest : List X) → all (x ∷ rest) ≡ f x >>= λ y. all rest >>= λ ys. Ok (y ∷ ys))
+    → (xs : List X) (i : ℕ) (x : X) (made pushed : List Y) (y : Y) (whole : Result (List Y) Stop) → i < length xs → slice_index_or xs i x ≡ x
+    → after made (all (drop i xs)) ≡ whole → pushed ≡ made ++ y ∷ [] → f x ≡ Ok y → after pushed (all (drop (i + 1) xs)) ≡ whole
+gathered f all split xs i x made pushed y whole within here before pushed_is is =
+    ap (λ l. after l (all (drop (i + 1) xs))) pushed_is
+    ∙ sym (after_more made y (all (drop (i + 1) xs)))
+    ∙ ap (λ r. after made (r >>= λ y. all (drop (i + 1) xs) >>= λ ys. Ok (y ∷ ys))) (sym is)
+    ∙ ap (after made) (sym (split x (drop (i + 1) xs)))
+    ∙ ap (λ l. after made (all l)) (sym (left xs i x within here))
     ∙ before
 
 -- names that are met item by item

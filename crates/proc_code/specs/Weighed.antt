@@ -2,7 +2,9 @@
 use Rattle.std.specs.Prelude.{◌≡◌, Result, Ok, Err}
 use Rattle.std.specs.Borrow.{Bor}
 use Rattle.rel_base.specs.declared.value.Value.{Value}
+use Rattle.rel_base.specs.declared.value.Value.TheVariants as value
 use Rattle.proc_syntax.specs.declared.run.Stop.{Stop}
+use Rattle.proc_syntax.specs.Values.{◌>>=◌, flag_of}
 use Rattle.proc_eval.specs.declared.halt.Halt.{Halt}
 use Rattle.proc_eval.specs.declared.halt.Halt.TheVariants as halt
 use Rattle.proc_code.specs.declared.values.Worth.{Worth}
@@ -12,6 +14,10 @@ use Rattle.proc_code.specs.declared.values.Worth.TheVariants as worth
 abbrev pub weight : Worth → Value
 weight (worth.Made v) = v
 weight (worth.Lent v) = v.now
+
+-- a truth value alone
+abbrev pub truth_of : Value → Result Value Stop
+truth_of v = flag_of v >>= λ holds. Ok (value.Bool holds)
 
 -- the value that is lent
 abbrev pub lent : Result (Bor Value) Stop → Result Value Stop

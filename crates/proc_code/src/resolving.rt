@@ -32,6 +32,22 @@ fn resolve_params(
     Ok(made)
 }
 
+/// The code of a procedure whose variables are known.
+fn code_of_proc(resolver: &Resolver<'_>, procedure: &ProcDef) -> Result<ProcCode, NoMemory>
+    requires few { length resolver.now.tables.now < 2 ^ 32 }
+    requires columns { resolver.now.columns.now ≡ column_names resolver.now.tables.now }
+    requires names { resolver.now.names.now ≡ slots_of procedure.now }
+    ensures { IfOk result (λ code. code ≡ proc_of resolver.now.tables.now procedure.now) }
+{
+    let params = procedure.params.as_slice();
+    Ok(ProcCode {
+        name: procedure.name.name.copy(resolver.alloc)?,
+        slots: resolver.names.len(),
+        params: resolve_params(resolver.alloc, resolver.names, params)?,
+        body: resolve_block(resolver, procedure.body.as_slice())?,
+    })
+}
+
 /// The code of a procedure.
 fn resolve_proc(
     alloc: Global,
@@ -50,12 +66,7 @@ fn resolve_proc(
         columns,
         names: &names,
     };
-    Ok(ProcCode {
-        name: procedure.name.name.copy(alloc)?,
-        slots: names.len(),
-        params: resolve_params(alloc, &names, procedure.params.as_slice())?,
-        body: resolve_block(&resolver, procedure.body.as_slice())?,
-    })
+    code_of_proc(&resolver, procedure)
 }
 
 fn resolve_procs(
@@ -76,6 +87,25 @@ fn resolve_procs(
     Ok(procs)
 }
 
+/// The code of an application whose columns are known.
+fn code_of_app(
+    alloc: Global,
+    app: &App,
+    tables: &List<TableDef>,
+    columns: &Numbering,
+) -> Result<AppCode, NoMemory>
+    requires declared { tables.now ≡ tables_of app.now }
+    requires few { length tables.now < 2 ^ 32 }
+    requires columns { columns.now ≡ column_names tables.now }
+    ensures { IfOk result (λ code. code ≡ code_of app.now) }
+{
+    let procs = resolve_procs(alloc, tables, columns, app.procs.as_slice())?;
+    Ok(AppCode {
+        procs,
+        columns: column_places(alloc, tables.as_slice(), columns.names())?,
+    })
+}
+
 /// The code of an application, whose tables are declared and fewer than 2^32. The only refusal is want of memory.
 pub fn resolve(alloc: Global, app: &App, tables: &List<TableDef>) -> Result<AppCode, NoMemory>
     requires declared { tables.now ≡ tables_of app.now }
@@ -83,9 +113,5 @@ pub fn resolve(alloc: Global, app: &App, tables: &List<TableDef>) -> Result<AppC
     ensures { IfOk result (λ code. code ≡ code_of app.now) }
 {
     let columns = column_names(alloc, tables.as_slice())?;
-    let procs = resolve_procs(alloc, tables, &columns, app.procs.as_slice())?;
-    Ok(AppCode {
-        procs,
-        columns: column_places(alloc, tables.as_slice(), columns.names())?,
-    })
+    code_of_app(alloc, app, tables, &columns)
 }

@@ -78,6 +78,27 @@ impl Resolver<'_> {
         })
     }
 
+    /// The code of a `for`, of the code of its body.
+    fn resolve_for(
+        &self,
+        name: &Named,
+        table: &Named,
+        span: &Span<'_>,
+        body: List<Action>,
+    ) -> Result<Action, NoMemory>
+        requires { length self.now.tables.now < 2 ^ 32 }
+        ensures { IfOk result (λ made. made ≡ action.For (number_of_name self.now.names.now name.now.name) (table_number self.now.tables.now table.now.name) (column_of_table self.now.tables.now table.now.name span.now.column.now.name) (option_map (term_of self.now.columns.now self.now.names.now) span.now.low.now) (option_map (term_of self.now.columns.now self.now.names.now) span.now.high.now) body) }
+    {
+        Ok(Action::For {
+            slot: self.names.number_or_len(&name.name),
+            table: table_number(self.tables, &table.name),
+            column: column_of_table(self.tables, &table.name, &span.column.name),
+            low: resolve_end(self.alloc, self.columns, self.names, span.low)?,
+            high: resolve_end(self.alloc, self.columns, self.names, span.high)?,
+            body,
+        })
+    }
+
     /// The code of an `insert`.
     fn resolve_insert(&self, table: &Named, values: &List<Expr>) -> Result<Action, NoMemory>
         requires { length self.now.tables.now < 2 ^ 32 }
@@ -127,6 +148,27 @@ impl Resolver<'_> {
     }
 }
 
+/// The code of a column that an `update` sets.
+fn resolve_setting(
+    resolver: &Resolver<'_>,
+    table: &Name,
+    change: &Change,
+) -> Result<Setting, NoMemory>
+    requires { length resolver.now.tables.now < 2 ^ 32 }
+    ensures { IfOk result (λ setting. setting ≡ setting_of resolver.now.tables.now resolver.now.columns.now resolver.now.names.now table.now change.now) }
+{
+    let Resolver {
+        alloc,
+        tables,
+        columns,
+        names,
+    } = *resolver;
+    Ok(Setting {
+        column: column_of_table(tables, table, &change.column.name),
+        value: resolve_term(alloc, columns, names, &change.value)?,
+    })
+}
+
 /// The code of the columns that an `update` sets.
 fn resolve_settings(
     resolver: &Resolver<'_>,
@@ -138,15 +180,7 @@ fn resolve_settings(
 {
     let mut settings = List::new(resolver.alloc);
     for change in changes {
-        let setting = Setting {
-            column: column_of_table(resolver.tables, table, &change.column.name),
-            value: resolve_term(
-                resolver.alloc,
-                resolver.columns,
-                resolver.names,
-                &change.value,
-            )?,
-        };
+        let setting = resolve_setting(resolver, table, change)?;
         settings.push(setting)?;
     }
     Ok(settings)
@@ -201,7 +235,10 @@ fn resolve_stmt(resolver: &Resolver<'_>, stmt: &Stmt) -> Result<Action, NoMemory
             low,
             high,
             body,
-        } => resolve_for(resolver, name, table, &Span { column, low, high }, body),
+        } => {
+            let body = resolve_block(resolver, body.as_slice())?;
+            resolver.resolve_for(name, table, &Span { column, low, high }, body)
+        }
         Stmt::Insert { table, values } => resolver.resolve_insert(table, values),
         Stmt::Update {
             table,
@@ -211,26 +248,4 @@ fn resolve_stmt(resolver: &Resolver<'_>, stmt: &Stmt) -> Result<Action, NoMemory
         Stmt::Delete { table, key } => resolver.resolve_delete(table, key),
         Stmt::Fail { text } => resolver.resolve_fail(text),
     }
-}
-
-/// The code of a `for`.
-#[cycle(resolve)]
-fn resolve_for(
-    resolver: &Resolver<'_>,
-    name: &Named,
-    table: &Named,
-    span: &Span<'_>,
-    body: &List<Stmt>,
-) -> Result<Action, NoMemory>
-    requires { length resolver.now.tables.now < 2 ^ 32 }
-    ensures { IfOk result (λ made. made ≡ action.For (number_of_name resolver.now.names.now name.now.name) (table_number resolver.now.tables.now table.now.name) (column_of_table resolver.now.tables.now table.now.name span.now.column.now.name) (option_map (term_of resolver.now.columns.now resolver.now.names.now) span.now.low.now) (option_map (term_of resolver.now.columns.now resolver.now.names.now) span.now.high.now) (map (action_of resolver.now.tables.now resolver.now.columns.now resolver.now.names.now) body.now)) }
-{
-    Ok(Action::For {
-        slot: resolver.names.number_or_len(&name.name),
-        table: table_number(resolver.tables, &table.name),
-        column: column_of_table(resolver.tables, &table.name, &span.column.name),
-        low: resolve_end(resolver.alloc, resolver.columns, resolver.names, span.low)?,
-        high: resolve_end(resolver.alloc, resolver.columns, resolver.names, span.high)?,
-        body: resolve_block(resolver, body.as_slice())?,
-    })
 }

@@ -10,7 +10,22 @@ use proc_syntax::Expr;
 use rel_base::{Boxed, List, NoMemory, Twin};
 use std::alloc::Global;
 
+/// The code of an expression within another.
+#[cycle(resolve_term)]
+fn resolve_inner(
+    alloc: Global,
+    columns: &Numbering,
+    names: &Numbering,
+    expr: &Expr,
+) -> Result<Boxed<Term>, NoMemory>
+    ensures { IfOk result (λ term. term ≡ term_of columns.now names.now expr.now) }
+{
+    let term = resolve_term(alloc, columns, names, expr)?;
+    Boxed::new(alloc, term)
+}
+
 /// The code of an expression, where columns and variables have their numbers.
+#[cycle(resolve_term)]
 pub fn resolve_term(
     alloc: Global,
     columns: &Numbering,
@@ -27,23 +42,17 @@ pub fn resolve_term(
             column: columns.number_or_len(&column.name),
         }),
         Expr::Not { inner, .. } => {
-            let inner = resolve_term(alloc, columns, names, inner.get())?;
-            Ok(Term::Not(Boxed::new(alloc, inner)?))
+            Ok(Term::Not(resolve_inner(alloc, columns, names, inner.get())?))
         }
         Expr::Neg { inner, .. } => {
-            let inner = resolve_term(alloc, columns, names, inner.get())?;
-            Ok(Term::Neg(Boxed::new(alloc, inner)?))
+            Ok(Term::Neg(resolve_inner(alloc, columns, names, inner.get())?))
         }
         Expr::Paren { inner, .. } => resolve_term(alloc, columns, names, inner.get()),
-        Expr::Two { op, left, right } => {
-            let left = resolve_term(alloc, columns, names, left.get())?;
-            let right = resolve_term(alloc, columns, names, right.get())?;
-            Ok(Term::Two {
-                op: *op,
-                left: Boxed::new(alloc, left)?,
-                right: Boxed::new(alloc, right)?,
-            })
-        }
+        Expr::Two { op, left, right } => Ok(Term::Two {
+            op: *op,
+            left: resolve_inner(alloc, columns, names, left.get())?,
+            right: resolve_inner(alloc, columns, names, right.get())?,
+        }),
     }
 }
 

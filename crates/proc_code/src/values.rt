@@ -3,10 +3,10 @@
 ghost use Rattle.std.specs.Prelude.{◌≡◌, Ok};
 ghost use Rattle.std.specs.Option.{option_and_then, option_copied};
 ghost use Rattle.proc_syntax.specs.Scope.{plain_of};
-ghost use Rattle.proc_syntax.specs.Values.{apply, found};
+ghost use Rattle.proc_syntax.specs.Values.{apply, found, negation_of, not_of, two_of};
 ghost use Rattle.proc_eval.specs.Gives.{Gives};
 ghost use Rattle.proc_code.specs.Coded.{in_slot, column_at, cell_of, worth_of, worths_of, end_worth, set_worth, sets_worth};
-ghost use Rattle.proc_code.specs.Weighed.{Weighs, lent, weight};
+ghost use Rattle.proc_code.specs.Weighed.{Weighs, lent, truth_of, weight};
 
 use crate::tree::{Setting, Term};
 use proc_eval::Halt;
@@ -106,6 +106,35 @@ fn field_value<'a>(
     }
 }
 
+/// The truth value that a value is.
+fn truth_of(worth: Worth<'_>) -> Result<Value, Halt>
+    ensures { Gives result (truth_of (weight worth.entry)) }
+{
+    let holds = flag(worth.get())?;
+    Ok(Value::Bool(holds))
+}
+
+/// `not` of a value.
+fn not_of<'a>(worth: Worth<'_>) -> Result<Worth<'a>, Halt>
+    ensures { Weighs result (not_of (weight worth.entry)) }
+{
+    Ok(Worth::Made(negated(worth.get())?))
+}
+
+/// `-` of a value.
+fn negation_of<'a>(worth: Worth<'_>) -> Result<Worth<'a>, Halt>
+    ensures { Weighs result (negation_of (weight worth.entry)) }
+{
+    Ok(Worth::Made(negation(worth.get())?))
+}
+
+/// What an operator gives of two values.
+fn two_of(alloc: Global, op: Op, left: &Value, right: Worth<'_>) -> Result<Value, Halt>
+    ensures { Gives result (two_of op left.now (weight right.entry)) }
+{
+    two(alloc, op, left, right.get())
+}
+
 /// What an operator gives of a value and of an expression, which has its turn only where the value does not decide.
 #[cycle(weigh)]
 fn weigh_right(
@@ -123,23 +152,31 @@ fn weigh_right(
             if flag(left)? {
                 return Ok(Value::Bool(true));
             }
-            let right = weigh(alloc, columns, slots, right)?;
-            let holds = flag(right.get())?;
-            Ok(Value::Bool(holds))
+            truth_of(weigh(alloc, columns, slots, right)?)
         }
         Op::And => {
             if !flag(left)? {
                 return Ok(Value::Bool(false));
             }
-            let right = weigh(alloc, columns, slots, right)?;
-            let holds = flag(right.get())?;
-            Ok(Value::Bool(holds))
+            truth_of(weigh(alloc, columns, slots, right)?)
         }
-        _ => {
-            let right = weigh(alloc, columns, slots, right)?;
-            two(alloc, op, left, right.get())
-        }
+        _ => two_of(alloc, op, left, weigh(alloc, columns, slots, right)?),
     }
+}
+
+/// What an operator gives of a value, which is let go, and of an expression.
+#[cycle(weigh)]
+fn weigh_two(
+    alloc: Global,
+    columns: &List<List<Option<usize>>>,
+    slots: &[Option<Binding>],
+    op: Op,
+    left: Worth<'_>,
+    right: &Term,
+) -> Result<Value, Halt>
+    ensures { Gives result (apply op (weight left.entry) (worth_of columns.now right.now slots.now)) }
+{
+    weigh_right(alloc, columns, slots, op, left.get(), right)
 }
 
 /// The value of an expression, where the slots say what the variables stand for. A value that stands in the expression, in a variable
@@ -155,25 +192,15 @@ pub fn weigh<'a>(
 {
     match term {
         Term::Value(value) => Ok(Worth::Lent(value)),
-        Term::Var(slot) => {
-            let value = plain_value(slots, *slot)?;
-            Ok(Worth::Lent(value))
-        }
+        Term::Var(slot) => Ok(Worth::Lent(plain_value(slots, *slot)?)),
         Term::Field { slot, column } => {
-            let value = field_value(columns, slots, *slot, *column)?;
-            Ok(Worth::Lent(value))
+            Ok(Worth::Lent(field_value(columns, slots, *slot, *column)?))
         }
-        Term::Not(inner) => {
-            let value = weigh(alloc, columns, slots, inner.get())?;
-            Ok(Worth::Made(negated(value.get())?))
-        }
-        Term::Neg(inner) => {
-            let value = weigh(alloc, columns, slots, inner.get())?;
-            Ok(Worth::Made(negation(value.get())?))
-        }
+        Term::Not(inner) => not_of(weigh(alloc, columns, slots, inner.get())?),
+        Term::Neg(inner) => negation_of(weigh(alloc, columns, slots, inner.get())?),
         Term::Two { op, left, right } => {
             let left = weigh(alloc, columns, slots, left.get())?;
-            let value = weigh_right(alloc, columns, slots, *op, left.get(), right.get())?;
+            let value = weigh_two(alloc, columns, slots, *op, left, right.get())?;
             Ok(Worth::Made(value))
         }
     }

@@ -14,12 +14,13 @@ use Rattle.proc_syntax.specs.declared.tree.Op.{Op}
 use Rattle.proc_syntax.specs.declared.tree.Expr.{Expr}
 use Rattle.proc_syntax.specs.declared.tree.Expr.TheVariants as expr
 use Rattle.proc_syntax.specs.declared.tree.Stmt.{Stmt}
+use Rattle.proc_syntax.specs.declared.tree.Stmt.TheVariants as stmt
 use Rattle.proc_parse.specs.declared.statements.Head.{Head}
 use Rattle.proc_parse.specs.declared.statements.Head.TheVariants as head
-use Rattle.proc_parse.specs.Phrases.{the_word, the_sign, in_parens, named, kind_rule, column, columns, names}
+use Rattle.proc_parse.specs.Phrases.{the_word, the_sign, ended, in_parens, named, named_behind, kind_rule, column, columns, names}
 use Rattle.proc_parse.specs.Expressions.{op_before, if_op, op_at, with_op, chain_from, chain_of, comparison_op, or_op, and_op, sum_op, term_op, literal, is_name, name_or_field, line_at, Inner, inner, deeper, atom_of, unary_of, term_of, sum_of, comparison_of, negation_of, conjunction_of, expression_of, expression}
-use Rattle.proc_parse.specs.Statements.{keys, let_statement, assignment, some_block, if_statement, get_statement, span_end, for_statement, insert_statement, change, update_statement, delete_statement, fail_statement, text_rule, head_of, statement_by, statement_of, no_close, block_at, block}
-use Rattle.proc_parse.specs.Grammar.{table, parameters, procedure, is_end, application}
+use Rattle.proc_parse.specs.Statements.{keys, keyed, new_value, let_statement, assignment, some_block, branches, if_statement, two_blocks, get_statement, span_end, span, for_statement, insert_statement, change, changes, update_statement, delete_statement, fail_statement, text_rule, head_of, statement_by, statement_of, no_close, block_at, block}
+use Rattle.proc_parse.specs.Grammar.{table_end, table, parameters, procedure, is_end, application}
 use Rattle.proc_parse.specs.declared.lexer.Piece.{Piece}
 use Rattle.proc_parse.specs.declared.lexer.Piece.TheVariants as piece
 use Rattle.proc_parse.specs.declared.lexer.Position.{Position}
@@ -162,6 +163,9 @@ halts_parens phrase l = halts_sign sign.Open _ (halts_then phrase _ l (λ x. hal
 pub halts_named : Halts named
 halts_named = halts_one _ (λ line col. refl) (λ line col. refl)
 
+halts_named_behind : (w : Word) → Halts (named_behind w)
+halts_named_behind w = halts_word w named halts_named
+
 pub halts_column : Halts column
 halts_column = halts_then named _ halts_named (λ name. halts_then kind_rule _ ((halts_one _ (λ line col. refl) (λ line col. refl))) (λ kind. halts_done _))
 
@@ -221,43 +225,63 @@ halts_expression = halts_whole (inner 16) (halts_inner 16)
 halts_keys : Halts keys
 halts_keys = (halts_parens (list_of expression) (halts_list expression halts_expression))
 
+halts_keyed : (w : Word) → Halts (keyed w)
+halts_keyed w = halts_then (named_behind w) _ (halts_named_behind w) (λ table. halts_word word.Key _ (halts_then keys _ halts_keys (λ key. halts_done (table, key))))
+
+halts_new_value : Halts new_value
+halts_new_value = halts_sign sign.Equal expression halts_expression
+
+halts_ended : (statement : Stmt) → Halts (ended sign.Semicolon statement)
+halts_ended statement = halts_sign sign.Semicolon _ (halts_done statement)
+
 halts_let : Halts let_statement
-halts_let = halts_word word.Let _ (halts_then named _ halts_named (λ name. halts_sign sign.Equal _ (halts_then expression _ halts_expression (λ e. halts_sign sign.Semicolon _ (halts_done _)))))
+halts_let = halts_then (named_behind word.Let) _ (halts_named_behind word.Let) (λ name. halts_then new_value _ halts_new_value (λ e. halts_ended (stmt.Let name e)))
 
 halts_assignment : Halts assignment
-halts_assignment = halts_then named _ halts_named (λ name. halts_sign sign.Equal _ (halts_then expression _ halts_expression (λ e. halts_sign sign.Semicolon _ (halts_done _))))
+halts_assignment = halts_then named _ halts_named (λ name. halts_then new_value _ halts_new_value (λ e. halts_ended (stmt.Assign name e)))
+
+halts_branches : (b : Reader (List Stmt)) → Halts b → Halts (branches b)
+halts_branches b kb = halts_then b _ kb (λ body. halts_then (behind (is_word word.Else) (some_block b) (done None)) _
+    (halts_behind (is_word word.Else) refl refl (some_block b) _ (halts_then b _ kb (λ body. halts_done _)) (halts_done None)) (λ other. halts_done (body, other)))
 
 halts_if : (b : Reader (List Stmt)) → Halts b → Halts (if_statement b)
-halts_if b kb = halts_word word.If _ (halts_then expression _ halts_expression (λ test. halts_then b _ kb (λ body.
-    halts_then (behind (is_word word.Else) (some_block b) (done None)) _ (halts_behind (is_word word.Else) refl refl (some_block b) _ (halts_then b _ kb (λ body. halts_done _)) (halts_done None)) (λ other. halts_done _))))
+halts_if b kb = halts_word word.If _ (halts_then expression _ halts_expression (λ test. halts_then (branches b) _ (halts_branches b kb) (λ both. halts_done _)))
+
+halts_two : (b : Reader (List Stmt)) → Halts b → Halts (two_blocks b)
+halts_two b kb = halts_then b _ kb (λ found. halts_word word.Else _ (halts_then b _ kb (λ absent. halts_done (found, absent))))
 
 halts_get : (b : Reader (List Stmt)) → Halts b → Halts (get_statement b)
-halts_get b kb = halts_word word.Get _ (halts_then named _ halts_named (λ name. halts_word word.From _ (halts_then named _ halts_named (λ table.
-    halts_word word.Key _ (halts_then keys _ halts_keys (λ key. halts_then b _ kb (λ found. halts_word word.Else _ (halts_then b _ kb (λ absent. halts_done _)))))))))
+halts_get b kb = halts_then (named_behind word.Get) _ (halts_named_behind word.Get) (λ name. halts_then (keyed word.From) _ (halts_keyed word.From)
+    (λ row. halts_then (two_blocks b) _ (halts_two b kb) (λ both. halts_done _)))
 
-halts_span : (w : Word) → Halts (span_end w)
-halts_span w = halts_behind (is_word w) refl refl _ _ (halts_then expression _ halts_expression (λ e. halts_done _)) (halts_done None)
+halts_span_end : (w : Word) → Halts (span_end w)
+halts_span_end w = halts_behind (is_word w) refl refl _ _ (halts_then expression _ halts_expression (λ e. halts_done _)) (halts_done None)
+
+halts_span : Halts span
+halts_span = halts_word word.Span _ (halts_then (named_behind word.On) _ (halts_named_behind word.On) (λ column. halts_then (span_end word.From) _ (halts_span_end word.From) (λ low.
+    halts_then (span_end word.To) _ (halts_span_end word.To) (λ high. halts_done (column, low, high)))))
 
 halts_for : (b : Reader (List Stmt)) → Halts b → Halts (for_statement b)
-halts_for b kb = halts_word word.For _ (halts_then named _ halts_named (λ name. halts_word word.In _ (halts_then named _ halts_named (λ table.
-    halts_word word.Span _ (halts_word word.On _ (halts_then named _ halts_named (λ column. halts_then (span_end word.From) _ (halts_span word.From) (λ low.
-    halts_then (span_end word.To) _ (halts_span word.To) (λ high. halts_then b _ kb (λ body. halts_done _))))))))))
+halts_for b kb = halts_then (named_behind word.For) _ (halts_named_behind word.For) (λ name. halts_then (named_behind word.In) _ (halts_named_behind word.In)
+    (λ table. halts_then span _ halts_span (λ span. halts_then b _ kb (λ body. halts_done _))))
 
 halts_insert : Halts insert_statement
-halts_insert = halts_word word.Insert _ (halts_then named _ halts_named (λ table. halts_then keys _ halts_keys (λ values. halts_sign sign.Semicolon _ (halts_done _))))
+halts_insert = halts_then (named_behind word.Insert) _ (halts_named_behind word.Insert) (λ table. halts_then keys _ halts_keys (λ values. halts_ended (stmt.Insert table values)))
 
 pub halts_change : Halts change
-halts_change = halts_then named _ halts_named (λ column. halts_sign sign.Equal _ (halts_then expression _ halts_expression (λ e. halts_done _)))
+halts_change = halts_then named _ halts_named (λ column. halts_then new_value _ halts_new_value (λ e. halts_done _))
+
+halts_changes : Halts changes
+halts_changes = halts_word word.Set (list_of change) (halts_list change halts_change)
 
 halts_update : Halts update_statement
-halts_update = halts_word word.Update _ (halts_then named _ halts_named (λ table. halts_word word.Key _ (halts_then keys _ halts_keys (λ key.
-    halts_word word.Set _ (halts_then (list_of change) _ ((halts_list change halts_change)) (λ changes. halts_sign sign.Semicolon _ (halts_done _)))))))
+halts_update = halts_then (keyed word.Update) _ (halts_keyed word.Update) (λ row. halts_then changes _ halts_changes (λ changes. halts_ended (stmt.Update row.0 row.1 changes)))
 
 halts_delete : Halts delete_statement
-halts_delete = halts_word word.Delete _ (halts_then named _ halts_named (λ table. halts_word word.Key _ (halts_then keys _ halts_keys (λ key. halts_sign sign.Semicolon _ (halts_done _)))))
+halts_delete = halts_then (keyed word.Delete) _ (halts_keyed word.Delete) (λ row. halts_ended (stmt.Delete row.0 row.1))
 
 halts_fail : Halts fail_statement
-halts_fail = halts_word word.Fail _ (halts_then text_rule _ ((halts_one _ (λ line col. refl) (λ line col. refl))) (λ text. halts_sign sign.Semicolon _ (halts_done _)))
+halts_fail = halts_word word.Fail _ (halts_then text_rule _ ((halts_one _ (λ line col. refl) (λ line col. refl))) (λ text. halts_ended (stmt.Fail text)))
 
 halts_by : (b : Reader (List Stmt)) → Halts b → (h : Head) → Halts (statement_by b h)
 halts_by b kb head.Let = halts_let
@@ -280,20 +304,22 @@ halts_block (suc more) = halts_sign sign.OpenBrace _ (halts_then (many_of no_clo
 
 -- ---- declarations
 
+halts_table_end : Halts table_end
+halts_table_end = halts_word word.Key _ (halts_then names _ halts_names
+    (λ key. halts_then (behind (is_word word.Index) names (done [])) _ (halts_behind (is_word word.Index) refl refl names _ halts_names (halts_done []))
+    (λ index. halts_sign sign.Semicolon _ (halts_done (key, index)))))
+
 pub halts_table : Halts table
-halts_table = halts_word word.Table _ (halts_then named _ (halts_named)
-    (λ name. halts_then columns _ (halts_columns)
-    (λ columns. halts_word word.Key _ (halts_then names _ (halts_names)
-    (λ key. halts_then (behind (is_word word.Index) names (done [])) _ (halts_behind (is_word word.Index) refl refl names _ (halts_names) (halts_done []))
-    (λ index. halts_sign sign.Semicolon _ (halts_done _)))))))
+halts_table = halts_then (named_behind word.Table) _ (halts_named_behind word.Table)
+    (λ name. halts_then columns _ halts_columns (λ columns. halts_then table_end _ halts_table_end (λ end. halts_done _)))
 
 pub halts_parameters : Halts parameters
 halts_parameters = halts_sign sign.Open _ (halts_behind (is_sign sign.Close) refl refl _ _ (halts_done [])
     (halts_then (list_of column) _ ((halts_list column halts_column)) (λ params. halts_sign sign.Close _ (halts_done params))))
 
 pub halts_procedure : Halts procedure
-halts_procedure = halts_word word.Proc _ (halts_then named _ halts_named
-    (λ name. halts_then parameters _ halts_parameters (λ params. halts_then block _ (halts_block 16) (λ body. halts_done _))))
+halts_procedure = halts_then (named_behind word.Proc) _ (halts_named_behind word.Proc)
+    (λ name. halts_then parameters _ halts_parameters (λ params. halts_then block _ (halts_block 16) (λ body. halts_done _)))
 
 -- ---- a whole text
 

@@ -12,12 +12,13 @@ use Rattle.proc_parse.proofs.Local.{IsLocal, local_done, local_refuse, local_the
 use Rattle.proc_syntax.specs.declared.tree.Expr.{Expr}
 use Rattle.proc_syntax.specs.declared.tree.Expr.TheVariants as expr
 use Rattle.proc_syntax.specs.declared.tree.Stmt.{Stmt}
+use Rattle.proc_syntax.specs.declared.tree.Stmt.TheVariants as stmt
 use Rattle.proc_parse.specs.declared.statements.Head.{Head}
 use Rattle.proc_parse.specs.declared.statements.Head.TheVariants as head
-use Rattle.proc_parse.specs.Phrases.{the_word, the_sign, in_parens, named, kind_rule, column, columns, names}
+use Rattle.proc_parse.specs.Phrases.{the_word, the_sign, ended, in_parens, named, named_behind, kind_rule, column, columns, names}
 use Rattle.proc_parse.specs.Expressions.{comparison_op, or_op, and_op, sum_op, term_op, literal, is_name, name_or_field, line_at, Inner, inner, deeper, atom_of, unary_of, term_of, sum_of, comparison_of, negation_of, conjunction_of, expression_of, expression}
-use Rattle.proc_parse.specs.Statements.{keys, let_statement, assignment, some_block, if_statement, get_statement, span_end, for_statement, insert_statement, change, update_statement, delete_statement, fail_statement, text_rule, head_of, statement_by, statement_of, no_close, block_at, block}
-use Rattle.proc_parse.specs.Grammar.{table, parameters, procedure, is_end, application}
+use Rattle.proc_parse.specs.Statements.{keys, keyed, new_value, let_statement, assignment, some_block, branches, if_statement, two_blocks, get_statement, span_end, span, for_statement, insert_statement, change, changes, update_statement, delete_statement, fail_statement, text_rule, head_of, statement_by, statement_of, no_close, block_at, block}
+use Rattle.proc_parse.specs.Grammar.{table_end, table, parameters, procedure, is_end, application}
 
 local_word : {A : Type 0} → (w : Word) (next : Reader A) → IsLocal next → IsLocal (the_word w >> next)
 local_word w next l = local_then (the_word w) (λ _. next) (local_expect (is_word w)) (λ _. l)
@@ -30,6 +31,9 @@ local_parens phrase l = local_sign sign.Open _ (local_then phrase _ l (λ x. loc
 
 pub local_named : IsLocal named
 local_named = local_one _
+
+local_named_behind : (w : Word) → IsLocal (named_behind w)
+local_named_behind w = local_word w named local_named
 
 pub local_column : IsLocal column
 local_column = local_then named _ local_named (λ name. local_then kind_rule _ ((local_one _)) (λ kind. local_done _))
@@ -90,43 +94,63 @@ local_expression = local_whole (inner 16) (local_inner 16)
 local_keys : IsLocal keys
 local_keys = (local_parens (list_of expression) (local_list expression shortens_expression local_expression))
 
+local_keyed : (w : Word) → IsLocal (keyed w)
+local_keyed w = local_then (named_behind w) _ (local_named_behind w) (λ table. local_word word.Key _ (local_then keys _ local_keys (λ key. local_done (table, key))))
+
+local_new_value : IsLocal new_value
+local_new_value = local_sign sign.Equal expression local_expression
+
+local_ended : (statement : Stmt) → IsLocal (ended sign.Semicolon statement)
+local_ended statement = local_sign sign.Semicolon _ (local_done statement)
+
 local_let : IsLocal let_statement
-local_let = local_word word.Let _ (local_then named _ local_named (λ name. local_sign sign.Equal _ (local_then expression _ local_expression (λ e. local_sign sign.Semicolon _ (local_done _)))))
+local_let = local_then (named_behind word.Let) _ (local_named_behind word.Let) (λ name. local_then new_value _ local_new_value (λ e. local_ended (stmt.Let name e)))
 
 local_assignment : IsLocal assignment
-local_assignment = local_then named _ local_named (λ name. local_sign sign.Equal _ (local_then expression _ local_expression (λ e. local_sign sign.Semicolon _ (local_done _))))
+local_assignment = local_then named _ local_named (λ name. local_then new_value _ local_new_value (λ e. local_ended (stmt.Assign name e)))
+
+local_branches : (b : Reader (List Stmt)) → IsLocal b → IsLocal (branches b)
+local_branches b kb = local_then b _ kb (λ body. local_then (behind (is_word word.Else) (some_block b) (done None)) _
+    (local_behind (is_word word.Else) (some_block b) _ (local_then b _ kb (λ body. local_done _)) (local_done None)) (λ other. local_done (body, other)))
 
 local_if : (b : Reader (List Stmt)) → IsLocal b → IsLocal (if_statement b)
-local_if b kb = local_word word.If _ (local_then expression _ local_expression (λ test. local_then b _ kb (λ body.
-    local_then (behind (is_word word.Else) (some_block b) (done None)) _ (local_behind (is_word word.Else) (some_block b) _ (local_then b _ kb (λ body. local_done _)) (local_done None)) (λ other. local_done _))))
+local_if b kb = local_word word.If _ (local_then expression _ local_expression (λ test. local_then (branches b) _ (local_branches b kb) (λ both. local_done _)))
+
+local_two : (b : Reader (List Stmt)) → IsLocal b → IsLocal (two_blocks b)
+local_two b kb = local_then b _ kb (λ found. local_word word.Else _ (local_then b _ kb (λ absent. local_done (found, absent))))
 
 local_get : (b : Reader (List Stmt)) → IsLocal b → IsLocal (get_statement b)
-local_get b kb = local_word word.Get _ (local_then named _ local_named (λ name. local_word word.From _ (local_then named _ local_named (λ table.
-    local_word word.Key _ (local_then keys _ local_keys (λ key. local_then b _ kb (λ found. local_word word.Else _ (local_then b _ kb (λ absent. local_done _)))))))))
+local_get b kb = local_then (named_behind word.Get) _ (local_named_behind word.Get) (λ name. local_then (keyed word.From) _ (local_keyed word.From)
+    (λ row. local_then (two_blocks b) _ (local_two b kb) (λ both. local_done _)))
 
-local_span : (w : Word) → IsLocal (span_end w)
-local_span w = local_behind (is_word w) _ _ (local_then expression _ local_expression (λ e. local_done _)) (local_done None)
+local_span_end : (w : Word) → IsLocal (span_end w)
+local_span_end w = local_behind (is_word w) _ _ (local_then expression _ local_expression (λ e. local_done _)) (local_done None)
+
+local_span : IsLocal span
+local_span = local_word word.Span _ (local_then (named_behind word.On) _ (local_named_behind word.On) (λ column. local_then (span_end word.From) _ (local_span_end word.From) (λ low.
+    local_then (span_end word.To) _ (local_span_end word.To) (λ high. local_done (column, low, high)))))
 
 local_for : (b : Reader (List Stmt)) → IsLocal b → IsLocal (for_statement b)
-local_for b kb = local_word word.For _ (local_then named _ local_named (λ name. local_word word.In _ (local_then named _ local_named (λ table.
-    local_word word.Span _ (local_word word.On _ (local_then named _ local_named (λ column. local_then (span_end word.From) _ (local_span word.From) (λ low.
-    local_then (span_end word.To) _ (local_span word.To) (λ high. local_then b _ kb (λ body. local_done _))))))))))
+local_for b kb = local_then (named_behind word.For) _ (local_named_behind word.For) (λ name. local_then (named_behind word.In) _ (local_named_behind word.In)
+    (λ table. local_then span _ local_span (λ span. local_then b _ kb (λ body. local_done _))))
 
 local_insert : IsLocal insert_statement
-local_insert = local_word word.Insert _ (local_then named _ local_named (λ table. local_then keys _ local_keys (λ values. local_sign sign.Semicolon _ (local_done _))))
+local_insert = local_then (named_behind word.Insert) _ (local_named_behind word.Insert) (λ table. local_then keys _ local_keys (λ values. local_ended (stmt.Insert table values)))
 
 pub local_change : IsLocal change
-local_change = local_then named _ local_named (λ column. local_sign sign.Equal _ (local_then expression _ local_expression (λ e. local_done _)))
+local_change = local_then named _ local_named (λ column. local_then new_value _ local_new_value (λ e. local_done _))
+
+local_changes : IsLocal changes
+local_changes = local_word word.Set (list_of change) (local_list change shortens_change local_change)
 
 local_update : IsLocal update_statement
-local_update = local_word word.Update _ (local_then named _ local_named (λ table. local_word word.Key _ (local_then keys _ local_keys (λ key.
-    local_word word.Set _ (local_then (list_of change) _ ((local_list change shortens_change local_change)) (λ changes. local_sign sign.Semicolon _ (local_done _)))))))
+local_update = local_then (keyed word.Update) _ (local_keyed word.Update) (λ row. local_then changes _ local_changes (λ changes. local_ended (stmt.Update row.0 row.1 changes)))
 
 local_delete : IsLocal delete_statement
-local_delete = local_word word.Delete _ (local_then named _ local_named (λ table. local_word word.Key _ (local_then keys _ local_keys (λ key. local_sign sign.Semicolon _ (local_done _)))))
+local_delete = local_then (keyed word.Delete) _ (local_keyed word.Delete) (λ row. local_ended (stmt.Delete row.0 row.1))
 
 local_fail : IsLocal fail_statement
-local_fail = local_word word.Fail _ (local_then text_rule _ ((local_one _)) (λ text. local_sign sign.Semicolon _ (local_done _)))
+local_fail = local_word word.Fail _ (local_then text_rule _ ((local_one _)) (λ text. local_ended (stmt.Fail text)))
 
 local_by : (b : Reader (List Stmt)) → IsLocal b → (h : Head) → IsLocal (statement_by b h)
 local_by b kb head.Let = local_let
@@ -149,20 +173,22 @@ local_block (suc more) = local_sign sign.OpenBrace _ (local_then (many_of no_clo
 
 -- ---- declarations
 
+local_table_end : IsLocal table_end
+local_table_end = local_word word.Key _ (local_then names _ local_names
+    (λ key. local_then (behind (is_word word.Index) names (done [])) _ (local_behind (is_word word.Index) names _ local_names (local_done []))
+    (λ index. local_sign sign.Semicolon _ (local_done (key, index)))))
+
 pub local_table : IsLocal table
-local_table = local_word word.Table _ (local_then named _ (local_named)
-    (λ name. local_then columns _ (local_columns)
-    (λ columns. local_word word.Key _ (local_then names _ (local_names)
-    (λ key. local_then (behind (is_word word.Index) names (done [])) _ (local_behind _ names _ (local_names) (local_done []))
-    (λ index. local_sign sign.Semicolon _ (local_done _)))))))
+local_table = local_then (named_behind word.Table) _ (local_named_behind word.Table)
+    (λ name. local_then columns _ local_columns (λ columns. local_then table_end _ local_table_end (λ end. local_done _)))
 
 pub local_parameters : IsLocal parameters
 local_parameters = local_sign sign.Open _ (local_behind (is_sign sign.Close) _ _ (local_done [])
     (local_then (list_of column) _ ((local_list column shortens_column local_column)) (λ params. local_sign sign.Close _ (local_done params))))
 
 pub local_procedure : IsLocal procedure
-local_procedure = local_word word.Proc _ (local_then named _ local_named
-    (λ name. local_then parameters _ local_parameters (λ params. local_then block _ (local_block 16) (λ body. local_done _))))
+local_procedure = local_then (named_behind word.Proc) _ (local_named_behind word.Proc)
+    (λ name. local_then parameters _ local_parameters (λ params. local_then block _ (local_block 16) (λ body. local_done _)))
 
 local_end : {A : Type 0} → (next : Reader A) → IsLocal next → IsLocal (expect is_end >> next)
 local_end next l = local_then (expect is_end) (λ _. next) (local_expect is_end) (λ _. l)

@@ -22,10 +22,10 @@ use Rattle.proc_parse.specs.declared.statements.Head.TheVariants as head
 use Rattle.proc_parse.specs.Words.{is_word, is_sign}
 use Rattle.proc_parse.specs.Reading.{Reader, ◌>>=◌, ◌>>◌, done, refuse, behind, before, Shortens}
 use Rattle.proc_parse.specs.Lists.{list_of, many_of}
-use Rattle.proc_parse.specs.Phrases.{the_word, the_sign, in_parens, named, column, columns, names}
+use Rattle.proc_parse.specs.Phrases.{the_word, the_sign, ended, in_parens, named, named_behind, column, columns, names}
 use Rattle.proc_parse.specs.Expressions.{comparison_op, or_op, and_op, sum_op, term_op, literal, is_name, field_of, name_or_field, Inner, inner, deeper, atom_of, unary_of, term_of, sum_of, comparison_of, negation_of, conjunction_of, expression_of, expression}
-use Rattle.proc_parse.specs.Statements.{keys, let_statement, assignment, some_block, if_statement, get_statement, some_expression, span_end, for_statement, insert_statement, change, update_statement, delete_statement, fail_statement, head_of, statement_by, statement_of, no_close, block_at}
-use Rattle.proc_parse.specs.Grammar.{table, more_parameters, parameters, procedure_of, procedure}
+use Rattle.proc_parse.specs.Statements.{keys, keyed, new_value, let_statement, assignment, some_block, branches, if_statement, two_blocks, get_statement, some_expression, span_end, span, for_statement, insert_statement, change, changes, update_statement, delete_statement, fail_statement, head_of, statement_by, statement_of, no_close, block_at}
+use Rattle.proc_parse.specs.Grammar.{table_end, table, more_parameters, parameters, procedure_of, procedure}
 use Rattle.proc_parse.specs.Shorter.{ShortInner, short_inner, shortens_field, shortens_atom, shortens_comparison, shortens_one, shortens_before, shortens_sign, shortens_then, shortens_list, shortens_named, shortens_column, shortens_expression, shortens_change, shortens_statement, keeps_done, keeps_sign, keeps_block}
 use Rattle.proc_parse.proofs.Viable.{Viable, Whole, any, viable_refuse, whole_done, whole_then, whole_before, whole_maybe, whole_same, whole_any}
 use Rattle.proc_parse.proofs.ViableForms.{whole_one, whole_expect, whole_behind, whole_ahead, never_empty, viable_first, whole_op, whole_chain, whole_list, whole_many}
@@ -100,6 +100,9 @@ whole_parens phrase t h = whole_sign sign.Open
 
 whole_named : Whole named named any (Some name_token)
 whole_named = whole_one _ name_token some_name refl
+
+whole_named_behind : (w : Word) → Whole (named_behind w) (named_behind w) any (Some (word_token w))
+whole_named_behind w = whole_word w whole_named
 
 whole_column : Whole column column any (Some name_token)
 whole_column = whole_then whole_named (λ name. whole_then (whole_one _ (word_token word.Int) kind.Int refl) (λ k. whole_done any (record { name = name; kind = k })))
@@ -195,13 +198,20 @@ whole_expression = whole_whole (inner 16) (short_inner 16) (viable_inner 16)
 whole_keys : Whole keys keys any (Some (sign_token sign.Open))
 whole_keys = whole_parens (list_of expression) zero_token (whole_list expression shortens_expression closes no_comma zero_token whole_expression)
 
+whole_keyed : (w : Word) → Whole (keyed w) (keyed w) any (Some (word_token w))
+whole_keyed w = whole_then (whole_named_behind w) (λ table. whole_word word.Key (whole_then whole_keys (λ key. whole_done any (table, key))))
+
+whole_new_value : Whole new_value new_value closes (Some (sign_token sign.Equal))
+whole_new_value = whole_sign sign.Equal whole_expression
+
+whole_ended : (statement : Stmt) → Whole (ended sign.Semicolon statement) (ended sign.Semicolon statement) closes (Some (sign_token sign.Semicolon))
+whole_ended statement = whole_sign sign.Semicolon (whole_done closes statement)
+
 whole_let : Viable let_statement let_statement closes
-whole_let = viable_of (whole_word word.Let (whole_then whole_named (λ name. whole_sign sign.Equal (whole_same whole_expression
-    (λ e. whole_sign sign.Semicolon (whole_done closes (stmt.Let name e))) refl))))
+whole_let = viable_of (whole_then (whole_named_behind word.Let) (λ name. whole_same whole_new_value (λ e. whole_ended (stmt.Let name e)) refl))
 
 whole_assignment : Viable assignment assignment closes
-whole_assignment = viable_of (whole_then whole_named (λ name. whole_sign sign.Equal (whole_same whole_expression
-    (λ e. whole_sign sign.Semicolon (whole_done closes (stmt.Assign name e))) refl)))
+whole_assignment = viable_of (whole_then whole_named (λ name. whole_same whole_new_value (λ e. whole_ended (stmt.Assign name e)) refl))
 
 abbrev braces : Option Token
 braces = Some (sign_token sign.OpenBrace)
@@ -211,40 +221,49 @@ whole_else : (b c : Reader (List Stmt)) → Whole b c any braces
 whole_else b c w = whole_behind (is_word word.Else) (some_block b) (done None) (some_block c) (done None) closes
     (whole_then w (λ body. whole_done closes (Some body))) (whole_done closes None) (λ ts x e. no_test (is_word word.Else) refl refl refl refl) (λ s k. no_test (is_word word.Else) refl refl refl refl s.lexeme k)
 
+whole_branches : (b c : Reader (List Stmt)) → Whole b c any braces → Whole (branches b) (branches c) closes braces
+whole_branches b c w = whole_then w (λ body. whole_maybe (whole_else b c w) (λ other. whole_done closes (body, other)))
+
 whole_if : (b c : Reader (List Stmt)) → Whole b c any braces → Viable (if_statement b) (if_statement c) closes
-whole_if b c w = viable_of (whole_word word.If (whole_same whole_expression (λ test. whole_then w (λ body.
-    whole_maybe (whole_else b c w) (λ other. whole_done closes (stmt.If test body other)))) refl))
+whole_if b c w = viable_of (whole_word word.If (whole_same whole_expression (λ test. whole_maybe (whole_branches b c w) (λ both. whole_done closes (stmt.If test both.0 both.1))) refl))
+
+whole_two : (b c : Reader (List Stmt)) → Whole b c any braces → Whole (two_blocks b) (two_blocks c) any braces
+whole_two b c w = whole_then w (λ found. whole_word word.Else (whole_then w (λ absent. whole_done any (found, absent))))
 
 whole_get : (b c : Reader (List Stmt)) → Whole b c any braces → Viable (get_statement b) (get_statement c) closes
-whole_get b c w = viable_of (whole_word word.Get (whole_then whole_named (λ name. whole_word word.From (whole_then whole_named (λ table.
-    whole_word word.Key (whole_then whole_keys (λ key. whole_then w (λ found. whole_word word.Else (whole_then w (λ absent. whole_done closes (stmt.Get name table key found absent)))))))))))
+whole_get b c w = viable_of (whole_then (whole_named_behind word.Get) (λ name. whole_then (whole_keyed word.From)
+    (λ row. whole_then (whole_two b c w) (λ both. whole_done closes (stmt.Get name row.0 row.1 both.0 both.1)))))
 
-whole_span : (w : Word) → ((l : Lexeme) → closes l ≡ true → is_word w l ≡ false) → Whole (span_end w) (span_end w) closes None
-whole_span w quiet = whole_behind (is_word w) some_expression (done None) some_expression (done None) closes
+whole_span_end : (w : Word) → ((l : Lexeme) → closes l ≡ true → is_word w l ≡ false) → Whole (span_end w) (span_end w) closes None
+whole_span_end w quiet = whole_behind (is_word w) some_expression (done None) some_expression (done None) closes
     (whole_maybe whole_expression (λ e. whole_done closes (Some e))) (whole_done closes None) (λ ts x e. quiet) (λ s k. quiet s.lexeme k)
 
+whole_span : Whole span span closes (Some (word_token word.Span))
+whole_span = whole_word word.Span (whole_then (whole_named_behind word.On) (λ column.
+    whole_maybe (whole_span_end word.From (no_test (is_word word.From) refl refl refl refl)) (λ low.
+    whole_maybe (whole_span_end word.To (no_test (is_word word.To) refl refl refl refl)) (λ high. whole_done closes (column, low, high)))))
+
 whole_for : (b c : Reader (List Stmt)) → Whole b c any braces → Viable (for_statement b) (for_statement c) closes
-whole_for b c w = viable_of (whole_word word.For (whole_then whole_named (λ name. whole_word word.In (whole_then whole_named (λ table. whole_word word.Span (whole_word word.On (whole_then whole_named (λ column.
-    whole_same (whole_span word.From (no_test (is_word word.From) refl refl refl refl)) (λ low.
-    whole_same (whole_span word.To (no_test (is_word word.To) refl refl refl refl)) (λ high.
-    whole_then w (λ body. whole_done closes (stmt.For name table column low high body))) refl) refl))))))))
+whole_for b c w = viable_of (whole_then (whole_named_behind word.For) (λ name. whole_then (whole_named_behind word.In) (λ table.
+    whole_same whole_span (λ span. whole_then w (λ body. whole_done closes (stmt.For name table span.0 span.1 span.2 body))) refl)))
 
 whole_insert : Viable insert_statement insert_statement closes
-whole_insert = viable_of (whole_word word.Insert (whole_then whole_named (λ table. whole_then whole_keys (λ values. whole_sign sign.Semicolon (whole_done closes (stmt.Insert table values))))))
+whole_insert = viable_of (whole_then (whole_named_behind word.Insert) (λ table. whole_then whole_keys (λ values. whole_ended (stmt.Insert table values))))
 
 whole_change : Whole change change closes (Some name_token)
-whole_change = whole_then whole_named (λ column. whole_sign sign.Equal (whole_maybe whole_expression (λ e. whole_done closes (record { column = column; value = e }))))
+whole_change = whole_then whole_named (λ column. whole_maybe whole_new_value (λ e. whole_done closes (record { column = column; value = e })))
+
+whole_changes : Whole changes changes closes (Some (word_token word.Set))
+whole_changes = whole_word word.Set (whole_list change shortens_change closes no_comma name_token whole_change)
 
 whole_update : Viable update_statement update_statement closes
-whole_update = viable_of (whole_word word.Update (whole_then whole_named (λ table. whole_word word.Key (whole_then whole_keys (λ key. whole_word word.Set
-    (whole_same (whole_list change shortens_change closes no_comma name_token whole_change)
-    (λ changes. whole_sign sign.Semicolon (whole_done closes (stmt.Update table key changes))) refl))))))
+whole_update = viable_of (whole_then (whole_keyed word.Update) (λ row. whole_same whole_changes (λ changes. whole_ended (stmt.Update row.0 row.1 changes)) refl))
 
 whole_delete : Viable delete_statement delete_statement closes
-whole_delete = viable_of (whole_word word.Delete (whole_then whole_named (λ table. whole_word word.Key (whole_then whole_keys (λ key. whole_sign sign.Semicolon (whole_done closes (stmt.Delete table key)))))))
+whole_delete = viable_of (whole_then (whole_keyed word.Delete) (λ row. whole_ended (stmt.Delete row.0 row.1)))
 
 whole_fail : Viable fail_statement fail_statement closes
-whole_fail = viable_of (whole_word word.Fail (whole_then (whole_one _ (token (lexeme.Text [])) [] refl) (λ text. whole_sign sign.Semicolon (whole_done closes (stmt.Fail text)))))
+whole_fail = viable_of (whole_word word.Fail (whole_then (whole_one _ (token (lexeme.Text [])) [] refl) (λ text. whole_ended (stmt.Fail text))))
 
 viable_by : (b c : Reader (List Stmt)) → Whole b c any braces → (h : Head) → Viable (statement_by b h) (statement_by c h) closes
 viable_by b c w head.Let = whole_let
@@ -285,10 +304,13 @@ whole_index : Whole (behind (is_word word.Index) names (done [])) (behind (is_wo
 whole_index = whole_behind (is_word word.Index) names (done []) names (done []) closes
     (whole_any closes whole_names) (whole_done closes []) (λ ts x e. no_test (is_word word.Index) refl refl refl refl) (λ s k. no_test (is_word word.Index) refl refl refl refl s.lexeme k)
 
+whole_table_end : Whole table_end table_end any (Some (word_token word.Key))
+whole_table_end = whole_word word.Key (whole_then whole_names (λ key.
+    whole_before closes whole_index (λ index. whole_sign sign.Semicolon (whole_done any (key, index))) (λ index. shortens_sign sign.Semicolon _ (keeps_done (key, index))) refl))
+
 pub viable_table : Viable table table any
-viable_table = viable_of (whole_word word.Table (whole_then whole_named (λ name. whole_then whole_columns (λ columns. whole_word word.Key (whole_then whole_names (λ key.
-    whole_before closes whole_index (λ index. whole_sign sign.Semicolon (whole_done any (record { name = name; columns = columns; key = key; index = index })))
-    (λ index. shortens_sign sign.Semicolon _ (keeps_done _)) refl))))))
+viable_table = viable_of (whole_then (whole_named_behind word.Table) (λ name. whole_then whole_columns (λ columns. whole_then whole_table_end (λ end.
+    whole_done any (record { name = name; columns = columns; key = end.0; index = end.1 })))))
 
 whole_more_parameters : Whole more_parameters more_parameters any (Some name_token)
 whole_more_parameters = whole_before closes whole_column_list (λ params. whole_sign sign.Close (whole_done any params)) (λ params. shortens_sign sign.Close (done params) (keeps_done params)) refl
@@ -299,5 +321,5 @@ whole_parameters = whole_sign sign.Open (whole_behind (is_sign sign.Close) (done
     (never_empty (is_sign sign.Close) more_parameters any (shortens_then (list_of column) _ (shortens_list column shortens_column) (λ params. keeps_sign sign.Close _ (keeps_done params)))) (λ s k. refl))
 
 pub viable_procedure : Viable procedure (procedure_of (block_at 17)) any
-viable_procedure = viable_of (whole_word word.Proc (whole_then whole_named (λ name. whole_then whole_parameters (λ params. whole_then (whole_block 16) (λ body.
-    whole_done any (record { name = name; params = params; body = body }))))))
+viable_procedure = viable_of (whole_then (whole_named_behind word.Proc) (λ name. whole_then whole_parameters (λ params. whole_then (whole_block 16) (λ body.
+    whole_done any (record { name = name; params = params; body = body })))))

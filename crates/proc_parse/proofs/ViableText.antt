@@ -12,10 +12,10 @@ use Rattle.proc_parse.specs.Words.{is_word}
 use Rattle.proc_parse.specs.Tokens.{tokens_of}
 use Rattle.proc_parse.specs.Reading.{Read, Reader, on_read, ◌>>=◌, ◌>>◌, done, if_past, expect, Shortens}
 use Rattle.proc_parse.specs.Lists.{many_of}
-use Rattle.proc_parse.specs.Phrases.{named}
+use Rattle.proc_parse.specs.Phrases.{named_behind}
 use Rattle.proc_parse.specs.Statements.{block_at}
 use Rattle.proc_parse.specs.Grammar.{table, parameters, procedure_of, procedure, is_end, application_of, application, deeper_application}
-use Rattle.proc_parse.specs.Shorter.{shortens_word, shortens_named, shortens_table, shortens_procedure, keeps_of, keeps_then, keeps_done, keeps_parameters, keeps_block}
+use Rattle.proc_parse.specs.Shorter.{shortens_then, shortens_named_behind, shortens_table, shortens_procedure, keeps_then, keeps_done, keeps_parameters, keeps_block}
 use Rattle.proc_parse.specs.Faults.{position_of, IsViable, IsBehindViable}
 use Rattle.proc_parse.proofs.Halts.{has_last, some_left}
 use Rattle.proc_parse.proofs.Viable.{Accepts, MayContinue, Case, Whole, any, whole_done, whole_maybe}
@@ -26,8 +26,8 @@ abbrev deeper_procedure : Reader ProcDef
 deeper_procedure = procedure_of (block_at 17)
 
 shortens_deeper : Shortens deeper_procedure
-shortens_deeper = shortens_word word.Proc _ (keeps_then named _ (keeps_of named shortens_named)
-    (λ name. keeps_then parameters _ keeps_parameters (λ params. keeps_then (block_at 17) _ (keeps_block 17) (λ body. keeps_done _))))
+shortens_deeper = shortens_then (named_behind word.Proc) _ (shortens_named_behind word.Proc)
+    (λ name. keeps_then parameters _ keeps_parameters (λ params. keeps_then (block_at 17) _ (keeps_block 17) (λ body. keeps_done _)))
 
 -- an application up to its end
 abbrev body_of : Reader ProcDef → Reader App

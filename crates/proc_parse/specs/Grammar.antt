@@ -1,5 +1,6 @@
 -- The grammar of applications.
 use Rattle.std.specs.Prelude.{ℕ, List, [], Bool, true, false, Option, Some, None, Ok, Err}
+use Rattle.proc_syntax.specs.declared.tree.Named.{Named}
 use Rattle.proc_syntax.specs.declared.tree.ColumnText.{ColumnText}
 use Rattle.proc_syntax.specs.declared.tree.TableText.{TableText}
 use Rattle.proc_syntax.specs.declared.tree.Stmt.{Stmt}
@@ -13,19 +14,21 @@ use Rattle.proc_parse.specs.Tokens.{tokens_of}
 use Rattle.proc_parse.specs.Words.{is_word, is_sign}
 use Rattle.proc_parse.specs.Reading.{Read, Reader, ◌>>=◌, ◌>>◌, done, behind, expect}
 use Rattle.proc_parse.specs.Lists.{list_of, many_of}
-use Rattle.proc_parse.specs.Phrases.{the_word, the_sign, named, column, columns, names}
+use Rattle.proc_parse.specs.Phrases.{the_word, the_sign, ended, named_behind, column, columns, names}
 use Rattle.proc_parse.specs.Statements.{block, block_at}
+
+-- "key" "(" name ("," name)* ")" ["index" "(" name ("," name)* ")"] ";"
+abbrev pub table_end : Reader (List Named × List Named)
+table_end = the_word word.Key >> names >>= λ key. behind (is_word word.Index) names (done []) >>= λ index. ended sign.Semicolon (key, index)
 
 -- table = "table" name "(" col ("," col)* ")" "key" "(" name ("," name)* ")" ["index" "(" name ("," name)* ")"] ";"
 abbrev pub table : Reader TableText
-table = the_word word.Table >> named >>= λ name. columns >>= λ columns.
-    the_word word.Key >> names >>= λ key.
-    behind (is_word word.Index) names (done []) >>= λ index.
-    the_sign sign.Semicolon >> done (record { name = name; columns = columns; key = key; index = index })
+table = named_behind word.Table >>= λ name. columns >>= λ columns. table_end >>= λ end.
+    done (record { name = name; columns = columns; key = end.0; index = end.1 })
 
 -- col ("," col)* ")"
 abbrev pub more_parameters : Reader (List ColumnText)
-more_parameters = list_of column >>= λ params. the_sign sign.Close >> done params
+more_parameters = list_of column >>= ended sign.Close
 
 -- "(" [col ("," col)*] ")"
 abbrev pub parameters : Reader (List ColumnText)
@@ -33,7 +36,7 @@ parameters = the_sign sign.Open >> behind (is_sign sign.Close) (done []) more_pa
 
 -- proc = "proc" name "(" [col ("," col)*] ")" block
 abbrev pub procedure_of : Reader (List Stmt) → Reader ProcDef
-procedure_of block = the_word word.Proc >> named >>= λ name. parameters >>= λ params. block >>= λ body.
+procedure_of block = named_behind word.Proc >>= λ name. parameters >>= λ params. block >>= λ body.
     done (record { name = name; params = params; body = body })
 
 abbrev pub procedure : Reader ProcDef

@@ -20,9 +20,13 @@ the_word w = expect (is_word w)
 abbrev pub the_sign : Sign → Reader (Unit {0})
 the_sign s = expect (is_sign s)
 
+-- the sign that ends a phrase, of which all else was read
+abbrev pub ended : {A : Type 0} → Sign → A → Reader A
+ended end phrase = the_sign end >> done phrase
+
 -- "(" phrase ")"
 abbrev pub in_parens : {A : Type 0} → Reader A → Reader A
-in_parens phrase = the_sign sign.Open >> phrase >>= λ x. the_sign sign.Close >> done x
+in_parens phrase = the_sign sign.Open >> phrase >>= ended sign.Close
 
 abbrev pub name_of : Lexeme → ℕ → Option Named
 name_of (lexeme.Name bytes) line = Some (record { name = bytes; line = line })
@@ -31,6 +35,10 @@ name_of _ line = None
 -- a name, which is no reserved word, and its line
 abbrev pub named : Reader Named
 named = one (λ token. name_of token.lexeme token.line)
+
+-- a word, and a name behind it
+abbrev pub named_behind : Word → Reader Named
+named_behind w = the_word w >> named
 
 abbrev pub kind_of_word : Word → Option Kind
 kind_of_word word.Int = Some kind.Int

@@ -14,12 +14,13 @@ use Rattle.proc_syntax.specs.declared.tree.Op.{Op}
 use Rattle.proc_syntax.specs.declared.tree.Expr.{Expr}
 use Rattle.proc_syntax.specs.declared.tree.Expr.TheVariants as expr
 use Rattle.proc_syntax.specs.declared.tree.Stmt.{Stmt}
+use Rattle.proc_syntax.specs.declared.tree.Stmt.TheVariants as stmt
 use Rattle.proc_parse.specs.declared.statements.Head.{Head}
 use Rattle.proc_parse.specs.declared.statements.Head.TheVariants as head
-use Rattle.proc_parse.specs.Phrases.{the_word, the_sign, in_parens, named, kind_rule, column, columns, names}
+use Rattle.proc_parse.specs.Phrases.{the_word, the_sign, ended, in_parens, named, named_behind, kind_rule, column, columns, names}
 use Rattle.proc_parse.specs.Expressions.{op_before, if_op, op_at, with_op, chain_from, chain_of, comparison_op, or_op, and_op, sum_op, term_op, literal, is_name, name_or_field, line_at, Inner, inner, deeper, atom_of, unary_of, term_of, sum_of, comparison_of, negation_of, conjunction_of, expression_of, expression}
-use Rattle.proc_parse.specs.Statements.{keys, let_statement, assignment, some_block, if_statement, get_statement, span_end, for_statement, insert_statement, change, update_statement, delete_statement, fail_statement, text_rule, head_of, statement_by, statement_of, no_close, block_at, block}
-use Rattle.proc_parse.specs.Grammar.{table, parameters, procedure}
+use Rattle.proc_parse.specs.Statements.{keys, keyed, new_value, let_statement, assignment, some_block, branches, if_statement, two_blocks, get_statement, span_end, span, for_statement, insert_statement, change, changes, update_statement, delete_statement, fail_statement, text_rule, head_of, statement_by, statement_of, no_close, block_at, block}
+use Rattle.proc_parse.specs.Grammar.{table_end, table, parameters, procedure}
 
 abbrev pub IsWithin : {A : Type 0} → List Token → Read A → Type 0
 IsWithin ts (Ok x) = length x.1 ≤ length ts
@@ -152,6 +153,9 @@ shortens_parens phrase short = shortens_sign sign.Open _ (keeps_then phrase _ (k
 pub shortens_named : Shortens named
 shortens_named = shortens_one _
 
+pub shortens_named_behind : (w : Word) → Shortens (named_behind w)
+shortens_named_behind w = shortens_word w named (keeps_of named shortens_named)
+
 pub shortens_column : Shortens column
 shortens_column = shortens_then named _ shortens_named (λ name. keeps_then kind_rule _ (keeps_of kind_rule (shortens_one _)) (λ kind. keeps_done _))
 
@@ -232,49 +236,66 @@ shortens_expression = shortens_whole (inner 16) (short_inner 16)
 keeps_expression : NeverGrows expression
 keeps_expression = keeps_of expression shortens_expression
 
-keeps_named : NeverGrows named
-keeps_named = keeps_of named shortens_named
-
 keeps_keys : NeverGrows keys
 keeps_keys = keeps_of keys (shortens_parens (list_of expression) (shortens_list expression shortens_expression))
 
+shortens_keyed : (w : Word) → Shortens (keyed w)
+shortens_keyed w = shortens_then (named_behind w) _ (shortens_named_behind w) (λ table. keeps_word word.Key _ (keeps_then keys _ keeps_keys (λ key. keeps_done (table, key))))
+
+keeps_new_value : NeverGrows new_value
+keeps_new_value = keeps_sign sign.Equal expression keeps_expression
+
+keeps_ended : (statement : Stmt) → NeverGrows (ended sign.Semicolon statement)
+keeps_ended statement = keeps_sign sign.Semicolon _ (keeps_done statement)
+
 shortens_let : Shortens let_statement
-shortens_let = shortens_word word.Let _ (keeps_then named _ keeps_named (λ name. keeps_sign sign.Equal _ (keeps_then expression _ keeps_expression (λ e. keeps_sign sign.Semicolon _ (keeps_done _)))))
+shortens_let = shortens_then (named_behind word.Let) _ (shortens_named_behind word.Let) (λ name. keeps_then new_value _ keeps_new_value (λ e. keeps_ended (stmt.Let name e)))
 
 shortens_assignment : Shortens assignment
-shortens_assignment = shortens_then named _ shortens_named (λ name. keeps_sign sign.Equal _ (keeps_then expression _ keeps_expression (λ e. keeps_sign sign.Semicolon _ (keeps_done _))))
+shortens_assignment = shortens_then named _ shortens_named (λ name. keeps_then new_value _ keeps_new_value (λ e. keeps_ended (stmt.Assign name e)))
+
+keeps_branches : (b : Reader (List Stmt)) → NeverGrows b → NeverGrows (branches b)
+keeps_branches b kb = keeps_then b _ kb (λ body. keeps_then (behind (is_word word.Else) (some_block b) (done None)) _
+    (keeps_behind (is_word word.Else) (some_block b) _ (keeps_then b _ kb (λ body. keeps_done _)) (keeps_done None)) (λ other. keeps_done (body, other)))
 
 shortens_if : (b : Reader (List Stmt)) → NeverGrows b → Shortens (if_statement b)
-shortens_if b kb = shortens_word word.If _ (keeps_then expression _ keeps_expression (λ test. keeps_then b _ kb (λ body.
-    keeps_then (behind (is_word word.Else) (some_block b) (done None)) _ (keeps_behind (is_word word.Else) (some_block b) _ (keeps_then b _ kb (λ body. keeps_done _)) (keeps_done None)) (λ other. keeps_done _))))
+shortens_if b kb = shortens_word word.If _ (keeps_then expression _ keeps_expression (λ test. keeps_then (branches b) _ (keeps_branches b kb) (λ both. keeps_done _)))
+
+keeps_two : (b : Reader (List Stmt)) → NeverGrows b → NeverGrows (two_blocks b)
+keeps_two b kb = keeps_then b _ kb (λ found. keeps_word word.Else _ (keeps_then b _ kb (λ absent. keeps_done (found, absent))))
 
 shortens_get : (b : Reader (List Stmt)) → NeverGrows b → Shortens (get_statement b)
-shortens_get b kb = shortens_word word.Get _ (keeps_then named _ keeps_named (λ name. keeps_word word.From _ (keeps_then named _ keeps_named (λ table.
-    keeps_word word.Key _ (keeps_then keys _ keeps_keys (λ key. keeps_then b _ kb (λ found. keeps_word word.Else _ (keeps_then b _ kb (λ absent. keeps_done _)))))))))
+shortens_get b kb = shortens_then (named_behind word.Get) _ (shortens_named_behind word.Get) (λ name. keeps_then (keyed word.From) _ (keeps_of _ (shortens_keyed word.From))
+    (λ row. keeps_then (two_blocks b) _ (keeps_two b kb) (λ both. keeps_done _)))
 
-keeps_span : (w : Word) → NeverGrows (span_end w)
-keeps_span w = keeps_behind (is_word w) _ _ (keeps_then expression _ keeps_expression (λ e. keeps_done _)) (keeps_done None)
+keeps_span_end : (w : Word) → NeverGrows (span_end w)
+keeps_span_end w = keeps_behind (is_word w) _ _ (keeps_then expression _ keeps_expression (λ e. keeps_done _)) (keeps_done None)
+
+keeps_span : NeverGrows span
+keeps_span = keeps_word word.Span _ (keeps_then (named_behind word.On) _ (keeps_of _ (shortens_named_behind word.On)) (λ column. keeps_then (span_end word.From) _ (keeps_span_end word.From) (λ low.
+    keeps_then (span_end word.To) _ (keeps_span_end word.To) (λ high. keeps_done (column, low, high)))))
 
 shortens_for : (b : Reader (List Stmt)) → NeverGrows b → Shortens (for_statement b)
-shortens_for b kb = shortens_word word.For _ (keeps_then named _ keeps_named (λ name. keeps_word word.In _ (keeps_then named _ keeps_named (λ table.
-    keeps_word word.Span _ (keeps_word word.On _ (keeps_then named _ keeps_named (λ column. keeps_then (span_end word.From) _ (keeps_span word.From) (λ low.
-    keeps_then (span_end word.To) _ (keeps_span word.To) (λ high. keeps_then b _ kb (λ body. keeps_done _))))))))))
+shortens_for b kb = shortens_then (named_behind word.For) _ (shortens_named_behind word.For) (λ name. keeps_then (named_behind word.In) _ (keeps_of _ (shortens_named_behind word.In))
+    (λ table. keeps_then span _ keeps_span (λ span. keeps_then b _ kb (λ body. keeps_done _))))
 
 shortens_insert : Shortens insert_statement
-shortens_insert = shortens_word word.Insert _ (keeps_then named _ keeps_named (λ table. keeps_then keys _ keeps_keys (λ values. keeps_sign sign.Semicolon _ (keeps_done _))))
+shortens_insert = shortens_then (named_behind word.Insert) _ (shortens_named_behind word.Insert) (λ table. keeps_then keys _ keeps_keys (λ values. keeps_ended (stmt.Insert table values)))
 
 pub shortens_change : Shortens change
-shortens_change = shortens_then named _ shortens_named (λ column. keeps_sign sign.Equal _ (keeps_then expression _ keeps_expression (λ e. keeps_done _)))
+shortens_change = shortens_then named _ shortens_named (λ column. keeps_then new_value _ keeps_new_value (λ e. keeps_done _))
+
+keeps_changes : NeverGrows changes
+keeps_changes = keeps_word word.Set (list_of change) (keeps_of _ (shortens_list change shortens_change))
 
 shortens_update : Shortens update_statement
-shortens_update = shortens_word word.Update _ (keeps_then named _ keeps_named (λ table. keeps_word word.Key _ (keeps_then keys _ keeps_keys (λ key.
-    keeps_word word.Set _ (keeps_then (list_of change) _ (keeps_of _ (shortens_list change shortens_change)) (λ changes. keeps_sign sign.Semicolon _ (keeps_done _)))))))
+shortens_update = shortens_then (keyed word.Update) _ (shortens_keyed word.Update) (λ row. keeps_then changes _ keeps_changes (λ changes. keeps_ended (stmt.Update row.0 row.1 changes)))
 
 shortens_delete : Shortens delete_statement
-shortens_delete = shortens_word word.Delete _ (keeps_then named _ keeps_named (λ table. keeps_word word.Key _ (keeps_then keys _ keeps_keys (λ key. keeps_sign sign.Semicolon _ (keeps_done _)))))
+shortens_delete = shortens_then (keyed word.Delete) _ (shortens_keyed word.Delete) (λ row. keeps_ended (stmt.Delete row.0 row.1))
 
 shortens_fail : Shortens fail_statement
-shortens_fail = shortens_word word.Fail _ (keeps_then text_rule _ (keeps_of text_rule (shortens_one _)) (λ text. keeps_sign sign.Semicolon _ (keeps_done _)))
+shortens_fail = shortens_word word.Fail _ (keeps_then text_rule _ (keeps_of text_rule (shortens_one _)) (λ text. keeps_ended (stmt.Fail text)))
 
 shortens_by : (b : Reader (List Stmt)) → NeverGrows b → (h : Head) → Shortens (statement_by b h)
 shortens_by b kb head.Let = shortens_let
@@ -297,17 +318,19 @@ keeps_block (suc more) = keeps_sign sign.OpenBrace _ (keeps_then (many_of no_clo
 
 -- ---- declarations
 
-pub shortens_table : Shortens table
-shortens_table = shortens_word word.Table _ (keeps_then named _ (keeps_of _ shortens_named)
-    (λ name. keeps_then columns _ (keeps_of _ shortens_columns)
-    (λ columns. keeps_word word.Key _ (keeps_then names _ (keeps_of _ shortens_names)
+keeps_table_end : NeverGrows table_end
+keeps_table_end = keeps_word word.Key _ (keeps_then names _ (keeps_of _ shortens_names)
     (λ key. keeps_then (behind (is_word word.Index) names (done [])) _ (keeps_behind _ names _ (keeps_of _ shortens_names) (keeps_done []))
-    (λ index. keeps_sign sign.Semicolon _ (keeps_done _)))))))
+    (λ index. keeps_sign sign.Semicolon _ (keeps_done (key, index)))))
+
+pub shortens_table : Shortens table
+shortens_table = shortens_then (named_behind word.Table) _ (shortens_named_behind word.Table)
+    (λ name. keeps_then columns _ (keeps_of _ shortens_columns) (λ columns. keeps_then table_end _ keeps_table_end (λ end. keeps_done _)))
 
 pub keeps_parameters : NeverGrows parameters
 keeps_parameters = keeps_sign sign.Open _ (keeps_behind (is_sign sign.Close) _ _ (keeps_done [])
     (keeps_then (list_of column) _ (keeps_of _ (shortens_list column shortens_column)) (λ params. keeps_sign sign.Close _ (keeps_done params))))
 
 pub shortens_procedure : Shortens procedure
-shortens_procedure = shortens_word word.Proc _ (keeps_then named _ keeps_named
-    (λ name. keeps_then parameters _ keeps_parameters (λ params. keeps_then block _ (keeps_block 16) (λ body. keeps_done _))))
+shortens_procedure = shortens_then (named_behind word.Proc) _ (shortens_named_behind word.Proc)
+    (λ name. keeps_then parameters _ keeps_parameters (λ params. keeps_then block _ (keeps_block 16) (λ body. keeps_done _)))

@@ -4,11 +4,13 @@ ghost use Rattle.std.specs.Prelude.{◌≡◌, []};
 ghost use Rattle.proc_parse.specs.Words.{is_word};
 ghost use Rattle.proc_parse.specs.Reading.{Gives, GoesOn, behind, done, expect};
 ghost use Rattle.proc_parse.specs.Phrases.{names};
-ghost use Rattle.proc_parse.specs.Grammar.{table, more_parameters, parameters, procedure, is_end, application};
+ghost use Rattle.proc_parse.specs.Grammar.{table_end, table, more_parameters, parameters, procedure, is_end, application};
 ghost use Rattle.proc_parse.specs.Shorter.{shortens_procedure, shortens_table};
 
+use crate::names::named_behind;
 use crate::phrase::{
-    Parsed, Phrase, Stop, list, list_in_parens, many, past_sign, past_word, sign, word,
+    Parsed, Phrase, Stop, ended, letting_go, list, list_in_parens, many, past_sign, past_word,
+    sign, word,
 };
 use crate::statements::{DEEPEST_BLOCK, block};
 use crate::token::{Lexeme, Sign, Token, Word};
@@ -26,17 +28,26 @@ fn index_part<'a>(alloc: Global, tokens: &'a [Token]) -> Parsed<'a, List<Named>>
     }
 }
 
+/// Reads the key of a table and its indexed columns, and the end of its declaration.
+fn table_end<'a>(alloc: Global, tokens: &'a [Token]) -> Parsed<'a, (List<Named>, List<Named>)>
+    ensures { Gives result (table_end tokens.now) }
+{
+    let rest = word(tokens, Word::Key)?;
+    let (key, rest) = list_in_parens(alloc, rest)?;
+    let (index, rest) = index_part(alloc, rest)?;
+    ended((key, index), rest, Sign::Semicolon)
+}
+
 impl Phrase for TableText {
     ghost rule = { table };
 
     fn read<'a>(alloc: Global, tokens: &'a [Token]) -> Parsed<'a, TableText> {
-        let rest = word(tokens, Word::Table)?;
-        let (name, rest) = Named::read(alloc, rest)?;
+        let (name, rest) = named_behind(alloc, tokens, Word::Table)?;
         let (columns, rest) = list_in_parens(alloc, rest)?;
-        let rest = word(rest, Word::Key)?;
-        let (key, rest) = list_in_parens(alloc, rest)?;
-        let (index, rest) = index_part(alloc, rest)?;
-        let rest = sign(rest, Sign::Semicolon)?;
+        let ((key, index), rest) = match table_end(alloc, rest) {
+            Ok(read) => read,
+            Err(stop) => return Err(letting_go((name, columns), stop)),
+        };
         let table = TableText {
             name,
             columns,
@@ -65,18 +76,19 @@ fn more_parameters<'a>(alloc: Global, tokens: &'a [Token]) -> Parsed<'a, List<Co
     ensures { Gives result (more_parameters tokens.now) }
 {
     let (params, rest) = list(alloc, tokens)?;
-    let rest = sign(rest, Sign::Close)?;
-    Ok((params, rest))
+    ended(params, rest, Sign::Close)
 }
 
 impl Phrase for ProcDef {
     ghost rule = { procedure };
 
     fn read<'a>(alloc: Global, tokens: &'a [Token]) -> Parsed<'a, ProcDef> {
-        let rest = word(tokens, Word::Proc)?;
-        let (name, rest) = Named::read(alloc, rest)?;
+        let (name, rest) = named_behind(alloc, tokens, Word::Proc)?;
         let (params, rest) = parameters(alloc, rest)?;
-        let (body, rest) = block(alloc, DEEPEST_BLOCK, rest)?;
+        let (body, rest) = match block(alloc, DEEPEST_BLOCK, rest) {
+            Ok(read) => read,
+            Err(stop) => return Err(letting_go((name, params), stop)),
+        };
         Ok((ProcDef { name, params, body }, rest))
     }
 
@@ -105,6 +117,8 @@ pub fn application<'a>(alloc: Global, tokens: &'a [Token]) -> Parsed<'a, App>
 {
     let (tables, rest) = many(alloc, tokens, Word::Table)?;
     let (procs, rest) = many(alloc, rest, Word::Proc)?;
-    let rest = end(rest)?;
-    Ok((App { tables, procs }, rest))
+    match end(rest) {
+        Ok(rest) => Ok((App { tables, procs }, rest)),
+        Err(stop) => Err(letting_go((tables, procs), stop)),
+    }
 }

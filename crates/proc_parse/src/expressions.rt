@@ -10,7 +10,7 @@ ghost use Rattle.proc_parse.specs.Shorter.{shortens_expression};
 use crate::operands::{
     begins_with_name, begins_with_sign, literal, name_or_field, sign_line, word_line,
 };
-use crate::phrase::{Parsed, Phrase, Stop, begins, sign};
+use crate::phrase::{Parsed, Phrase, Stop, begins, letting_go, sign};
 use crate::token::{Lexeme, Sign, Token, Word};
 use proc_syntax::{Expr, Op};
 use rel_base::{Boxed, NoMemory};
@@ -122,7 +122,10 @@ fn group<'a>(alloc: Global, depth: usize, tokens: &'a [Token]) -> Parsed<'a, Exp
     }
     let (line, rest) = sign_line(tokens, Sign::Open)?;
     let (inner, rest) = chain(alloc, Level::Or, depth - 1, rest)?;
-    let rest = sign(rest, Sign::Close)?;
+    let rest = match sign(rest, Sign::Close) {
+        Ok(rest) => rest,
+        Err(stop) => return Err(letting_go(inner, stop)),
+    };
     let inner = Boxed::new(alloc, inner)?;
     Ok((Expr::Paren { inner, line }, rest))
 }
@@ -185,7 +188,7 @@ fn more<'a>(alloc: Global, chain: OpenChain, left: Expr, tokens: &'a [Token]) ->
     match chain_op(chain.level, tokens) {
         Some((op, rest)) => {
             if chain.most == 0 {
-                return Err(Stop::At(tokens));
+                return Err(letting_go(left, Stop::At(tokens)));
             }
             let most = chain.most - 1;
             more_after(alloc, OpenChain { most, ..chain }, left, op, rest)
@@ -206,7 +209,10 @@ fn more_after<'a>(
     requires { chain.most < 32 }
     ensures { Gives result (chain_after (op_of chain.level) (operand_of chain.level (inner chain.depth)) chain.most left op tokens.now) }
 {
-    let (right, rest) = operand(alloc, chain.level, chain.depth, tokens)?;
+    let (right, rest) = match operand(alloc, chain.level, chain.depth, tokens) {
+        Ok(read) => read,
+        Err(stop) => return Err(letting_go(left, stop)),
+    };
     let left = two(alloc, op, left, right)?;
     more(alloc, chain, left, rest)
 }
@@ -232,7 +238,10 @@ fn comparison<'a>(alloc: Global, depth: usize, tokens: &'a [Token]) -> Parsed<'a
     let (left, rest) = chain(alloc, Level::Sum, depth, tokens)?;
     match comparison_at(rest) {
         Some((op, rest)) => {
-            let (right, rest) = chain(alloc, Level::Sum, depth, rest)?;
+            let (right, rest) = match chain(alloc, Level::Sum, depth, rest) {
+                Ok(read) => read,
+                Err(stop) => return Err(letting_go(left, stop)),
+            };
             Ok((two(alloc, op, left, right)?, rest))
         }
         None => Ok((left, rest)),

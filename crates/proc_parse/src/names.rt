@@ -2,10 +2,10 @@
 
 ghost use Rattle.std.specs.Prelude.{◌≡◌};
 ghost use Rattle.proc_parse.specs.Reading.{Gives};
-ghost use Rattle.proc_parse.specs.Phrases.{named, kind_of_word, kind_of_lexeme, kind_rule, column};
+ghost use Rattle.proc_parse.specs.Phrases.{named, named_behind, kind_of_word, kind_of_lexeme, kind_rule, column};
 ghost use Rattle.proc_parse.specs.Shorter.{shortens_column, shortens_named};
 
-use crate::phrase::{Parsed, Phrase, Stop};
+use crate::phrase::{Parsed, Phrase, Stop, word};
 use crate::token::{Lexeme, Token, Word};
 use proc_syntax::{ColumnText, Named};
 use rel_base::{Kind, Twin};
@@ -32,6 +32,14 @@ impl Phrase for Named {
     }
 
     ghost shortens = { shortens_named };
+}
+
+/// Reads a word, and a name behind it.
+pub fn named_behind<'a>(alloc: Global, tokens: &'a [Token], behind: Word) -> Parsed<'a, Named>
+    ensures { Gives result (named_behind behind tokens.now) }
+{
+    let rest = word(tokens, behind)?;
+    Named::read(alloc, rest)
 }
 
 /// The kind that a word names.

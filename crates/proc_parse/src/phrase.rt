@@ -5,7 +5,7 @@ ghost use Rattle.std.specs.Option.{option_copied};
 ghost use Rattle.proc_parse.specs.Words.{is_word, is_sign};
 ghost use Rattle.proc_parse.specs.Reading.{Reader, Gives, GoesOn, Shortens, begins, past, expect};
 ghost use Rattle.proc_parse.specs.Lists.{list_of, many_of};
-ghost use Rattle.proc_parse.specs.Phrases.{in_parens};
+ghost use Rattle.proc_parse.specs.Phrases.{ended, in_parens};
 
 use crate::token::{Lexeme, Sign, Token, Word};
 use rel_base::{List, NoMemory};
@@ -114,6 +114,21 @@ pub fn sign(tokens: &[Token], sign: Sign) -> Result<&[Token], Stop<'_>>
     }
 }
 
+/// Drops what was read before a fault. A function that drops it itself has to be proved for each form of it, and this call once.
+pub fn letting_go<'a, T: Drop>(_read: T, stop: Stop<'a>) -> Stop<'a>
+    ensures { result ≡ stop.entry }
+{
+    stop
+}
+
+/// Reads the sign that ends a phrase, of which all else is read.
+pub fn ended<'a, T: Drop>(phrase: T, tokens: &'a [Token], end: Sign) -> Parsed<'a, T>
+    ensures { Gives result (ended end phrase tokens.now) }
+{
+    let rest = sign(tokens, end)?;
+    Ok((phrase, rest))
+}
+
 /// Reads phrases that are separated by commas, one at least.
 pub fn list<'a, T: Phrase>(alloc: Global, tokens: &'a [Token]) -> Parsed<'a, List<T>>
     ensures { Gives result (list_of T.rule tokens.now) }
@@ -150,6 +165,5 @@ pub fn list_in_parens<'a, T: Phrase>(alloc: Global, tokens: &'a [Token]) -> Pars
 {
     let rest = sign(tokens, Sign::Open)?;
     let (items, rest) = list(alloc, rest)?;
-    let rest = sign(rest, Sign::Close)?;
-    Ok((items, rest))
+    ended(items, rest, Sign::Close)
 }

@@ -4,12 +4,14 @@ ghost use Rattle.std.specs.Prelude.{◌≡◌, ◌<◌, ◌-◌, None};
 ghost use Rattle.proc_parse.specs.Words.{is_word};
 ghost use Rattle.proc_parse.specs.Reading.{Gives, begins, behind, done, one};
 ghost use Rattle.proc_parse.specs.Lists.{many_of};
-ghost use Rattle.proc_parse.specs.Statements.{some_block, if_statement, get_statement, some_expression, span_end, for_statement};
+ghost use Rattle.proc_parse.specs.Statements.{some_block, branches, if_statement, two_blocks, get_statement, some_expression, span_end, span, for_statement};
 ghost use Rattle.proc_parse.specs.Statements.{head_of_word, head_of_lexeme, head_of, statement_of, no_close, block_at};
 
-use crate::phrase::{Parsed, Phrase, Stop, list_in_parens, past_word, sign, word};
+use crate::names::named_behind;
+use crate::phrase::{Parsed, Phrase, Stop, ended, letting_go, past_word, sign, word};
 use crate::plain_statements::{
-    assignment, delete_statement, fail_statement, insert_statement, let_statement, update_statement,
+    assignment, delete_statement, fail_statement, insert_statement, keyed, let_statement,
+    update_statement,
 };
 use crate::token::{Lexeme, Sign, Token, Word};
 use proc_syntax::{Expr, Named, Stmt};
@@ -87,6 +89,23 @@ fn span_end<'a>(alloc: Global, tokens: &'a [Token], word: Word) -> Parsed<'a, Op
     }
 }
 
+/// What the rows of a `for` are chosen by: a column, and the ends between which its values lie.
+type SpanParts = (Named, Option<Expr>, Option<Expr>);
+
+/// Reads `span on COLUMN from LOW to HIGH`, of which each end may be absent.
+fn span<'a>(alloc: Global, tokens: &'a [Token]) -> Parsed<'a, SpanParts>
+    ensures { Gives result (span tokens.now) }
+{
+    let rest = word(tokens, Word::Span)?;
+    let (column, rest) = named_behind(alloc, rest, Word::On)?;
+    let (low, rest) = span_end(alloc, rest, Word::From)?;
+    let (high, rest) = match span_end(alloc, rest, Word::To) {
+        Ok(read) => read,
+        Err(stop) => return Err(letting_go((column, low), stop)),
+    };
+    Ok(((column, low, high), rest))
+}
+
 /// Reads a block where blocks may be so deep.
 #[cycle(blocks)]
 #[tactic(auto, using(crate::proofs::Depth::block_less, crate::proofs::Depth::block_none))]
@@ -98,8 +117,7 @@ pub fn block<'a>(alloc: Global, depth: usize, tokens: &'a [Token]) -> Parsed<'a,
     }
     let rest = sign(tokens, Sign::OpenBrace)?;
     let (body, rest) = statements(alloc, depth - 1, rest)?;
-    let rest = sign(rest, Sign::CloseBrace)?;
-    Ok((body, rest))
+    ended(body, rest, Sign::CloseBrace)
 }
 
 /// Whether there is a token, and no brace that closes a block.
@@ -152,9 +170,24 @@ fn if_statement<'a>(alloc: Global, depth: usize, tokens: &'a [Token]) -> Parsed<
 {
     let rest = word(tokens, Word::If)?;
     let (test, rest) = Expr::read(alloc, rest)?;
-    let (then, rest) = block(alloc, depth, rest)?;
-    let (other, rest) = other_block(alloc, depth, rest)?;
+    let ((then, other), rest) = match branches(alloc, depth, rest) {
+        Ok(read) => read,
+        Err(stop) => return Err(letting_go(test, stop)),
+    };
     Ok((Stmt::If { test, then, other }, rest))
+}
+
+/// What is done where a test holds, and where it does not.
+type Branches = (List<Stmt>, Option<List<Stmt>>);
+
+/// Reads `{ THEN } else { OTHER }`, of which the second block may be absent.
+#[cycle(blocks)]
+fn branches<'a>(alloc: Global, depth: usize, tokens: &'a [Token]) -> Parsed<'a, Branches>
+    ensures { Gives result (branches (block_at depth) tokens.now) }
+{
+    let (then, rest) = block(alloc, depth, tokens)?;
+    let (other, rest) = other_block(alloc, depth, rest)?;
+    Ok(((then, other), rest))
 }
 
 /// Reads `else { OTHER }`, which may be absent.
@@ -178,15 +211,12 @@ fn other_block<'a>(
 fn get_statement<'a>(alloc: Global, depth: usize, tokens: &'a [Token]) -> Parsed<'a, Stmt>
     ensures { Gives result (get_statement (block_at depth) tokens.now) }
 {
-    let rest = word(tokens, Word::Get)?;
-    let (name, rest) = Named::read(alloc, rest)?;
-    let rest = word(rest, Word::From)?;
-    let (table, rest) = Named::read(alloc, rest)?;
-    let rest = word(rest, Word::Key)?;
-    let (key, rest) = list_in_parens(alloc, rest)?;
-    let (found, rest) = block(alloc, depth, rest)?;
-    let rest = word(rest, Word::Else)?;
-    let (absent, rest) = block(alloc, depth, rest)?;
+    let (name, rest) = named_behind(alloc, tokens, Word::Get)?;
+    let ((table, key), rest) = keyed(alloc, rest, Word::From)?;
+    let ((found, absent), rest) = match two_blocks(alloc, depth, rest) {
+        Ok(read) => read,
+        Err(stop) => return Err(letting_go((name, table, key), stop)),
+    };
     let get = Stmt::Get {
         name,
         table,
@@ -197,21 +227,33 @@ fn get_statement<'a>(alloc: Global, depth: usize, tokens: &'a [Token]) -> Parsed
     Ok((get, rest))
 }
 
+/// Reads `{ FOUND } else { ABSENT }`.
+#[cycle(blocks)]
+fn two_blocks<'a>(
+    alloc: Global,
+    depth: usize,
+    tokens: &'a [Token],
+) -> Parsed<'a, (List<Stmt>, List<Stmt>)>
+    ensures { Gives result (two_blocks (block_at depth) tokens.now) }
+{
+    let (found, rest) = block(alloc, depth, tokens)?;
+    let rest = word(rest, Word::Else)?;
+    let (absent, rest) = block(alloc, depth, rest)?;
+    Ok(((found, absent), rest))
+}
+
 /// Reads `for NAME in TABLE span on COLUMN from LOW to HIGH { BODY }`, of which each end may be absent.
 #[cycle(blocks)]
 fn for_statement<'a>(alloc: Global, depth: usize, tokens: &'a [Token]) -> Parsed<'a, Stmt>
     ensures { Gives result (for_statement (block_at depth) tokens.now) }
 {
-    let rest = word(tokens, Word::For)?;
-    let (name, rest) = Named::read(alloc, rest)?;
-    let rest = word(rest, Word::In)?;
-    let (table, rest) = Named::read(alloc, rest)?;
-    let rest = word(rest, Word::Span)?;
-    let rest = word(rest, Word::On)?;
-    let (column, rest) = Named::read(alloc, rest)?;
-    let (low, rest) = span_end(alloc, rest, Word::From)?;
-    let (high, rest) = span_end(alloc, rest, Word::To)?;
-    let (body, rest) = block(alloc, depth, rest)?;
+    let (name, rest) = named_behind(alloc, tokens, Word::For)?;
+    let (table, rest) = named_behind(alloc, rest, Word::In)?;
+    let ((column, low, high), rest) = span(alloc, rest)?;
+    let (body, rest) = match block(alloc, depth, rest) {
+        Ok(read) => read,
+        Err(stop) => return Err(letting_go((name, table, column, low, high), stop)),
+    };
     let each = Stmt::For {
         name,
         table,

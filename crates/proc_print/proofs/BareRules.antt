@@ -3,6 +3,8 @@ use Rattle.std.proofs.Common.{◌≡◌, ℕ, zero, suc, List, [], ◌∷◌, ma
 use Rattle.std.specs.Option.{option_map}
 use Rattle.rel_base.specs.declared.value.Kind.{Kind}
 use Rattle.rel_base.specs.declared.value.Value.{Value}
+use Rattle.proc_syntax.specs.declared.tree.Named.{Named}
+use Rattle.proc_syntax.specs.declared.tree.Expr.{Expr}
 use Rattle.proc_syntax.specs.declared.tree.Expr.TheVariants as expr
 use Rattle.proc_syntax.specs.declared.tree.Stmt.{Stmt}
 use Rattle.proc_syntax.specs.declared.tree.Stmt.TheVariants as stmt
@@ -18,10 +20,10 @@ use Rattle.proc_parse.specs.declared.statements.Head.TheVariants as head
 use Rattle.proc_parse.specs.Words.{is_word, is_sign}
 use Rattle.proc_parse.specs.Reading.{Reader, ◌>>=◌, ◌>>◌, done, behind, before, expect}
 use Rattle.proc_parse.specs.Lists.{list_of, many_of}
-use Rattle.proc_parse.specs.Phrases.{the_word, the_sign, in_parens, name_of, named, kind_rule, column, columns, names}
+use Rattle.proc_parse.specs.Phrases.{the_word, the_sign, ended, in_parens, name_of, named, named_behind, kind_rule, column, columns, names}
 use Rattle.proc_parse.specs.Expressions.{comparison_op, or_op, and_op, sum_op, term_op, value_of, literal_of, literal, is_name, field_of, name_or_field, line_where, line_at, Inner, inner, deeper, atom_of, unary_of, term_of, sum_of, comparison_of, negation_of, conjunction_of, expression_of, expression}
-use Rattle.proc_parse.specs.Statements.{keys, let_statement, assignment, some_block, if_statement, get_statement, some_expression, span_end, for_statement, insert_statement, change, update_statement, delete_statement, fail_statement, text_rule, head_of, statement_by, statement_of, no_close, block_at, block}
-use Rattle.proc_parse.specs.Grammar.{table, more_parameters, parameters, procedure, is_end, application}
+use Rattle.proc_parse.specs.Statements.{keys, keyed, new_value, let_statement, assignment, some_block, branches, if_statement, two_blocks, get_statement, some_expression, span_end, span, for_statement, insert_statement, change, changes, update_statement, delete_statement, fail_statement, text_rule, head_of, statement_by, statement_of, no_close, block_at, block}
+use Rattle.proc_parse.specs.Grammar.{table_end, table, more_parameters, parameters, procedure, is_end, application}
 use Rattle.proc_print.specs.Unlined.{unlined_name, unlined_column, unlined_expr, unlined_change, unlined_stmt, unlined_table, unlined_procedure, unlined}
 use Rattle.proc_print.proofs.UnlinedTrees.{unlined_value, unlined_var, unlined_field, unlined_not, unlined_neg, unlined_paren, unlined_two, unlined_let, unlined_assign, unlined_other, unlined_if, unlined_get, unlined_for, unlined_insert, unlined_update, unlined_delete, unlined_fail}
 use Rattle.proc_print.proofs.Bare.{bared, IsBare, same_unit, bare_done, bare_refuse, bare_then, bare_behind, bare_before, bare_first, bare_one, bare_expect, bare_op, bare_chain, bare_list, bare_many}
@@ -40,6 +42,9 @@ name_bare l line = elim l as (λ l. name_of l 0 ≡ option_map unlined_name (nam
 
 bare_named : IsBare unlined_name named named
 bare_named = bare_one unlined_name _ (λ t. name_bare t.lexeme t.line)
+
+bare_named_behind : (w : Word) → IsBare unlined_name (named_behind w) (named_behind w)
+bare_named_behind w = bare_word unlined_name w named named bare_named
 
 abbrev same_kind : Kind → Kind
 same_kind k = k
@@ -139,67 +144,102 @@ bare_keys = bare_parens (map unlined_expr) (list_of expression) (bare_list unlin
 abbrev unlined_body : List Stmt → List Stmt
 unlined_body body = map unlined_stmt body
 
+abbrev unlined_keyed : Named × List Expr → Named × List Expr
+unlined_keyed row = (unlined_name row.0, map unlined_expr row.1)
+
+bare_keyed : (w : Word) → IsBare unlined_keyed (keyed w) (keyed w)
+bare_keyed w = bare_then unlined_name unlined_keyed (named_behind w) (named_behind w) _ _ (bare_named_behind w) (λ table. bare_word unlined_keyed word.Key _ _
+    (bare_then (map unlined_expr) unlined_keyed keys keys _ _ bare_keys (λ key. bare_done unlined_keyed (table, key) (unlined_name table, map unlined_expr key) refl)))
+
+bare_new_value : IsBare unlined_expr new_value new_value
+bare_new_value = bare_sign unlined_expr sign.Equal expression expression bare_expression
+
+bare_ended : (statement plain : Stmt) → plain ≡ unlined_stmt statement → IsBare unlined_stmt (ended sign.Semicolon statement) (ended sign.Semicolon plain)
+bare_ended statement plain same = bare_sign unlined_stmt sign.Semicolon _ _ (bare_done unlined_stmt statement plain same)
+
 bare_let : IsBare unlined_stmt let_statement let_statement
-bare_let = bare_word unlined_stmt word.Let _ _ (bare_then unlined_name unlined_stmt named named _ _ bare_named (λ name. bare_sign unlined_stmt sign.Equal _ _
-    (bare_then unlined_expr unlined_stmt expression expression _ _ bare_expression (λ e. bare_sign unlined_stmt sign.Semicolon _ _ (bare_done unlined_stmt (stmt.Let name e) _ (sym (unlined_let name e)))))))
+bare_let = bare_then unlined_name unlined_stmt (named_behind word.Let) (named_behind word.Let) _ _ (bare_named_behind word.Let) (λ name.
+    bare_then unlined_expr unlined_stmt new_value new_value _ _ bare_new_value (λ e. bare_ended (stmt.Let name e) _ (sym (unlined_let name e))))
 
 bare_assignment : IsBare unlined_stmt assignment assignment
-bare_assignment = bare_then unlined_name unlined_stmt named named _ _ bare_named (λ name. bare_sign unlined_stmt sign.Equal _ _
-    (bare_then unlined_expr unlined_stmt expression expression _ _ bare_expression (λ e. bare_sign unlined_stmt sign.Semicolon _ _ (bare_done unlined_stmt (stmt.Assign name e) _ (sym (unlined_assign name e))))))
+bare_assignment = bare_then unlined_name unlined_stmt named named _ _ bare_named (λ name.
+    bare_then unlined_expr unlined_stmt new_value new_value _ _ bare_new_value (λ e. bare_ended (stmt.Assign name e) _ (sym (unlined_assign name e))))
 
 bare_else : (b : Reader (List Stmt)) → IsBare unlined_body b b → IsBare unlined_other (behind (is_word word.Else) (some_block b) (done None)) (behind (is_word word.Else) (some_block b) (done None))
 bare_else b h = bare_behind unlined_other (is_word word.Else) (some_block b) (some_block b) (done None) (done None)
     (bare_then unlined_body unlined_other b b _ _ h (λ body. bare_done unlined_other (Some body) (Some (unlined_body body)) refl)) (bare_done unlined_other None None refl)
 
+abbrev unlined_branches : List Stmt × Option (List Stmt) → List Stmt × Option (List Stmt)
+unlined_branches both = (unlined_body both.0, unlined_other both.1)
+
+bare_branches : (b : Reader (List Stmt)) → IsBare unlined_body b b → IsBare unlined_branches (branches b) (branches b)
+bare_branches b h = bare_then unlined_body unlined_branches b b _ _ h (λ body.
+    bare_then unlined_other unlined_branches (behind (is_word word.Else) (some_block b) (done None)) (behind (is_word word.Else) (some_block b) (done None)) _ _ (bare_else b h)
+    (λ other. bare_done unlined_branches (body, other) (unlined_body body, unlined_other other) refl))
+
 bare_if : (b : Reader (List Stmt)) → IsBare unlined_body b b → IsBare unlined_stmt (if_statement b) (if_statement b)
-bare_if b h = bare_word unlined_stmt word.If _ _ (bare_then unlined_expr unlined_stmt expression expression _ _ bare_expression (λ test. bare_then unlined_body unlined_stmt b b _ _ h (λ body.
-    bare_then unlined_other unlined_stmt (behind (is_word word.Else) (some_block b) (done None)) (behind (is_word word.Else) (some_block b) (done None)) _ _ (bare_else b h)
-    (λ other. bare_done unlined_stmt (stmt.If test body other) _ (sym (unlined_if test body other))))))
+bare_if b h = bare_word unlined_stmt word.If _ _ (bare_then unlined_expr unlined_stmt expression expression _ _ bare_expression (λ test.
+    bare_then unlined_branches unlined_stmt (branches b) (branches b) _ _ (bare_branches b h) (λ both. bare_done unlined_stmt (stmt.If test both.0 both.1) _ (sym (unlined_if test both.0 both.1)))))
+
+abbrev unlined_blocks : List Stmt × List Stmt → List Stmt × List Stmt
+unlined_blocks both = (unlined_body both.0, unlined_body both.1)
+
+bare_two : (b : Reader (List Stmt)) → IsBare unlined_body b b → IsBare unlined_blocks (two_blocks b) (two_blocks b)
+bare_two b h = bare_then unlined_body unlined_blocks b b _ _ h (λ found. bare_word unlined_blocks word.Else _ _ (bare_then unlined_body unlined_blocks b b _ _ h
+    (λ absent. bare_done unlined_blocks (found, absent) (unlined_body found, unlined_body absent) refl)))
 
 bare_get : (b : Reader (List Stmt)) → IsBare unlined_body b b → IsBare unlined_stmt (get_statement b) (get_statement b)
-bare_get b h = bare_word unlined_stmt word.Get _ _ (bare_then unlined_name unlined_stmt named named _ _ bare_named (λ name. bare_word unlined_stmt word.From _ _
-    (bare_then unlined_name unlined_stmt named named _ _ bare_named (λ table. bare_word unlined_stmt word.Key _ _ (bare_then (map unlined_expr) unlined_stmt keys keys _ _ bare_keys (λ key.
-    bare_then unlined_body unlined_stmt b b _ _ h (λ found. bare_word unlined_stmt word.Else _ _ (bare_then unlined_body unlined_stmt b b _ _ h
-    (λ absent. bare_done unlined_stmt (stmt.Get name table key found absent) _ (sym (unlined_get name table key found absent)))))))))))
+bare_get b h = bare_then unlined_name unlined_stmt (named_behind word.Get) (named_behind word.Get) _ _ (bare_named_behind word.Get) (λ name.
+    bare_then unlined_keyed unlined_stmt (keyed word.From) (keyed word.From) _ _ (bare_keyed word.From) (λ row.
+    bare_then unlined_blocks unlined_stmt (two_blocks b) (two_blocks b) _ _ (bare_two b h)
+    (λ both. bare_done unlined_stmt (stmt.Get name row.0 row.1 both.0 both.1) _ (sym (unlined_get name row.0 row.1 both.0 both.1)))))
 
-bare_span : (w : Word) → IsBare (option_map unlined_expr) (span_end w) (span_end w)
-bare_span w = bare_behind (option_map unlined_expr) (is_word w) some_expression some_expression (done None) (done None)
+bare_span_end : (w : Word) → IsBare (option_map unlined_expr) (span_end w) (span_end w)
+bare_span_end w = bare_behind (option_map unlined_expr) (is_word w) some_expression some_expression (done None) (done None)
     (bare_then unlined_expr (option_map unlined_expr) expression expression _ _ bare_expression (λ e. bare_done (option_map unlined_expr) (Some e) (Some (unlined_expr e)) refl))
     (bare_done (option_map unlined_expr) None None refl)
 
+abbrev unlined_span : Named × Option Expr × Option Expr → Named × Option Expr × Option Expr
+unlined_span span = (unlined_name span.0, option_map unlined_expr span.1, option_map unlined_expr span.2)
+
+bare_span : IsBare unlined_span span span
+bare_span = bare_word unlined_span word.Span _ _ (bare_then unlined_name unlined_span (named_behind word.On) (named_behind word.On) _ _ (bare_named_behind word.On) (λ column.
+    bare_then (option_map unlined_expr) unlined_span (span_end word.From) (span_end word.From) _ _ (bare_span_end word.From) (λ low.
+    bare_then (option_map unlined_expr) unlined_span (span_end word.To) (span_end word.To) _ _ (bare_span_end word.To)
+    (λ high. bare_done unlined_span (column, low, high) (unlined_name column, option_map unlined_expr low, option_map unlined_expr high) refl))))
+
 bare_for : (b : Reader (List Stmt)) → IsBare unlined_body b b → IsBare unlined_stmt (for_statement b) (for_statement b)
-bare_for b h = bare_word unlined_stmt word.For _ _ (bare_then unlined_name unlined_stmt named named _ _ bare_named (λ name. bare_word unlined_stmt word.In _ _
-    (bare_then unlined_name unlined_stmt named named _ _ bare_named (λ table. bare_word unlined_stmt word.Span _ _ (bare_word unlined_stmt word.On _ _
-    (bare_then unlined_name unlined_stmt named named _ _ bare_named (λ column.
-    bare_then (option_map unlined_expr) unlined_stmt (span_end word.From) (span_end word.From) _ _ (bare_span word.From) (λ low.
-    bare_then (option_map unlined_expr) unlined_stmt (span_end word.To) (span_end word.To) _ _ (bare_span word.To) (λ high.
-    bare_then unlined_body unlined_stmt b b _ _ h (λ body. bare_done unlined_stmt (stmt.For name table column low high body) _ (sym (unlined_for name table column low high body))))))))))))
+bare_for b h = bare_then unlined_name unlined_stmt (named_behind word.For) (named_behind word.For) _ _ (bare_named_behind word.For) (λ name.
+    bare_then unlined_name unlined_stmt (named_behind word.In) (named_behind word.In) _ _ (bare_named_behind word.In) (λ table.
+    bare_then unlined_span unlined_stmt span span _ _ bare_span (λ span. bare_then unlined_body unlined_stmt b b _ _ h
+    (λ body. bare_done unlined_stmt (stmt.For name table span.0 span.1 span.2 body) _ (sym (unlined_for name table span.0 span.1 span.2 body))))))
 
 bare_insert : IsBare unlined_stmt insert_statement insert_statement
-bare_insert = bare_word unlined_stmt word.Insert _ _ (bare_then unlined_name unlined_stmt named named _ _ bare_named (λ table. bare_then (map unlined_expr) unlined_stmt keys keys _ _ bare_keys
-    (λ values. bare_sign unlined_stmt sign.Semicolon _ _ (bare_done unlined_stmt (stmt.Insert table values) _ (sym (unlined_insert table values))))))
+bare_insert = bare_then unlined_name unlined_stmt (named_behind word.Insert) (named_behind word.Insert) _ _ (bare_named_behind word.Insert) (λ table.
+    bare_then (map unlined_expr) unlined_stmt keys keys _ _ bare_keys (λ values. bare_ended (stmt.Insert table values) _ (sym (unlined_insert table values))))
 
 bare_change : IsBare unlined_change change change
-bare_change = bare_then unlined_name unlined_change named named _ _ bare_named (λ column. bare_sign unlined_change sign.Equal _ _ (bare_then unlined_expr unlined_change expression expression _ _ bare_expression
-    (λ e. bare_done unlined_change (record { column = column; value = e }) (record { column = unlined_name column; value = unlined_expr e }) refl)))
+bare_change = bare_then unlined_name unlined_change named named _ _ bare_named (λ column. bare_then unlined_expr unlined_change new_value new_value _ _ bare_new_value
+    (λ e. bare_done unlined_change (record { column = column; value = e }) (record { column = unlined_name column; value = unlined_expr e }) refl))
+
+bare_changes : IsBare (map unlined_change) changes changes
+bare_changes = bare_word (map unlined_change) word.Set (list_of change) (list_of change) (bare_list unlined_change change change bare_change)
 
 bare_update : IsBare unlined_stmt update_statement update_statement
-bare_update = bare_word unlined_stmt word.Update _ _ (bare_then unlined_name unlined_stmt named named _ _ bare_named (λ table. bare_word unlined_stmt word.Key _ _
-    (bare_then (map unlined_expr) unlined_stmt keys keys _ _ bare_keys (λ key. bare_word unlined_stmt word.Set _ _
-    (bare_then (map unlined_change) unlined_stmt (list_of change) (list_of change) _ _ (bare_list unlined_change change change bare_change)
-    (λ changes. bare_sign unlined_stmt sign.Semicolon _ _ (bare_done unlined_stmt (stmt.Update table key changes) _ (sym (unlined_update table key changes)))))))))
+bare_update = bare_then unlined_keyed unlined_stmt (keyed word.Update) (keyed word.Update) _ _ (bare_keyed word.Update) (λ row.
+    bare_then (map unlined_change) unlined_stmt changes changes _ _ bare_changes
+    (λ changes. bare_ended (stmt.Update row.0 row.1 changes) _ (sym (unlined_update row.0 row.1 changes))))
 
 bare_delete : IsBare unlined_stmt delete_statement delete_statement
-bare_delete = bare_word unlined_stmt word.Delete _ _ (bare_then unlined_name unlined_stmt named named _ _ bare_named (λ table. bare_word unlined_stmt word.Key _ _
-    (bare_then (map unlined_expr) unlined_stmt keys keys _ _ bare_keys
-    (λ key. bare_sign unlined_stmt sign.Semicolon _ _ (bare_done unlined_stmt (stmt.Delete table key) _ (sym (unlined_delete table key)))))))
+bare_delete = bare_then unlined_keyed unlined_stmt (keyed word.Delete) (keyed word.Delete) _ _ (bare_keyed word.Delete)
+    (λ row. bare_ended (stmt.Delete row.0 row.1) _ (sym (unlined_delete row.0 row.1)))
 
 abbrev same_text : List ℕ → List ℕ
 same_text text = text
 
 bare_fail : IsBare unlined_stmt fail_statement fail_statement
 bare_fail = bare_word unlined_stmt word.Fail _ _ (bare_then same_text unlined_stmt text_rule text_rule _ _ (bare_one same_text _ (λ t. option_same _))
-    (λ text. bare_sign unlined_stmt sign.Semicolon _ _ (bare_done unlined_stmt (stmt.Fail text) _ (sym (unlined_fail text)))))
+    (λ text. bare_ended (stmt.Fail text) _ (sym (unlined_fail text))))
 
 bare_by : (b : Reader (List Stmt)) → IsBare unlined_body b b → (h : Head) → IsBare unlined_stmt (statement_by b h) (statement_by b h)
 bare_by b l head.Let = bare_let
@@ -225,13 +265,19 @@ bare_block (suc more) = bare_sign unlined_body sign.OpenBrace _ _ (bare_then unl
 
 -- ---- declarations
 
-bare_table : IsBare unlined_table table table
-bare_table = bare_word unlined_table word.Table _ _ (bare_then unlined_name unlined_table named named _ _ bare_named
-    (λ name. bare_then (map unlined_column) unlined_table columns columns _ _ bare_columns
-    (λ columns. bare_word unlined_table word.Key _ _ (bare_then (map unlined_name) unlined_table names names _ _ bare_names
-    (λ key. bare_then (map unlined_name) unlined_table (behind (is_word word.Index) names (done [])) (behind (is_word word.Index) names (done [])) _ _
+abbrev unlined_table_end : List Named × List Named → List Named × List Named
+unlined_table_end end = (map unlined_name end.0, map unlined_name end.1)
+
+bare_table_end : IsBare unlined_table_end table_end table_end
+bare_table_end = bare_word unlined_table_end word.Key _ _ (bare_then (map unlined_name) unlined_table_end names names _ _ bare_names
+    (λ key. bare_then (map unlined_name) unlined_table_end (behind (is_word word.Index) names (done [])) (behind (is_word word.Index) names (done [])) _ _
     (bare_behind (map unlined_name) (is_word word.Index) names names (done []) (done []) bare_names (bare_done (map unlined_name) [] [] refl))
-    (λ index. bare_sign unlined_table sign.Semicolon _ _ (bare_done unlined_table (record { name = name; columns = columns; key = key; index = index }) _ refl)))))))
+    (λ index. bare_sign unlined_table_end sign.Semicolon _ _ (bare_done unlined_table_end (key, index) (map unlined_name key, map unlined_name index) refl))))
+
+bare_table : IsBare unlined_table table table
+bare_table = bare_then unlined_name unlined_table (named_behind word.Table) (named_behind word.Table) _ _ (bare_named_behind word.Table) (λ name.
+    bare_then (map unlined_column) unlined_table columns columns _ _ bare_columns (λ columns. bare_then unlined_table_end unlined_table table_end table_end _ _ bare_table_end
+    (λ end. bare_done unlined_table (record { name = name; columns = columns; key = end.0; index = end.1 }) _ refl)))
 
 bare_parameters : IsBare (map unlined_column) parameters parameters
 bare_parameters = bare_sign (map unlined_column) sign.Open _ _ (bare_behind (map unlined_column) (is_sign sign.Close) (done []) (done []) more_parameters more_parameters (bare_done (map unlined_column) [] [] refl)
@@ -239,9 +285,9 @@ bare_parameters = bare_sign (map unlined_column) sign.Open _ _ (bare_behind (map
     (λ params. bare_sign (map unlined_column) sign.Close _ _ (bare_done (map unlined_column) params (map unlined_column params) refl))))
 
 bare_procedure : IsBare unlined_procedure procedure procedure
-bare_procedure = bare_word unlined_procedure word.Proc _ _ (bare_then unlined_name unlined_procedure named named _ _ bare_named
-    (λ name. bare_then (map unlined_column) unlined_procedure parameters parameters _ _ bare_parameters (λ params. bare_then unlined_body unlined_procedure block block _ _ (bare_block 16)
-    (λ body. bare_done unlined_procedure (record { name = name; params = params; body = body }) _ refl))))
+bare_procedure = bare_then unlined_name unlined_procedure (named_behind word.Proc) (named_behind word.Proc) _ _ (bare_named_behind word.Proc) (λ name.
+    bare_then (map unlined_column) unlined_procedure parameters parameters _ _ bare_parameters (λ params. bare_then unlined_body unlined_procedure block block _ _ (bare_block 16)
+    (λ body. bare_done unlined_procedure (record { name = name; params = params; body = body }) _ refl)))
 
 pub bare_application : IsBare unlined application application
 bare_application = bare_then (map unlined_table) unlined (many_of (is_word word.Table) table) (many_of (is_word word.Table) table) _ _ (bare_many unlined_table (is_word word.Table) table table bare_table)

@@ -53,6 +53,14 @@ pub tells_then : {A B : Type 0} → (heard : Spoken) (own : A → Spoken) (say :
     → Tells silent own p → ((x : A) → Tells (after heard own x) say (f x)) → Tells heard say (p >>= f)
 tells_then heard own say p f hp hf = record { told = λ ts. told_then heard own say ts (p ts) f (hp.told ts) hf }
 
+told_heard : {A : Type 0} → (heard : Spoken) (own : A → Spoken) (ts : List Token) (r : Read A) → Told silent own ts r → Told heard (after heard own) ts r
+told_heard heard own ts (Ok x) h = ap heard h
+told_heard heard own ts (Err rest) h = tt
+
+-- what is said before a phrase stands before its tokens
+pub tells_heard : {A : Type 0} → (heard : Spoken) (own : A → Spoken) (p : Reader A) → Tells silent own p → Tells heard (after heard own) p
+tells_heard heard own p h = record { told = λ ts. told_heard heard own ts (p ts) (h.told ts) }
+
 -- ---- by the next token
 
 told_past : {A : Type 0} → (b : Bool) (heard : Spoken) (l : Lexeme) (say : A → Spoken) (t : Token) (ts : List Token) (go : Reader A) (stay : Read A) → (b ≡ true → t.lexeme ≡ l)

@@ -2,6 +2,8 @@
 use Rattle.std.proofs.Common.{◌≡◌, ℕ, zero, suc, List, [], ◌∷◌, ◌++◌, map, Bool, true, false, Option, Some, None, Ok, Err, ◌<◌, length, length-append, arith, refl, sym, ap}
 use Rattle.rel_base.specs.declared.value.Value.TheVariants as value
 use Rattle.proc_syntax.specs.declared.tree.Named.{Named}
+use Rattle.proc_syntax.specs.declared.tree.Change.{Change}
+use Rattle.proc_syntax.specs.declared.tree.Expr.{Expr}
 use Rattle.proc_syntax.specs.declared.tree.Expr.TheVariants as expr
 use Rattle.proc_syntax.specs.declared.tree.Stmt.{Stmt}
 use Rattle.proc_syntax.specs.declared.tree.Stmt.TheVariants as stmt
@@ -16,13 +18,13 @@ use Rattle.proc_parse.specs.declared.statements.Head.TheVariants as head
 use Rattle.proc_parse.specs.Words.{is_word, is_sign}
 use Rattle.proc_parse.specs.Reading.{Read, Reader, on_read, ◌>>=◌, ◌>>◌, done, past, if_past, behind, before, expect}
 use Rattle.proc_parse.specs.Lists.{list_from, list_of, many_of}
-use Rattle.proc_parse.specs.Phrases.{the_sign, in_parens, name_of, named, kind_of_lexeme, kind_of_word, kind_rule, column, columns, names}
+use Rattle.proc_parse.specs.Phrases.{the_sign, ended, in_parens, name_of, named, named_behind, kind_of_lexeme, kind_of_word, kind_rule, column, columns, names}
 use Rattle.proc_parse.specs.Expressions.{comparison_op, or_op, and_op, sum_op, term_op, value_of, literal_of, literal, is_name, field_of, name_or_field, line_where, line_at, Inner, inner, deeper, atom_of, unary_of, term_of, sum_of, comparison_of, negation_of, conjunction_of, expression_of, expression}
-use Rattle.proc_parse.specs.Statements.{keys, let_statement, assignment, some_block, if_statement, get_statement, some_expression, span_end, for_statement, insert_statement, change, update_statement, delete_statement, fail_statement, text_of, text_rule, head_of, statement_by, statement_of, no_close, block_at, block}
-use Rattle.proc_parse.specs.Grammar.{table, more_parameters, parameters, procedure, is_end, application}
-use Rattle.proc_print.proofs.Spoken.{Spoken, silent, say_word, say_sign, say_name, say_listed, say_parens, say_all, op_lexeme, say_expr, say_change, say_end, in_turn, say_stmt, kind_word, say_column, say_index, say_table, say_procedure, say_app}
+use Rattle.proc_parse.specs.Statements.{keys, keyed, new_value, let_statement, assignment, some_block, branches, if_statement, two_blocks, get_statement, some_expression, span_end, span, for_statement, insert_statement, change, changes, update_statement, delete_statement, fail_statement, text_of, text_rule, head_of, statement_by, statement_of, no_close, block_at, block}
+use Rattle.proc_parse.specs.Grammar.{table_end, table, more_parameters, parameters, procedure, is_end, application}
+use Rattle.proc_print.proofs.Spoken.{Spoken, silent, say_word, say_sign, say_name, say_listed, say_parens, say_all, op_lexeme, say_expr, say_keyed, say_change, say_end, in_turn, say_stmt, kind_word, say_column, say_index, say_table, say_procedure, say_app}
 use Rattle.proc_print.proofs.SpokenTrees.{said_value, said_var, said_field, said_not, said_neg, said_paren, said_two, say_body, say_other, said_let, said_assign, said_if, said_get, said_for, said_insert, said_update, said_delete, said_fail}
-use Rattle.proc_print.proofs.Tells.{Where, Told, Tells, that_word, that_sign, tells_done, tells_refuse, tells_then, tells_behind, tells_before, tells_first, tells_expect, tells_word, tells_sign, tells_one, tells_op, tells_chain, tells_list, tells_many}
+use Rattle.proc_print.proofs.Tells.{Where, Told, Tells, after, that_word, that_sign, tells_done, tells_refuse, tells_then, tells_heard, tells_behind, tells_before, tells_first, tells_expect, tells_word, tells_sign, tells_one, tells_op, tells_chain, tells_list, tells_many}
 
 tells_parens : {A : Type 0} → (phrase : Reader A) (say : A → Spoken) → Tells silent say phrase
     → Tells silent (λ x r. say_sign sign.Open (say x (say_sign sign.Close r))) (in_parens phrase)
@@ -33,6 +35,9 @@ name_told l line = elim l as (λ l. Where (name_of l line) (λ x. (r : List Lexe
 
 tells_named : Tells silent say_name named
 tells_named = tells_one say_name _ (λ t. name_told t.lexeme t.line)
+
+tells_named_behind : (w : Word) → Tells silent (after (say_word w) say_name) (named_behind w)
+tells_named_behind w = tells_word silent _ w named (tells_heard (say_word w) say_name named tells_named)
 
 kind_told_word : (w : Word) → Where (kind_of_word w) (λ k. (r : List Lexeme) → lexeme.Word w ∷ r ≡ say_word (kind_word k) r)
 kind_told_word w = elim w as (λ w. Where (kind_of_word w) (λ k. (r : List Lexeme) → lexeme.Word w ∷ r ≡ say_word (kind_word k) r))
@@ -159,54 +164,95 @@ tells_expression = tells_whole (inner 16) (tells_inner 16)
 tells_keys : Tells silent (say_parens say_expr) keys
 tells_keys = tells_parens (list_of expression) (say_listed say_expr) (tells_list expression say_expr tells_expression)
 
+abbrev say_keyed_behind : Word → Named × List Expr → Spoken
+say_keyed_behind w row r = say_word w (say_keyed row.0 row.1 r)
+
+tells_keyed : (w : Word) → Tells silent (say_keyed_behind w) (keyed w)
+tells_keyed w = tells_then silent (after (say_word w) say_name) (say_keyed_behind w) (named_behind w) _ (tells_named_behind w) (λ table. tells_word _ (say_keyed_behind w) word.Key _
+    (tells_then _ (say_parens say_expr) (say_keyed_behind w) keys _ tells_keys (λ key. tells_done _ (say_keyed_behind w) (table, key) (λ r. refl))))
+
+abbrev say_value : Expr → Spoken
+say_value e r = say_sign sign.Equal (say_expr e r)
+
+tells_new_value : Tells silent say_value new_value
+tells_new_value = tells_sign silent say_value sign.Equal expression (tells_heard (say_sign sign.Equal) say_expr expression tells_expression)
+
+tells_ended : (heard : Spoken) (statement : Stmt) → ((r : List Lexeme) → heard (say_sign sign.Semicolon r) ≡ say_stmt statement r) → Tells heard say_stmt (ended sign.Semicolon statement)
+tells_ended heard statement said = tells_sign heard say_stmt sign.Semicolon _ (tells_done _ say_stmt statement said)
+
 tells_let : Tells silent say_stmt let_statement
-tells_let = tells_word _ say_stmt word.Let _ (tells_then _ say_name say_stmt named _ tells_named (λ name. tells_sign _ say_stmt sign.Equal _ (tells_then _ say_expr say_stmt expression _ tells_expression
-    (λ e. tells_sign _ say_stmt sign.Semicolon _ (tells_done _ say_stmt (stmt.Let name e) (λ r. sym (said_let name e r)))))))
+tells_let = tells_then _ (after (say_word word.Let) say_name) say_stmt (named_behind word.Let) _ (tells_named_behind word.Let) (λ name. tells_then _ say_value say_stmt new_value _ tells_new_value
+    (λ e. tells_ended _ (stmt.Let name e) (λ r. sym (said_let name e r))))
 
 tells_assignment : Tells silent say_stmt assignment
-tells_assignment = tells_then _ say_name say_stmt named _ tells_named (λ name. tells_sign _ say_stmt sign.Equal _ (tells_then _ say_expr say_stmt expression _ tells_expression
-    (λ e. tells_sign _ say_stmt sign.Semicolon _ (tells_done _ say_stmt (stmt.Assign name e) (λ r. sym (said_assign name e r))))))
+tells_assignment = tells_then _ say_name say_stmt named _ tells_named (λ name. tells_then _ say_value say_stmt new_value _ tells_new_value
+    (λ e. tells_ended _ (stmt.Assign name e) (λ r. sym (said_assign name e r))))
 
 tells_else : (b : Reader (List Stmt)) → Tells silent say_body b → Tells silent say_other (behind (is_word word.Else) (some_block b) (done None))
 tells_else b l = tells_behind (is_word word.Else) (lexeme.Word word.Else) (that_word word.Else) silent say_other (some_block b) (done None)
     (tells_then _ say_body say_other b _ l (λ body. tells_done _ say_other (Some body) (λ r. refl))) (tells_done _ say_other None (λ r. refl))
 
+abbrev say_branches : List Stmt × Option (List Stmt) → Spoken
+say_branches both r = say_body both.0 (say_other both.1 r)
+
+tells_branches : (b : Reader (List Stmt)) → Tells silent say_body b → Tells silent say_branches (branches b)
+tells_branches b l = tells_then _ say_body say_branches b _ l (λ body. tells_then _ say_other say_branches (behind (is_word word.Else) (some_block b) (done None)) _ (tells_else b l)
+    (λ other. tells_done _ say_branches (body, other) (λ r. refl)))
+
 tells_if : (b : Reader (List Stmt)) → Tells silent say_body b → Tells silent say_stmt (if_statement b)
-tells_if b l = tells_word _ say_stmt word.If _ (tells_then _ say_expr say_stmt expression _ tells_expression (λ test. tells_then _ say_body say_stmt b _ l (λ body.
-    tells_then _ say_other say_stmt (behind (is_word word.Else) (some_block b) (done None)) _ (tells_else b l)
-    (λ other. tells_done _ say_stmt (stmt.If test body other) (λ r. sym (said_if test body other r))))))
+tells_if b l = tells_word _ say_stmt word.If _ (tells_then _ say_expr say_stmt expression _ tells_expression (λ test. tells_then _ say_branches say_stmt (branches b) _ (tells_branches b l)
+    (λ both. tells_done _ say_stmt (stmt.If test both.0 both.1) (λ r. sym (said_if test both.0 both.1 r)))))
+
+abbrev say_two : List Stmt × List Stmt → Spoken
+say_two both r = say_body both.0 (say_word word.Else (say_body both.1 r))
+
+tells_two : (b : Reader (List Stmt)) → Tells silent say_body b → Tells silent say_two (two_blocks b)
+tells_two b l = tells_then _ say_body say_two b _ l (λ found. tells_word _ say_two word.Else _ (tells_then _ say_body say_two b _ l
+    (λ absent. tells_done _ say_two (found, absent) (λ r. refl))))
 
 tells_get : (b : Reader (List Stmt)) → Tells silent say_body b → Tells silent say_stmt (get_statement b)
-tells_get b l = tells_word _ say_stmt word.Get _ (tells_then _ say_name say_stmt named _ tells_named (λ name. tells_word _ say_stmt word.From _ (tells_then _ say_name say_stmt named _ tells_named (λ table.
-    tells_word _ say_stmt word.Key _ (tells_then _ (say_parens say_expr) say_stmt keys _ tells_keys (λ key. tells_then _ say_body say_stmt b _ l (λ found. tells_word _ say_stmt word.Else _ (tells_then _ say_body say_stmt b _ l
-    (λ absent. tells_done _ say_stmt (stmt.Get name table key found absent) (λ r. sym (said_get name table key found absent r)))))))))))
+tells_get b l = tells_then _ (after (say_word word.Get) say_name) say_stmt (named_behind word.Get) _ (tells_named_behind word.Get) (λ name.
+    tells_then _ (say_keyed_behind word.From) say_stmt (keyed word.From) _ (tells_keyed word.From) (λ row. tells_then _ say_two say_stmt (two_blocks b) _ (tells_two b l)
+    (λ both. tells_done _ say_stmt (stmt.Get name row.0 row.1 both.0 both.1) (λ r. sym (said_get name row.0 row.1 both.0 both.1 r)))))
 
-tells_span : (w : Word) → Tells silent (say_end w) (span_end w)
-tells_span w = tells_behind (is_word w) (lexeme.Word w) (that_word w) silent (say_end w) some_expression (done None)
+tells_span_end : (w : Word) → Tells silent (say_end w) (span_end w)
+tells_span_end w = tells_behind (is_word w) (lexeme.Word w) (that_word w) silent (say_end w) some_expression (done None)
     (tells_then _ say_expr (say_end w) expression _ tells_expression (λ e. tells_done _ (say_end w) (Some e) (λ r. refl))) (tells_done _ (say_end w) None (λ r. refl))
 
+abbrev say_span : Named × Option Expr × Option Expr → Spoken
+say_span span r = say_word word.Span (say_word word.On (say_name span.0 (say_end word.From span.1 (say_end word.To span.2 r))))
+
+tells_span : Tells silent say_span span
+tells_span = tells_word silent say_span word.Span _ (tells_then _ (after (say_word word.On) say_name) say_span (named_behind word.On) _ (tells_named_behind word.On) (λ column.
+    tells_then _ (say_end word.From) say_span (span_end word.From) _ (tells_span_end word.From) (λ low. tells_then _ (say_end word.To) say_span (span_end word.To) _ (tells_span_end word.To)
+    (λ high. tells_done _ say_span (column, low, high) (λ r. refl)))))
+
 tells_for : (b : Reader (List Stmt)) → Tells silent say_body b → Tells silent say_stmt (for_statement b)
-tells_for b l = tells_word _ say_stmt word.For _ (tells_then _ say_name say_stmt named _ tells_named (λ name. tells_word _ say_stmt word.In _ (tells_then _ say_name say_stmt named _ tells_named (λ table.
-    tells_word _ say_stmt word.Span _ (tells_word _ say_stmt word.On _ (tells_then _ say_name say_stmt named _ tells_named (λ column.
-    tells_then _ (say_end word.From) say_stmt (span_end word.From) _ (tells_span word.From) (λ low. tells_then _ (say_end word.To) say_stmt (span_end word.To) _ (tells_span word.To) (λ high.
-    tells_then _ say_body say_stmt b _ l (λ body. tells_done _ say_stmt (stmt.For name table column low high body) (λ r. sym (said_for name table column low high body r))))))))))))
+tells_for b l = tells_then _ (after (say_word word.For) say_name) say_stmt (named_behind word.For) _ (tells_named_behind word.For) (λ name.
+    tells_then _ (after (say_word word.In) say_name) say_stmt (named_behind word.In) _ (tells_named_behind word.In) (λ table. tells_then _ say_span say_stmt span _ tells_span (λ span.
+    tells_then _ say_body say_stmt b _ l (λ body. tells_done _ say_stmt (stmt.For name table span.0 span.1 span.2 body) (λ r. sym (said_for name table span.0 span.1 span.2 body r))))))
 
 tells_insert : Tells silent say_stmt insert_statement
-tells_insert = tells_word _ say_stmt word.Insert _ (tells_then _ say_name say_stmt named _ tells_named (λ table. tells_then _ (say_parens say_expr) say_stmt keys _ tells_keys
-    (λ values. tells_sign _ say_stmt sign.Semicolon _ (tells_done _ say_stmt (stmt.Insert table values) (λ r. sym (said_insert table values r))))))
+tells_insert = tells_then _ (after (say_word word.Insert) say_name) say_stmt (named_behind word.Insert) _ (tells_named_behind word.Insert) (λ table.
+    tells_then _ (say_parens say_expr) say_stmt keys _ tells_keys (λ values. tells_ended _ (stmt.Insert table values) (λ r. sym (said_insert table values r))))
 
 tells_change : Tells silent say_change change
-tells_change = tells_then _ say_name say_change named _ tells_named (λ column. tells_sign _ say_change sign.Equal _ (tells_then _ say_expr say_change expression _ tells_expression
-    (λ e. tells_done _ say_change (record { column = column; value = e }) (λ r. refl))))
+tells_change = tells_then _ say_name say_change named _ tells_named (λ column. tells_then _ say_value say_change new_value _ tells_new_value
+    (λ e. tells_done _ say_change (record { column = column; value = e }) (λ r. refl)))
+
+abbrev say_changes : List Change → Spoken
+say_changes changes r = say_word word.Set (say_listed say_change changes r)
+
+tells_changes : Tells silent say_changes changes
+tells_changes = tells_word silent say_changes word.Set (list_of change) (tells_heard (say_word word.Set) (say_listed say_change) (list_of change) (tells_list change say_change tells_change))
 
 tells_update : Tells silent say_stmt update_statement
-tells_update = tells_word _ say_stmt word.Update _ (tells_then _ say_name say_stmt named _ tells_named (λ table. tells_word _ say_stmt word.Key _ (tells_then _ (say_parens say_expr) say_stmt keys _ tells_keys (λ key.
-    tells_word _ say_stmt word.Set _ (tells_then _ (say_listed say_change) say_stmt (list_of change) _ (tells_list change say_change tells_change)
-    (λ changes. tells_sign _ say_stmt sign.Semicolon _ (tells_done _ say_stmt (stmt.Update table key changes) (λ r. sym (said_update table key changes r)))))))))
+tells_update = tells_then _ (say_keyed_behind word.Update) say_stmt (keyed word.Update) _ (tells_keyed word.Update) (λ row. tells_then _ say_changes say_stmt changes _ tells_changes
+    (λ changes. tells_ended _ (stmt.Update row.0 row.1 changes) (λ r. sym (said_update row.0 row.1 changes r))))
 
 tells_delete : Tells silent say_stmt delete_statement
-tells_delete = tells_word _ say_stmt word.Delete _ (tells_then _ say_name say_stmt named _ tells_named (λ table. tells_word _ say_stmt word.Key _ (tells_then _ (say_parens say_expr) say_stmt keys _ tells_keys
-    (λ key. tells_sign _ say_stmt sign.Semicolon _ (tells_done _ say_stmt (stmt.Delete table key) (λ r. sym (said_delete table key r)))))))
+tells_delete = tells_then _ (say_keyed_behind word.Delete) say_stmt (keyed word.Delete) _ (tells_keyed word.Delete)
+    (λ row. tells_ended _ (stmt.Delete row.0 row.1) (λ r. sym (said_delete row.0 row.1 r)))
 
 abbrev say_text : List ℕ → Spoken
 say_text text r = lexeme.Text text ∷ r
@@ -216,7 +262,7 @@ text_told l = elim l as (λ l. Where (text_of l) (λ text. (r : List Lexeme) →
 
 tells_fail : Tells silent say_stmt fail_statement
 tells_fail = tells_word _ say_stmt word.Fail _ (tells_then _ say_text say_stmt text_rule _ (tells_one say_text _ (λ t. text_told t.lexeme))
-    (λ text. tells_sign _ say_stmt sign.Semicolon _ (tells_done _ say_stmt (stmt.Fail text) (λ r. sym (said_fail text r)))))
+    (λ text. tells_ended _ (stmt.Fail text) (λ r. sym (said_fail text r))))
 
 tells_by : (b : Reader (List Stmt)) → Tells silent say_body b → (h : Head) → Tells silent say_stmt (statement_by b h)
 tells_by b l head.Let = tells_let
@@ -282,11 +328,18 @@ tells_index : Tells silent say_index (behind (is_word word.Index) names (done []
 tells_index = tells_behind (is_word word.Index) (lexeme.Word word.Index) (that_word word.Index) silent say_index names (done [])
     (record { told = λ ts. index_told ts (names ts) (some_names ts) (tells_names.told ts) }) (tells_done silent say_index [] (λ r. refl))
 
+abbrev say_table_end : List Named × List Named → Spoken
+say_table_end end r = say_word word.Key (say_parens say_name end.0 (say_index end.1 (say_sign sign.Semicolon r)))
+
+tells_table_end : Tells silent say_table_end table_end
+tells_table_end = tells_word silent say_table_end word.Key _ (tells_then _ (say_parens say_name) say_table_end names _ tells_names (λ key.
+    tells_then _ say_index say_table_end (behind (is_word word.Index) names (done [])) _ tells_index
+    (λ index. tells_sign _ say_table_end sign.Semicolon _ (tells_done _ say_table_end (key, index) (λ r. refl)))))
+
 tells_table : Tells silent say_table table
-tells_table = tells_word _ say_table word.Table _ (tells_then _ say_name say_table named _ tells_named (λ name. tells_then _ (say_parens say_column) say_table columns _ tells_columns (λ columns.
-    tells_word _ say_table word.Key _ (tells_then _ (say_parens say_name) say_table names _ tells_names (λ key.
-    tells_then _ say_index say_table (behind (is_word word.Index) names (done [])) _ tells_index
-    (λ index. tells_sign _ say_table sign.Semicolon _ (tells_done _ say_table (record { name = name; columns = columns; key = key; index = index }) (λ r. refl))))))))
+tells_table = tells_then _ (after (say_word word.Table) say_name) say_table (named_behind word.Table) _ (tells_named_behind word.Table) (λ name.
+    tells_then _ (say_parens say_column) say_table columns _ tells_columns (λ columns. tells_then _ say_table_end say_table table_end _ tells_table_end
+    (λ end. tells_done _ say_table (record { name = name; columns = columns; key = end.0; index = end.1 }) (λ r. refl))))
 
 -- there may be no parameter, and then nothing is said between the parentheses
 tells_parameters : Tells silent (say_parens say_column) parameters
@@ -296,8 +349,9 @@ tells_parameters = tells_sign _ (say_parens say_column) sign.Open _ (tells_behin
     (λ params. tells_sign _ (say_parens say_column) sign.Close _ (tells_done _ (say_parens say_column) params (λ r. refl)))))
 
 tells_procedure : Tells silent say_procedure procedure
-tells_procedure = tells_word _ say_procedure word.Proc _ (tells_then _ say_name say_procedure named _ tells_named (λ name. tells_then _ (say_parens say_column) say_procedure parameters _ tells_parameters (λ params.
-    tells_then _ say_body say_procedure block _ (tells_block 16) (λ body. tells_done _ say_procedure (record { name = name; params = params; body = body }) (λ r. refl)))))
+tells_procedure = tells_then _ (after (say_word word.Proc) say_name) say_procedure (named_behind word.Proc) _ (tells_named_behind word.Proc) (λ name.
+    tells_then _ (say_parens say_column) say_procedure parameters _ tells_parameters (λ params.
+    tells_then _ say_body say_procedure block _ (tells_block 16) (λ body. tells_done _ say_procedure (record { name = name; params = params; body = body }) (λ r. refl))))
 
 that_end : (m : Lexeme) → is_end m ≡ true → m ≡ lexeme.End
 that_end m = elim m as (λ m. is_end m ≡ true → m ≡ lexeme.End) [ lexeme.End ↦ λ h. refl | _ ↦ λ h. absurd cc ]

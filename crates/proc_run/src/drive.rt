@@ -47,6 +47,20 @@ fn serve<S: Snapshot>(alloc: Global, machine: &mut Machine, source: &S) -> Resul
     }
 }
 
+/// Answers the reads of a machine up to its end. It asks at most 100,000 times.
+fn serve_all<S: Snapshot>(alloc: Global, machine: &mut Machine, source: &S) -> Result<(), NoMemory>
+    requires asks { machine.old.asks ≡ None }
+    requires declared { S.declared source.now ≡ tables_of machine.old.app }
+    requires fit { TablesFit (tables_of machine.old.app) (S.tables source.now) }
+    requires agrees { Agrees (tables_of machine.old.app) (S.tables source.now) machine.old.fed }
+    ensures same { (machine.new.app ≡ machine.old.app) × (machine.new.tx ≡ machine.old.tx) × (machine.new.time ≡ machine.old.time) }
+    ensures agrees { OnOk result (Agrees (tables_of machine.old.app) (S.tables source.now) machine.new.fed) }
+    ensures ended { OnOk result (machine.new.ended ≡ true) }
+{
+    while serve(alloc, machine, source)? {}
+    Ok(())
+}
+
 /// The run of a call on tables whose rows fit: a machine is fed the rows of each read that it asks, and what it gives is the run. It
 /// asks at most 100,000 times.
 pub fn run_on<S: Snapshot>(
@@ -61,6 +75,6 @@ pub fn run_on<S: Snapshot>(
     ensures { IfOk result (λ r. r ≡ run app.now.value.app tx.now time (S.tables source.now)) }
 {
     let mut machine = Machine::start(alloc, app, tx, time)?;
-    while serve(alloc, &mut machine, source)? {}
+    serve_all(alloc, &mut machine, source)?;
     Ok(machine.finish())
 }

@@ -102,6 +102,13 @@ pub fn settle(
     }
 }
 
+/// A run stands in another way from now on.
+pub fn stand(phase: &mut Phase, next: Phase)
+    ensures { phase.new ≡ next }
+{
+    *phase = next;
+}
+
 /// Goes on to the next read or to the end, where the run is at neither. Where memory is wanting, what remains of it is as before.
 pub fn go_on(
     alloc: Global,
@@ -125,7 +132,8 @@ pub fn go_on(
 {
     match phase {
         Phase::Running => {
-            *phase = advance(alloc, program, spots, run)?;
+            let next = advance(alloc, program, spots, run)?;
+            stand(phase, next);
             Ok(())
         }
         _ => Ok(()),

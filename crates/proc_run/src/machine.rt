@@ -9,7 +9,7 @@ ghost use Rattle.proc_run.specs.declared.path.Branch.TheVariants.{Whole};
 ghost use Rattle.proc_run.specs.declared.path.Spot.TheVariants.{Block};
 ghost use Rattle.proc_run.specs.MachineView.{Agrees, IsNextWant, Tells, WantFits};
 
-use crate::going::{gives, go_to_read, keep, wanted};
+use crate::going::{gives, go_to_read, keep, stand, wanted};
 use crate::path::{Branch, Spot};
 use crate::start::begin_call;
 use crate::state::{Phase, Run, Want};
@@ -21,7 +21,6 @@ use std::marker::Model;
 use std::sync::Arc;
 
 /// A machine that runs a call of a checked application, and gives itself back at each read. It borrows nothing.
-#[derive(Drop)]
 pub struct Machine {
     alloc: Global,
     app: Arc<Checked>,
@@ -34,6 +33,22 @@ pub struct Machine {
     phase: Phase,
     /// Whether the read for whose rows it waits, or its end, was told.
     told: bool,
+}
+
+impl Drop for Machine {
+    fn drop(self) {
+        let Machine {
+            alloc: _,
+            app: _,
+            tx: _,
+            time: _,
+            number: _,
+            spots: _,
+            run: _,
+            phase: _,
+            told: _,
+        } = self;
+    }
 }
 
 impl Model for Machine {
@@ -79,8 +94,8 @@ impl Machine {
     pub fn start(alloc: Global, app: &Arc<Checked>, tx: &Tx, time: i64) -> Result<Machine, NoMemory>
         ensures { IfOk result (λ machine. machine ≡ record { app = app.now.value.app; tx = tx.now; time = time; fed = []; asks = None; ended = false }) }
     {
-        let begun = begin_call(alloc, app.code(), tx)?;
         let (app, tx, spots) = hold_call(alloc, app, tx)?;
+        let begun = begin_call(alloc, app.code(), &tx)?;
         Ok(Machine {
             alloc,
             app,
@@ -128,11 +143,8 @@ impl Machine {
     {
         match std::mem::replace(&mut self.phase, Phase::Running) {
             Phase::Ask { at, read, pending } => {
-                self.phase = Phase::Answered {
-                    at,
-                    made: Made { read, rows },
-                    pending,
-                };
+                let made = Made { read, rows };
+                stand(&mut self.phase, Phase::Answered { at, made, pending });
                 self.told = false;
             }
             _ => unreachable!(),
@@ -149,7 +161,12 @@ impl Machine {
             alloc,
             run,
             phase,
-            ..
+            app: _,
+            tx: _,
+            time: _,
+            number: _,
+            spots: _,
+            told: _,
         } = self;
         gives(alloc, phase, run.own, run.made)
     }
@@ -158,7 +175,17 @@ impl Machine {
     pub fn cut(self) -> List<Made>
         ensures { result ≡ self.fed }
     {
-        let Machine { run, phase, .. } = self;
+        let Machine {
+            run,
+            phase,
+            alloc: _,
+            app: _,
+            tx: _,
+            time: _,
+            number: _,
+            spots: _,
+            told: _,
+        } = self;
         let mut made = run.made;
         keep(&mut made, phase);
         List::from_vec(made)

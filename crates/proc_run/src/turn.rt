@@ -68,7 +68,9 @@ pub fn put(slots: &mut List<Option<Binding>>, slot: usize, binding: Binding)
     ensures { slots.new ≡ slice_set slots.old slot (Some binding) }
 {
     if slot < slots.len() {
-        let _ = slots.replace(slot, Some(binding));
+        drop(slots.replace(slot, Some(binding)));
+    } else {
+        drop(binding);
     }
 }
 

@@ -19,13 +19,19 @@ abbrev pub decreases-statement : goal.decreases-statement
 decreases-statement l = 10 * l.depth + 5
 
 abbrev pub decreases-if_statement : goal.decreases-if_statement
-decreases-if_statement l = 10 * l.depth + 3
+decreases-if_statement l = 10 * l.depth + 4
+
+abbrev pub decreases-branches : goal.decreases-branches
+decreases-branches l = 10 * l.depth + 3
 
 abbrev pub decreases-other_block : goal.decreases-other_block
 decreases-other_block l = 10 * l.depth + 2
 
 abbrev pub decreases-get_statement : goal.decreases-get_statement
-decreases-get_statement l = 10 * l.depth + 3
+decreases-get_statement l = 10 * l.depth + 4
+
+abbrev pub decreases-two_blocks : goal.decreases-two_blocks
+decreases-two_blocks l = 10 * l.depth + 3
 
 abbrev pub decreases-for_statement : goal.decreases-for_statement
 decreases-for_statement l = 10 * l.depth + 3

@@ -45,8 +45,8 @@ invariant_of-self-in-Some g c =
           longer,
     )
 
-pub returns-in_ok-make_room-in-Some-clause-held : goal.returns-in_ok-make_room-in-Some-clause-held
-returns-in_ok-make_room-in-Some-clause-held g c =
+pub returns-in_ok-machine-in-Some-clause-held : goal.returns-in_ok-machine-in-Some-clause-held
+returns-in_ok-machine-in-Some-clause-held g c =
     let s = c.self.inside in
     let view : record { app = s.chain.app.value.app; journal = s.journal.items } ≡ c.args.self.now = c.self.view_is ∙ c.choose.ensures.same in
     let chose : chosen c.args.self.now.app (world_of c.args.self.now) c.args.pick ≡ Some c.in-Some.job = search rules in
@@ -72,4 +72,4 @@ returns-in_err-make_room-in-Some-clause-err g c =
     let s = c.self.inside in
     let core : List Entry → Core = λ items. record { app = s.chain.app.value.app; journal = items } in
     let same : c.make_room.new.journal.items ≡ s.journal.items = search rules in
-    on_err c.from_residual-in_err-make_room-in-Some.result (ap core same ∙ c.self.view_is ∙ c.choose.ensures.same)
+    on_err c.from_residual.result (ap core same ∙ c.self.view_is ∙ c.choose.ensures.same)

@@ -11,4 +11,5 @@ invariant_of-self c =
     let app = c.self.inside.app.value.app in
     let order : StandInOrder (tables_of app) c.in-Ask.read c.args.rows = search rules in
     let sound : IsSound app c.self.inside.tx c.self.inside.time c.self.inside.number (phase.Ask c.in-Ask.at c.in-Ask.read c.in-Ask.pending) c.self.inside.spots.items c.self.inside.run c.self.inside.told = search rules in
-    sound_fed app c.self.inside.tx c.self.inside.time c.self.inside.number c.in-Ask.at c.in-Ask.read c.in-Ask.pending c.args.rows c.self.inside.spots.items c.self.inside.run c.self.inside.told sound order
+    rw c.stand.ensures
+    (sound_fed app c.self.inside.tx c.self.inside.time c.self.inside.number c.in-Ask.at c.in-Ask.read c.in-Ask.pending c.args.rows c.self.inside.spots.items c.self.inside.run c.self.inside.told sound order)
