@@ -211,7 +211,7 @@ def checks():
     for name in sorted(os.listdir(CASES)):
         if name == "prefixes-of-a-draft":
             yield from ((check_prefix, name, length) for length in range(os.path.getsize(os.path.join(CASES, name, "b.draft")) + 1))
-        else:
+        elif os.path.exists(os.path.join(CASES, name, "words")):
             yield check_folder, name
 
 

@@ -4,7 +4,9 @@
 A case is a folder: `words` (one word a line), the files that the words name, `stdout` (the bytes wanted) and `status`.
 The folder `prefixes-of-a-draft` has one draft, of which each prefix is a case of its own: a prefix that ends with the
 first line or with an `end` line is a whole draft; of every other one the report is that of the whole draft at its front,
-and ends with the line in which the next byte would stand. Cases at the limits are made by
+and ends with the line in which the next byte would stand. A folder `calls-on-..` has a draft of one block and `calls`, in which each
+call has below it what becomes of it in a block of its own behind that one, and the rows that go (-) and come (+) by it, worked out by
+hand. Cases at the limits are made by
 tests/limits.py, since their files are large and regular. Loads are drawn by tests/loads.py, and `load` has to
 count what `run` reports of them. Usage: run_cases.py PROGRAM
 """
@@ -43,7 +45,7 @@ class Tally:
         self.failed += 1
         print(f"case {name}: wanted status {wanted[0]}, found {found[0]}")
         if wanted[1] != found[1]:
-            print(f"  wanted {wanted[1][:400]!r}\n  found  {found[1][:400]!r}")
+            print(f"  wanted {repr(wanted[1])[:400]}\n  found  {repr(found[1])[:400]}")
 
 
 def run_folder(program, name, tally):
@@ -82,6 +84,35 @@ def run_prefixes(program, name, tally):
             tally.note(f"{name} at {length}", (5, wanted), run_draft(program, scratch, prefix))
 
 
+def calls_in(text):
+    """The calls of a file, each with its outcome and the rows that go and come by it."""
+    calls = []
+    for line in text.splitlines():
+        if not line.startswith("  "):
+            calls.append((line, []))
+        else:
+            calls[-1][1].append(line[2:])
+    return [(call, said[0], sorted(said[1:])) for call, said in calls]
+
+
+def rows_of(report):
+    return {line for line in report.decode().splitlines() if line.startswith("row ")}
+
+
+def run_calls(program, name, tally):
+    folder = os.path.join(CASES, name)
+    draft = read(os.path.join(folder, "b.draft"))
+    with tempfile.TemporaryDirectory() as scratch:
+        shutil.copy(os.path.join(folder, "a.app"), scratch)
+        before = rows_of(run_draft(program, scratch, draft)[1])
+        for call, outcome, changes in calls_in(read(os.path.join(folder, "calls")).decode()):
+            status, report = run_draft(program, scratch, draft + f"block 2\ntx x 1 {call}\nend\n".encode())
+            after = rows_of(report)
+            outcomes = [line[len("tx 1 x ") :] for line in report.decode().splitlines() if line.startswith("tx 1 x ")]
+            found = sorted([f"- {row}" for row in before - after] + [f"+ {row}" for row in after - before])
+            tally.note(f"{name}: {call}", (0, ([outcome], changes)), (status, (outcomes, found)))
+
+
 def run_limits(program, tally):
     for name, files, wanted_status, is_wanted in limits.cases():
         with tempfile.TemporaryDirectory() as scratch:
@@ -110,6 +141,8 @@ def main():
     for name in sorted(os.listdir(CASES)):
         if name == "prefixes-of-a-draft":
             run_prefixes(program, name, tally)
+        elif name.startswith("calls-on-"):
+            run_calls(program, name, tally)
         else:
             run_folder(program, name, tally)
     run_limits(program, tally)

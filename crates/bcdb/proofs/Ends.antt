@@ -59,6 +59,11 @@ told_traced settings (Some files) reply status before now same other replies wri
 pub ends_short : (settings : Option Settings) (files : Files) (before now : Option (List ℕ)) → now ≡ before → EndsTraced settings files NoMemory before now
 ends_short settings files before now same = inl (refl, none_front before now (over_settings settings files).bytes same)
 
+pub told_short : (settings : Option Settings) (told : Option Files) (before now : Option (List ℕ)) (same : Type 0) (other : Files → Type 0) → now ≡ before → same
+    → IfSome told (λ files. (EndsTraced settings files NoMemory before now × same) ⊎ other files)
+told_short settings None before now same other kept is = tt
+told_short settings (Some files) before now same other kept is = inl (ends_short settings files before now kept, is)
+
 -- and where the words are refused
 pub ends_refused : (settings : Option Settings) (files : Files) (status : Status) (before now : Option (List ℕ)) → settings ≡ None → Writes usage_refused status before now
     → EndsTraced settings files status before now

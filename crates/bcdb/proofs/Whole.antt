@@ -1,6 +1,7 @@
 -- The answer is whole exactly where nothing is refused.
 use Rattle.std.proofs.Common.{IfSome, List, None, Option, Some, ap, inl, inr, refl, subst, sym, ◌∙◌, ◌≡◌, ◌⊎◌, ℕ}
 use Rattle.std.specs.Prelude.{Err, IsOk, Ok, Result}
+use Rattle.bcdb.proofs.Ends.{ends_refused, ends_short}
 use Rattle.bcdb.specs.Accepted.{accepted}
 use Rattle.bcdb.specs.Answer.{ProgramAnswer, Writes, all_arrived, arrived_in, cluster_of, over_app, over_arrivals, over_cluster, over_load, over_nodes, over_schedule, over_settings, over_simulation, over_told, over_versions, read_refused, sealed, simulation_of, status_of, usage_refused}
 use Rattle.bcdb.specs.Causes.{RoseAtNamed, RoseInTurn}
@@ -236,3 +237,13 @@ not_done fault.NoMemory status before now usage memory done = short (memory refl
 pub whole_refused : (settings : Option Settings) (told : Option Files) (why : WordsFault) (status : Status) (before now : Option (List ℕ))
     → (why ≡ fault.Usage → Writes usage_refused status before now) → (why ≡ fault.NoMemory → status ≡ NoMemory) → status ≡ Done → IfSome told (IsWhole settings)
 whole_refused settings told why status before now usage memory done = absurd (not_done why status before now usage memory done)
+
+-- how a call ends that was given no settings
+pub ends_by_words : (settings : Option Settings) (told : Option Files) (why : WordsFault) (status : Status) (before now : Option (List ℕ)) (same : Type 0) (other : Files → Type 0)
+    → (why ≡ fault.Usage → settings ≡ None) → (why ≡ fault.Usage → Writes usage_refused status before now) → (why ≡ fault.NoMemory → (status ≡ NoMemory) × (now ≡ before)) → same
+    → IfSome told (λ files. (EndsTraced settings files status before now × same) ⊎ other files)
+ends_by_words settings None why status before now same other none usage memory is = tt
+ends_by_words settings (Some files) fault.Usage status before now same other none usage memory is = inl (ends_refused settings files status before now (none refl) (usage refl), is)
+ends_by_words settings (Some files) fault.NoMemory status before now same other none usage memory is =
+    let short = memory refl in
+    inl (subst (λ (ended : Status). EndsTraced settings files ended before now) (sym short.0) (ends_short settings files before now short.1), is)

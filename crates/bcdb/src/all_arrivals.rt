@@ -78,7 +78,10 @@ pub fn read_all_arrivals<S: Shelf>(
     for node in 1..=asked.nodes {
         match read_node(alloc, shelf, &asked.arrivals, node)? {
             Ok(txs) => all.push(txs)?,
-            Err(line) => return Ok(Err(BadArrivals { node, line })),
+            Err(line) => {
+                drop(all);
+                return Ok(Err(BadArrivals { node, line }));
+            }
         }
     }
     Ok(Ok(all))

@@ -50,9 +50,14 @@ fn take_piece(
 fn end_read(mut reader: ArrivalReader, txs: List<Tx>) -> Result<List<Tx>, u64>
     ensures { (bytes : List ℕ) → HasRead bytes reader txs → arrivals bytes ≡ result }
 {
-    match reader.end() {
+    let ended = reader.end();
+    drop(reader);
+    match ended {
         Ok(()) => Ok(txs),
-        Err(line) => Err(line),
+        Err(line) => {
+            drop(txs);
+            Err(line)
+        }
     }
 }
 
@@ -109,10 +114,19 @@ fn read_through<S: Shelf>(
     let mut txs = List::new(alloc);
     let mut at: u64 = 0;
     loop {
-        match read_piece(shelf, name, at, buffer, &mut reader, &mut txs)? {
-            ArrivalPiece::More(count) => at += count as u64,
-            ArrivalPiece::End => return Ok(end_read(reader, txs)),
-            ArrivalPiece::Stop(line) => return Ok(Err(line)),
+        match read_piece(shelf, name, at, buffer, &mut reader, &mut txs) {
+            Ok(ArrivalPiece::More(count)) => at += count as u64,
+            Ok(ArrivalPiece::End) => return Ok(end_read(reader, txs)),
+            Ok(ArrivalPiece::Stop(line)) => {
+                drop(reader);
+                drop(txs);
+                return Ok(Err(line));
+            }
+            Err(fault) => {
+                drop(reader);
+                drop(txs);
+                return Err(fault);
+            }
         }
     }
 }

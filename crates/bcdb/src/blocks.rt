@@ -110,6 +110,11 @@ pub fn read_blocks<S: Shelf>(alloc: Global, shelf: &mut S, name: &str) -> Result
     ensures counted { Counted result (Rose (S.faults shelf.old name.now) (S.faults shelf.new name.now)) (S.faults shelf.old) (S.faults shelf.new) }
 {
     let mut gatherer = Gatherer::new(alloc);
-    let stop = read_file(alloc, shelf, name, &mut gatherer)?;
-    Ok(gatherer.end(stop))
+    match read_file(alloc, shelf, name, &mut gatherer) {
+        Ok(stop) => Ok(gatherer.end(stop)),
+        Err(fault) => {
+            drop(gatherer);
+            Err(fault)
+        }
+    }
 }

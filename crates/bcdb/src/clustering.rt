@@ -37,17 +37,40 @@ fn run_nodes<R: Threads + Wait + Sync, G: Gate>(
     ensures replies { IfOk result (RepliesNodes asked.now inputs.app.app inputs.read.blocks inputs.read.fault) }
     ensures kind { IfOk result (λ reply. is_answer reply.status ≡ true) }
 {
-    let app = Arc::new(alloc, inputs.app)?;
-    let nodes = run_cluster::<IndexVersions, G, R>(
+    let Inputs {
+        app,
+        arrivals,
+        read,
+    } = inputs;
+    let Ok(app) = Arc::new(alloc, app) else {
+        drop(arrivals);
+        drop(read);
+        return Err(NoMemory);
+    };
+    match run_cluster::<IndexVersions, G, R>(
         rt,
         alloc,
         &app,
-        inputs.read.blocks.as_slice(),
-        inputs.arrivals.as_slice(),
+        read.blocks.as_slice(),
+        arrivals.as_slice(),
         asked.executors,
         gate,
-    )?;
-    report_nodes(alloc, &asked.look, app.tables(), &nodes, &inputs.read.fault)
+    ) {
+        Ok(nodes) => {
+            let reply = report_nodes(alloc, &asked.look, app.tables(), &nodes, &read.fault);
+            drop(app);
+            drop(nodes);
+            drop(arrivals);
+            drop(read);
+            reply
+        }
+        Err(fault) => {
+            drop(app);
+            drop(arrivals);
+            drop(read);
+            Err(fault)
+        }
+    }
 }
 
 // The reply to what the files came to.

@@ -76,8 +76,9 @@ fn query_app<S: Shelf>(
     ensures kind { IfOk result (λ reply. is_answer reply.status ≡ true) }
 {
     let read = read_blocks(alloc, shelf, name)?;
-    let reply = answer_blocks(alloc, query, app, &read)?;
-    Ok(reply)
+    let reply = answer_blocks(alloc, query, app, &read);
+    drop(read);
+    Ok(reply?)
 }
 
 // The reply to a query over the bytes of an application, and then the block file.
@@ -160,7 +161,9 @@ pub fn decide<R: Threads + Wait + Sync, S: Shelf, G: Gate>(
             flags,
         } => {
             let cluster = cluster_of(app, blocks, arrivals, nodes, executors, flags);
-            answer_cluster(rt, alloc, shelf, &cluster, gate)
+            let reply = answer_cluster(rt, alloc, shelf, &cluster, gate);
+            drop(cluster);
+            reply
         }
         Settings::Simulate {
             app,
@@ -169,17 +172,25 @@ pub fn decide<R: Threads + Wait + Sync, S: Shelf, G: Gate>(
             arrivals,
             flags,
         } => {
-            let simulation = simulation_of(alloc, app, blocks, schedule, &arrivals, flags)?;
-            answer_simulation(alloc, shelf, &simulation)
+            let simulation = simulation_of(alloc, app, blocks, schedule, &arrivals, flags);
+            drop(arrivals);
+            let simulation = simulation?;
+            let reply = answer_simulation(alloc, shelf, &simulation);
+            drop(simulation);
+            reply
         }
-        Settings::Provenance { app, blocks, query } => read_app(
-            alloc,
-            shelf,
-            app.as_str(),
-            blocks.as_str(),
-            query.as_str(),
-        ),
-        Settings::Seal { blocks } => seal_file(alloc, shelf, blocks.as_str()),
+        Settings::Provenance { app, blocks, query } => {
+            let reply = read_app(alloc, shelf, app.as_str(), blocks.as_str(), query.as_str());
+            drop(app);
+            drop(blocks);
+            drop(query);
+            reply
+        }
+        Settings::Seal { blocks } => {
+            let reply = seal_file(alloc, shelf, blocks.as_str());
+            drop(blocks);
+            reply
+        }
         Settings::Load { number } => Ok(answer_load(rt, alloc, number, gate)?),
     }
 }

@@ -54,14 +54,18 @@ fn read_behind<S: Shelf>(
     ensures counted { Counted result (RoseAtNodes asked.now.arrivals 1 asked.now.nodes asked.now.blocks (S.faults shelf.old) (S.faults shelf.new)) (S.faults shelf.old) (S.faults shelf.new) }
 {
     match read_all_arrivals(alloc, shelf, asked)? {
-        Ok(arrivals) => {
-            let read = read_blocks(alloc, shelf, asked.blocks.as_str())?;
-            Ok(Ok(Inputs {
+        Ok(arrivals) => match read_blocks(alloc, shelf, asked.blocks.as_str()) {
+            Ok(read) => Ok(Ok(Inputs {
                 app,
                 arrivals,
                 read,
-            }))
-        }
+            })),
+            Err(fault) => {
+                drop(app);
+                drop(arrivals);
+                Err(fault)
+            }
+        },
         Err(bad) => Ok(Err(BadInput::Arrivals(bad))),
     }
 }

@@ -55,7 +55,9 @@ impl Intake for Gatherer {
 fn end_fault(mut reader: Reader) -> Option<ChainFault>
     ensures { (bytes : List ℕ) → WasFed reader bytes → (chain bytes).1 ≡ result }
 {
-    match reader.end() {
+    let ended = reader.end();
+    drop(reader);
+    match ended {
         Ok(()) => None,
         Err(fault) => Some(fault),
     }
@@ -81,7 +83,10 @@ impl Gatherer {
         let Gatherer { reader, blocks } = self;
         let fault = match stop {
             None => end_fault(reader),
-            Some(fault) => Some(fault),
+            Some(fault) => {
+                drop(reader);
+                Some(fault)
+            }
         };
         Fed { blocks, fault }
     }

@@ -49,11 +49,14 @@ fn run_load<R: Threads + Wait + Sync, G: Gate>(
         load.arrivals.as_slice(),
         LOAD_EXECUTORS,
         gate,
-    )?;
-    let bytes = summary(alloc, number, &nodes.as_slice()[0].blocks)?;
+    );
+    drop(app);
+    let nodes = nodes?;
+    let bytes = summary(alloc, number, &nodes.as_slice()[0].blocks);
+    drop(nodes);
     Ok(Reply {
         status: Status::Done,
-        bytes,
+        bytes: bytes?,
     })
 }
 
@@ -70,8 +73,18 @@ pub fn answer_load<R: Threads + Wait + Sync, G: Gate>(
 {
     let load = generate(alloc, number)?;
     match read_application(alloc, load.app.as_slice()) {
-        Ok(app) => run_load(rt, alloc, number, app, &load, gate),
-        Err(AppFault::Refused(refusal)) => refuse_app(alloc, refusal),
-        Err(AppFault::NoMemory) => Err(NoMemory),
+        Ok(app) => {
+            let reply = run_load(rt, alloc, number, app, &load, gate);
+            drop(load);
+            reply
+        }
+        Err(AppFault::Refused(refusal)) => {
+            drop(load);
+            refuse_app(alloc, refusal)
+        }
+        Err(AppFault::NoMemory) => {
+            drop(load);
+            Err(NoMemory)
+        }
     }
 }

@@ -38,8 +38,18 @@ fn select(
     ensures { Tells result (selected app.now.value.app blocks.now (query_of text.now)) }
 {
     let query = parse_query(alloc, text)?;
-    let node = run_blocks::<IndexVersions>(alloc, app, blocks)?;
-    answer(alloc, app.tables(), node.versions(), node.blocks(), &query)
+    match run_blocks::<IndexVersions>(alloc, app, blocks) {
+        Ok(node) => {
+            let list = answer(alloc, app.tables(), node.versions(), node.blocks(), &query);
+            drop(node);
+            drop(query);
+            list
+        }
+        Err(_) => {
+            drop(query);
+            Err(QueryFault::NoMemory)
+        }
+    }
 }
 
 // Puts the line behind others that tells how the block file ended.
@@ -96,7 +106,11 @@ pub fn answer_query(
     ensures kind { IfOk result (λ reply. is_answer reply.status ≡ true) }
 {
     match select(alloc, app, read.blocks.as_slice(), text) {
-        Ok(list) => list_versions(alloc, app.tables(), &list, &read.fault),
+        Ok(list) => {
+            let reply = list_versions(alloc, app.tables(), &list, &read.fault);
+            drop(list);
+            reply
+        }
         Err(QueryFault::NoMemory) => Err(NoMemory),
         Err(fault) => refuse_query(alloc, fault),
     }

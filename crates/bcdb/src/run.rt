@@ -35,7 +35,13 @@ pub fn run_blocks<V: Versions>(
 {
     let mut node = PlainNode::<V>::new(alloc, app)?;
     for block in blocks {
-        node.process(block)?;
+        match node.process(block) {
+            Ok(()) => {}
+            Err(fault) => {
+                drop(node);
+                return Err(fault);
+            }
+        }
     }
     Ok(node)
 }
@@ -80,5 +86,7 @@ pub fn answer_blocks(
     ensures kind { IfOk result (λ reply. is_answer reply.status ≡ true) }
 {
     let app = Arc::new(alloc, app)?;
-    answer_query(alloc, &app, read, query)
+    let reply = answer_query(alloc, &app, read, query);
+    drop(app);
+    reply
 }

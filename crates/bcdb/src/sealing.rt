@@ -27,7 +27,10 @@ fn end_seal(sealer: Sealer, stop: Option<ChainFault>) -> Result<List<u8>, ChainF
 {
     match stop {
         None => sealer.end(),
-        Some(fault) => Err(fault),
+        Some(fault) => {
+            drop(sealer);
+            Err(fault)
+        }
     }
 }
 
@@ -56,7 +59,14 @@ pub fn seal_file<S: Shelf>(alloc: Global, shelf: &mut S, name: &str) -> Result<R
     ensures kind { IfOk result (λ reply. is_answer reply.status ≡ true) }
 {
     let mut sealer = Sealer::new(alloc);
-    let stop = read_file(alloc, shelf, name, &mut sealer)?;
-    let reply = answer_seal(alloc, end_seal(sealer, stop))?;
-    Ok(reply)
+    match read_file(alloc, shelf, name, &mut sealer) {
+        Ok(stop) => {
+            let reply = answer_seal(alloc, end_seal(sealer, stop))?;
+            Ok(reply)
+        }
+        Err(fault) => {
+            drop(sealer);
+            Err(fault)
+        }
+    }
 }

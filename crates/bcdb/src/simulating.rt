@@ -93,7 +93,9 @@ fn report_node(
 {
     let mut nodes = List::new(alloc);
     nodes.push(node)?;
-    report_nodes(alloc, look, tables, &nodes, stop)
+    let reply = report_nodes(alloc, look, tables, &nodes, stop);
+    drop(nodes);
+    reply
 }
 
 // The reply over the blocks that a file gave.
@@ -139,8 +141,9 @@ fn run_schedule<S: Shelf>(
     ensures kind { IfOk result (λ reply. is_answer reply.status ≡ true) }
 {
     let read = read_blocks(alloc, shelf, asked.blocks.as_str())?;
-    let reply = carry_out(alloc, &asked.look, start, &read, schedule)?;
-    Ok(reply)
+    let reply = carry_out(alloc, &asked.look, start, &read, schedule);
+    drop(read);
+    Ok(reply?)
 }
 
 // The reply to what was read of a schedule, and then the blocks.
@@ -161,7 +164,11 @@ fn take_schedule<S: Shelf>(
     ensures kind { IfOk result (λ reply. is_answer reply.status ≡ true) }
 {
     match read {
-        Ok(schedule) => run_schedule(alloc, shelf, asked, start, &schedule),
+        Ok(schedule) => {
+            let reply = run_schedule(alloc, shelf, asked, start, &schedule);
+            drop(schedule);
+            reply
+        }
         Err(line) => {
             let reply = refuse_schedule(alloc, line)?;
             Ok(reply)
@@ -207,9 +214,12 @@ fn take_arrivals<S: Shelf>(
     match read {
         Ok(arrivals) => {
             let start = begin(alloc, app, arrivals)?;
-            read_steps(alloc, shelf, asked, &start)
+            let reply = read_steps(alloc, shelf, asked, &start);
+            drop(start);
+            reply
         }
         Err(line) => {
+            drop(app);
             let reply = refuse_arrivals(alloc, BadArrivals { node: 1, line })?;
             Ok(reply)
         }

@@ -70,7 +70,11 @@ fn serve<R: Threads + Wait + Sync, S: Shelf, W: Sink, G: Gate>(
     ensures quiet { (result ≡ Status.WriteFault) ⊎ (W.faults out.new ≡ W.faults out.old) }
 {
     match decide(rt, alloc, settings, shelf, gate) {
-        Ok(reply) => deliver(out, reply.status, reply.bytes.as_slice()),
+        Ok(reply) => {
+            let status = deliver(out, reply.status, reply.bytes.as_slice());
+            drop(reply);
+            status
+        }
         Err(FilesFault::Failed) => deliver(out, Status::ReadFault, b"refused read\n"),
         Err(FilesFault::NoMemory) => Status::NoMemory,
     }

@@ -4,6 +4,7 @@ pub mod Quiet
 pub mod Calls
 pub mod Blocks
 pub mod Ends
+pub mod Following
 pub mod Forks
 pub mod Crossing
 pub mod Sharing

@@ -199,8 +199,8 @@ pub fn run_one<V: Versions, G: Gate, R: Wait>(
 {
     match take_work(rt, node, pass, pick) {
         Ok(None) => Ok(false),
-        Ok(Some(work)) => {
-            run_work(rt, node, crew, pass, work)?;
+        Ok(Some(taken)) => {
+            run_work(rt, node, crew, pass, taken)?;
             Ok(true)
         }
         Err(refused) => Err(refused),

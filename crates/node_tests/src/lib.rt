@@ -1,16 +1,25 @@
-//! Tests of the node that threads share: what no clause says, as that turns come, and worked runs whole.
+//! Tests of the node that threads share: what no clause says, as that turns come, and worked runs whole, one of them in an order of reads
+//! that a gate holds.
 #![tactic(auto)]
 
 #[cfg(test)]
 mod bringing;
 #[cfg(test)]
+mod calls;
+#[cfg(test)]
 mod crews;
 #[cfg(test)]
 mod folding;
 #[cfg(test)]
+mod gating;
+#[cfg(test)]
+mod journals;
+#[cfg(test)]
 mod looking;
 #[cfg(test)]
 mod opening;
+#[cfg(test)]
+mod side_by_side;
 #[cfg(test)]
 mod tests;
 #[cfg(test)]

@@ -3,6 +3,7 @@ ghost use Rattle.cluster_run.specs.Standing.{HasNone};
 ghost use Rattle.turn_lock.specs.Passes.{HoldsNoTurn, IsPassOf, IsSamePass, pass_number};
 
 use crate::bringing::bring_all;
+use crate::calls::{accounts, add, block, pay};
 use crate::crews::{join_crew, split_crew};
 use crate::folding::{fold_plainly, process_beside};
 use crate::looking::look_ahead;
@@ -12,7 +13,6 @@ use block_work::result::last_digest;
 use cluster_run::forking::{split_off, take_back};
 use cluster_run::working::{run_one, take_work};
 use cluster_run::{Crew, NoGate};
-use cluster_tests::calls::{accounts, add, block, pay};
 use node_model::{Entry, Event, NodeResult, Pick};
 use node_shared::{NodePass, SharedNode};
 use proc_check::Checked;

@@ -1,3 +1,2 @@
-pub mod Bound
 pub mod Columns
 pub mod Lists

@@ -1,16 +1,14 @@
 //! Calls of procedures.
 
-ghost use Rattle.std.specs.Prelude.{◌≡◌, [], OnOk, map};
+ghost use Rattle.std.specs.Prelude.{◌≡◌, map};
 ghost use Rattle.std.specs.Option.{option_copied};
 ghost use Rattle.proc_syntax.specs.Values.{have_kinds};
-ghost use Rattle.proc_syntax.specs.Run.{procedure_named, takes, arguments};
+ghost use Rattle.proc_syntax.specs.Run.{procedure_named, takes};
 ghost use Rattle.proc_syntax.specs.Call.{call_fault};
 
 use crate::fit::has_kind;
-use crate::scope::bind;
-use proc_syntax::{App, Binding, CallFault, ColumnText, ProcDef, Tx, Variable};
-use rel_base::{List, Name, NoMemory, Twin, Value};
-use std::alloc::Global;
+use proc_syntax::{App, CallFault, ColumnText, ProcDef, Tx};
+use rel_base::{Name, Value};
 
 /// The first procedure of a name.
 pub fn procedure_named<'a>(app: &'a App, name: &Name) -> Option<&'a ProcDef>
@@ -56,24 +54,5 @@ pub fn call_fault(app: &App, tx: &Tx) -> Option<CallFault>
                 Some(CallFault::BadArguments)
             }
         }
-    }
-}
-
-/// From now on parameters stand for arguments.
-pub fn bind_arguments(
-    alloc: Global,
-    variables: &mut List<Variable>,
-    params: &[ColumnText],
-    values: &[Value],
-) -> Result<(), NoMemory>
-    ensures { OnOk result (variables.new ≡ arguments variables.old params.now values.now) }
-{
-    match (params.split_first(), values.split_first()) {
-        (Some((param, params)), Some((value, values))) => {
-            let value = value.copy(alloc)?;
-            bind(alloc, variables, &param.name.name, Binding::Plain(value))?;
-            bind_arguments(alloc, variables, params, values)
-        }
-        _ => Ok(()),
     }
 }

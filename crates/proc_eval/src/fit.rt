@@ -5,11 +5,9 @@ ghost use Rattle.std.specs.List.{list_any};
 ghost use Rattle.rel_base.specs.Schema.{kind_at, key_of_row, span_columns};
 ghost use Rattle.rel_base.specs.Value.{key_eq};
 ghost use Rattle.proc_syntax.specs.Values.{has_kind, have_kinds};
-ghost use Rattle.proc_syntax.specs.Scope.{column_in};
-ghost use Rattle.proc_syntax.specs.Meaning.{end_has, span_on, span_of, row_fits, key_for, set_columns};
+ghost use Rattle.proc_syntax.specs.Meaning.{end_has, span_on, row_fits, key_for, set_columns};
 
-use crate::scope::column_in;
-use rel_base::{Column, Key, Kind, List, Name, NoMemory, Read, Row, TableDef, Twin, Value, key_of};
+use rel_base::{Column, Key, Kind, List, NoMemory, Read, Row, TableDef, Twin, Value, key_of};
 use std::alloc::Global;
 
 /// Whether a value has a kind.
@@ -135,22 +133,6 @@ pub fn span_on(
         })
     } else {
         None
-    }
-}
-
-/// The read of a span on a column of a name.
-pub fn span_read(
-    def: &TableDef,
-    table: u32,
-    column: &Name,
-    low: Option<Value>,
-    high: Option<Value>,
-) -> Option<Read>
-    ensures { result ≡ span_of def.now table (column_in def.now column.now) low high }
-{
-    match column_in(def, column) {
-        None => None,
-        Some(column) => span_on(def, table, column, low, high),
     }
 }
 

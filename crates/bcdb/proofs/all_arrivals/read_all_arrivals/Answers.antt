@@ -1,5 +1,5 @@
 use Rattle.std.proofs.Common.{Err, IfSome, List, Ok, Option, Result, rules, subst, sym, ◌+◌, ◌∙◌, ◌≡◌, ℕ}
-use Rattle.bcdb.proofs.Gathering.{Gathers, failed_counts, failed_turns, gathers_more, may_read_node}
+use Rattle.bcdb.proofs.Gathering.{Gathers, failed_counts, failed_turns, gathers_more, is_bad, may_read_node}
 use Rattle.bcdb.proofs.all_arrivals.read_all_arrivals.Goals as goal
 use Rattle.bcdb.specs.Answer.{arrived_in, file_at}
 use Rattle.bcdb.specs.Causes.{AllowsArrivals, Counted, RoseAtGiven, RoseAtNodes}
@@ -51,3 +51,12 @@ loop-node-preserved g c =
           (gathers_more c.args.asked.now told (g.S.Shelf.may_read c.loop-node.shelf) c.loop-node.node c.loop-node.all (g.S.Shelf.may_read c.read_node.new.shelf) c.in-Ok.txs c.loop-node.invariant.2
           c.loop-node-test.true arrives c.read_node.ensures.allowed),
     )
+
+pub returns-in-Err-clause-told : goal.returns-in-Err-clause-told
+returns-in-Err-clause-told g c =
+    let told = g.S.Shelf.told c.args.shelf.now in
+    let name = file_at c.args.asked.now.arrivals c.loop-node.node in
+    let arrives : IfSome told (λ files. arrived_in name files ≡ Err c.in-Err.line) =
+    subst (λ (read : Result (List Tx) ℕ). IfSome told (λ files. arrived_in name files ≡ read)) c.in-Err.is
+    (subst (λ (shown : Option Files). IfSome shown (λ files. arrived_in name files ≡ c.in_ok-txs.field-0)) c.loop-node.invariant.0 c.in_ok-txs.ensures.told) in
+    is_bad c.args.asked.now told (g.S.Shelf.may_read c.loop-node.shelf) c.loop-node.node c.loop-node.all c.in-Err.line c.loop-node.invariant.2 c.loop-node-test.true arrives

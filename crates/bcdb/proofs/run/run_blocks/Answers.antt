@@ -8,7 +8,7 @@ use Rattle.proc_check.specs.declared.checked.Checked.{Checked}
 pub loop-block-preserved : goal.loop-block-preserved
 loop-block-preserved g c =
     let before = c.loop-block.invariant in
-    let done = c.in_ok-process.ensures in
+    let done = c.in-Ok.ensures in
     let here : slice_index_or c.args.blocks.now c.loop-block.block-index c.block-item.result ≡ c.block-item.result = search rules in
     let within : c.loop-block.block-index < length c.args.blocks.now = search rules in
     let left : drop c.loop-block.block-index c.args.blocks.now ≡ c.block-item.result ∷ drop (c.loop-block.block-index + 1) c.args.blocks.now =

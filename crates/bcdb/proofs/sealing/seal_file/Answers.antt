@@ -16,8 +16,8 @@ means_told : (told : Option Files) (name : List ℕ) (text : Result (List ℕ) C
 means_told None name text reply seals means = tt
 means_told (Some files) name text reply seals means = means (chain (files name)).0 (chain (files name)).1 seals
 
-pub returns-clause-told : goal.returns-clause-told
-returns-clause-told g c =
+pub returns-in_ok-reply-in-Ok-clause-told : goal.returns-in_ok-reply-in-Ok-clause-told
+returns-in_ok-reply-in-Ok-clause-told g c =
     let told = g.S.Shelf.told c.args.shelf.now in
     let name = c.args.name.now in
-    means_told told name c.end_seal.result c.in_ok-reply.reply (c.end_seal.ensures told name c.in_ok-stop.ensures.told) c.in_ok-reply.ensures.means
+    means_told told name c.end_seal.result c.in_ok-reply-in-Ok.reply (c.end_seal.ensures told name c.in-Ok.ensures.told) c.in_ok-reply-in-Ok.ensures.means

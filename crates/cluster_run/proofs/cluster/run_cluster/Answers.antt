@@ -19,6 +19,9 @@ map_indices-requires-sync-F g c κs within =
     let runtime : IsSync (param 2 g.row.R) = search (rules, c.requires, param_sync) parts 8 in
     search (checked_send, checked_sync, list.the_sync, block.the_sync, tx.the_sync, crosses, sendable) depth 60 fits 20000
 
+pub loop-node-init : goal.loop-node-init
+loop-node-init g c = (search rules, search rules, search rules)
+
 pub loop-node-preserved : goal.loop-node-preserved
 loop-node-preserved g c =
     let P : NodeResult → Type 0 = IsNodeOf c.args.app.now.value.app c.args.blocks.now in

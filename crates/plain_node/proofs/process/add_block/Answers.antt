@@ -1,4 +1,4 @@
-use Rattle.std.proofs.Common.{[], length, subst, sym, ◌++◌, ◌∙◌, ◌≡◌, ◌∷◌}
+use Rattle.std.proofs.Common.{[], length, rules, subst, sym, ◌++◌, ◌∙◌, ◌∷◌, ◌≡◌}
 use Rattle.block_work.proofs.Answering.{on_ok_then}
 use Rattle.block_work.proofs.Places.{places_sealed, upto_more}
 use Rattle.block_work.specs.Block.{sealed_of, work_of}
@@ -33,3 +33,9 @@ returns-clause-holds g c =
           (places_sealed c.decide_all.new.ids sealed (sealed_of c.decide_all.new.work) 0
           (subst (λ n. HasFirstPlaces c.decide_all.new.ids sealed n c.decide_all.new.work.outcomes.items) (sym c.decide_all.ensures.number) done.1)),
     ))
+
+pub returns-in-Err-clause-upto : goal.returns-in-Err-clause-upto
+returns-in-Err-clause-upto g c = search rules
+
+pub returns-in-Err-clause-holds : goal.returns-in-Err-clause-holds
+returns-in-Err-clause-holds g c = search rules

@@ -1,4 +1,4 @@
-use Rattle.std.proofs.Common.{ℕ, List, ◌++◌, ◌∙◌, subst}
+use Rattle.std.proofs.Common.{List, rules, subst, ℕ, ◌++◌, ◌∙◌}
 use Rattle.chain_file.specs.declared.reader.State.{State}
 use Rattle.tx_text.specs.Parts.{parts_of}
 use Rattle.chain_file.specs.Chain.{Position, walk, walked}
@@ -25,3 +25,6 @@ returns-in_ok-read-in-Open-clause-follows c = λ bytes follows. (fed c bytes fol
 pub returns-in_ok-read-in-Open-clause-fed : goal.returns-in_ok-read-in-Open-clause-fed
 returns-in_ok-read-in-Open-clause-fed c =
     λ bytes follows. let all = fed c bytes follows in (all.given, c.fault_met-fault.ensures ∙ all.fault)
+
+pub returns-in-Stopped-clause-stopped : goal.returns-in-Stopped-clause-stopped
+returns-in-Stopped-clause-stopped c = search rules

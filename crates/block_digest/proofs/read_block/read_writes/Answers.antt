@@ -1,0 +1,5 @@
+use Rattle.std.proofs.Common.{rules}
+use Rattle.block_digest.proofs.read_block.read_writes.Goals as goal
+
+pub returns : goal.returns
+returns c = search rules

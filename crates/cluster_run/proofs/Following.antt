@@ -1,0 +1,41 @@
+-- Calls that follow one another.
+use Rattle.std.proofs.Common.{refl, ◌∙◌, ◌≡◌}
+use Rattle.cluster_run.specs.Standing.{SameBlocks}
+use Rattle.node_core.specs.Core.{Core}
+use Rattle.node_model.specs.declared.journal.Entry.{Entry}
+use Rattle.proc_syntax.specs.declared.tree.App.{App}
+use Rattle.rel_base.specs.declared.storied.Storied.{Ghosts}
+use Rattle.turn_lock.specs.Passes.{IsSameHolder, IsSamePass, pass_number}
+use Rattle.turn_lock.specs.declared.pass.Pass.{Pass}
+
+module _ {ghosts : Ghosts Core App Entry} where
+  pub same_then : {one two three : Pass Core App Entry ghosts} → IsSamePass one two → IsSamePass two three → IsSamePass one three
+  same_then first then = record {
+    same_lock = then.same_lock ∙ first.same_lock;
+    same_number = then.same_number ∙ first.same_number;
+    same_base = then.same_base ∙ first.same_base;
+    same_made = then.same_made ∙ first.same_made;
+    same_left = then.same_left ∙ first.same_left;
+  }
+
+  pub holder_then : {one two three : Pass Core App Entry ghosts} → IsSameHolder one two → IsSameHolder two three → IsSameHolder one three
+  holder_then first then = record {
+    same_lock = then.same_lock ∙ first.same_lock;
+    same_number = then.same_number ∙ first.same_number;
+    same_base = then.same_base ∙ first.same_base;
+  }
+
+  pub blocks_then : {one two three : Pass Core App Entry ghosts} → SameBlocks one two → SameBlocks two three → SameBlocks one three
+  blocks_then first then = record { delivered_same = then.delivered_same ∙ first.delivered_same; in_work_same = then.in_work_same ∙ first.in_work_same }
+
+  -- where the pass is the processor's
+  pub blocks_later : {one two three : Pass Core App Entry ghosts} → IsSamePass one two → (pass_number one ≡ 0 → SameBlocks one two) → (pass_number two ≡ 0 → SameBlocks two three) → pass_number one ≡ 0 → SameBlocks one three
+  blocks_later same first then zero = blocks_then (first zero) (then (same.same_number ∙ zero))
+
+  -- before the first of them
+
+  pub same_self : (pass : Pass Core App Entry ghosts) → IsSamePass pass pass
+  same_self pass = record { same_lock = refl; same_number = refl; same_base = refl; same_made = refl; same_left = refl }
+
+  pub blocks_self : (pass : Pass Core App Entry ghosts) → SameBlocks pass pass
+  blocks_self pass = record { delivered_same = refl; in_work_same = refl }
