@@ -186,11 +186,7 @@ pub fn decide<R: Threads + Wait + Sync, S: Shelf, G: Gate>(
             drop(query);
             reply
         }
-        Settings::Seal { blocks } => {
-            let reply = seal_file(alloc, shelf, blocks.as_str());
-            drop(blocks);
-            reply
-        }
+        Settings::Seal { blocks } => seal_file(alloc, shelf, blocks.as_str()),
         Settings::Load { number } => Ok(answer_load(rt, alloc, number, gate)?),
     }
 }

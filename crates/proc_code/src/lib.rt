@@ -7,6 +7,7 @@ pub mod laws;
 pub mod numbering;
 pub mod places;
 pub mod resolving;
+pub mod slots;
 pub mod statements;
 pub mod terms;
 pub mod tree;

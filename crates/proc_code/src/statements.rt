@@ -32,7 +32,7 @@ impl Resolver<'_> {
     }
 
     /// The code of a `let` or of an assignment.
-    fn resolve_set(&self, name: &Named, value: &Expr) -> Result<Action, NoMemory>
+    fn set_of(&self, name: &Named, value: &Expr) -> Result<Action, NoMemory>
         ensures { IfOk result (λ made. made ≡ action.Set (number_of_name self.now.names.now name.now.name) (term_of self.now.columns.now self.now.names.now value.now)) }
     {
         Ok(Action::Set {
@@ -207,15 +207,13 @@ fn resolve_stmt(resolver: &Resolver<'_>, stmt: &Stmt) -> Result<Action, NoMemory
     ensures { IfOk result (λ action. action ≡ action_of resolver.now.tables.now resolver.now.columns.now resolver.now.names.now stmt.now) }
 {
     match stmt {
-        Stmt::Let { name, value } => resolver.resolve_set(name, value),
-        Stmt::Assign { name, value } => resolver.resolve_set(name, value),
+        Stmt::Let { name, value } | Stmt::Assign { name, value } => resolver.set_of(name, value),
         Stmt::If { test, then, other } => {
-            let then = resolve_block(resolver, then.as_slice())?;
             let other = match other {
                 None => List::new(resolver.alloc),
                 Some(other) => resolve_block(resolver, other.as_slice())?,
             };
-            resolver.resolve_if(test, then, other)
+            resolver.resolve_if(test, resolve_block(resolver, then.as_slice())?, other)
         }
         Stmt::Get {
             name,

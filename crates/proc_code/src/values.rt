@@ -1,13 +1,12 @@
 //! The values of expressions in code.
 
 ghost use Rattle.std.specs.Prelude.{◌≡◌, Ok};
-ghost use Rattle.std.specs.Option.{option_and_then, option_copied};
-ghost use Rattle.proc_syntax.specs.Scope.{plain_of};
-ghost use Rattle.proc_syntax.specs.Values.{apply, found, negation_of, not_of, two_of};
+ghost use Rattle.proc_syntax.specs.Values.{apply, negation_of, not_of, two_of};
 ghost use Rattle.proc_eval.specs.Gives.{Gives};
-ghost use Rattle.proc_code.specs.Coded.{in_slot, column_at, cell_of, worth_of, worths_of, end_worth, set_worth, sets_worth};
-ghost use Rattle.proc_code.specs.Weighed.{Weighs, lent, truth_of, weight};
+ghost use Rattle.proc_code.specs.Coded.{worth_of, worths_of, end_worth, set_worth, sets_worth};
+ghost use Rattle.proc_code.specs.Weighed.{Weighs, truth_of, weight};
 
+use crate::slots::{field_value, plain_value};
 use crate::tree::{Setting, Term};
 use proc_eval::Halt;
 use proc_eval::arith::negation;
@@ -42,67 +41,6 @@ impl<'a> Worth<'a> {
             Worth::Made(value) => Ok(value),
             Worth::Lent(value) => Ok(value.copy(alloc)?),
         }
-    }
-}
-
-/// What a variable stands for.
-pub fn in_slot<'a>(slots: &'a [Option<Binding>], slot: usize) -> Option<&'a Binding>
-    ensures { option_copied result ≡ in_slot slots.now slot }
-{
-    match slots.get(slot) {
-        Some(Some(binding)) => Some(binding),
-        _ => None,
-    }
-}
-
-/// The number that a column of a name, by the name's number, has in a table.
-pub fn column_at(columns: &List<List<Option<usize>>>, name: usize, table: u32) -> Option<usize>
-    ensures { result ≡ column_at columns.now name table }
-{
-    let places = columns.get(name)?;
-    let column = places.get(table as usize)?;
-    *column
-}
-
-/// The value of what a variable stands for, in such a column.
-fn cell_of<'a>(
-    columns: &List<List<Option<usize>>>,
-    name: usize,
-    binding: &'a Binding,
-) -> Option<&'a Value>
-    ensures { option_copied result ≡ cell_of columns.now name binding.now }
-{
-    match binding {
-        Binding::Plain(_) => None,
-        Binding::Held { table, row } => {
-            let column = column_at(columns, name, *table)?;
-            row.get(column)
-        }
-    }
-}
-
-/// The value of what a variable stands for.
-fn plain_value<'a>(slots: &'a [Option<Binding>], slot: usize) -> Result<&'a Value, Stop>
-    ensures { lent result ≡ found (option_and_then plain_of (in_slot slots.now slot)) }
-{
-    match in_slot(slots, slot) {
-        Some(Binding::Plain(value)) => Ok(value),
-        _ => Err(Stop::IllTyped),
-    }
-}
-
-/// The value of the row that a variable holds, in the column of a name.
-fn field_value<'a>(
-    columns: &List<List<Option<usize>>>,
-    slots: &'a [Option<Binding>],
-    slot: usize,
-    name: usize,
-) -> Result<&'a Value, Stop>
-    ensures { lent result ≡ found (option_and_then (cell_of columns.now name) (in_slot slots.now slot)) }
-{
-    match in_slot(slots, slot) {
-        None => Err(Stop::IllTyped),
-        Some(binding) => cell_of(columns, name, binding).ok_or(Stop::IllTyped),
     }
 }
 

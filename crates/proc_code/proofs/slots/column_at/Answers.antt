@@ -1,5 +1,5 @@
 use Rattle.std.proofs.Common.{rules}
-use Rattle.proc_code.proofs.values.column_at.Goals as goal
+use Rattle.proc_code.proofs.slots.column_at.Goals as goal
 
 pub returns : goal.returns
 returns c = search rules
