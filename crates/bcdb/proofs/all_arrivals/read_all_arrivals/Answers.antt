@@ -1,3 +1,5 @@
+use Rattle.std.proofs.Common.{arith}
+use Rattle.std.proofs.lemmas.Grind.{common_steps}
 use Rattle.std.proofs.Common.{Err, IfSome, List, Ok, Option, Result, rules, subst, sym, ◌+◌, ◌∙◌, ◌≡◌, ℕ}
 use Rattle.bcdb.proofs.Gathering.{Gathers, failed_counts, failed_turns, gathers_more, is_bad, may_read_node}
 use Rattle.bcdb.proofs.all_arrivals.read_all_arrivals.Goals as goal
@@ -60,3 +62,6 @@ returns-in-Err-clause-told g c =
     subst (λ (read : Result (List Tx) ℕ). IfSome told (λ files. arrived_in name files ≡ read)) c.in-Err.is
     (subst (λ (shown : Option Files). IfSome shown (λ files. arrived_in name files ≡ c.in_ok-txs.field-0)) c.loop-node.invariant.0 c.in_ok-txs.ensures.told) in
     is_bad c.args.asked.now told (g.S.Shelf.may_read c.loop-node.shelf) c.loop-node.node c.loop-node.all c.in-Err.line c.loop-node.invariant.2 c.loop-node-test.true arrives
+
+pub returns-clause-all : goal.returns-clause-all
+returns-clause-all g c = grind (arith, common_steps)

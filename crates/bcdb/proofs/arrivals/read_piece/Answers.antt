@@ -1,3 +1,5 @@
+use Rattle.std.proofs.Common.{arith}
+use Rattle.std.proofs.lemmas.Grind.{common_steps}
 use Rattle.std.proofs.Common.{IfOk, List, rules, subst, take, ◌++◌, ◌<◌, ℕ}
 use Rattle.bcdb.proofs.Arriving.{goes_on, stops, within}
 use Rattle.bcdb.proofs.arrivals.read_piece.Goals as goal
@@ -26,3 +28,6 @@ returns-in-Some-clause-goes g c =
     subst (λ r. IfOk r (TakesLines both c.take_piece.new.reader c.take_piece.new.txs)) c.in_ok-take_piece.was (c.take_piece.ensures read.bytes read.has) in
     stops told c.args.name.now c.read_at.new.buf c.args.at c.in-Ok.count c.args.reader.now c.args.txs.now read c.in-Ok.ensures.bound c.in-Ok.ensures.bytes c.requires.lasting c.in-Some.line
     (subst (TakesLines both c.take_piece.new.reader c.take_piece.new.txs) c.in-Some.is takes)
+
+pub returns-then-count-eq0-clause-goes : goal.returns-then-count-eq0-clause-goes
+returns-then-count-eq0-clause-goes g c = grind (arith, common_steps)

@@ -1,3 +1,5 @@
+use Rattle.std.proofs.Common.{arith}
+use Rattle.std.proofs.lemmas.Grind.{common_steps}
 use Rattle.std.specs.Prelude.{IfOk, OnOk}
 use Rattle.std.proofs.Common.{List, rules, subst, take, ◌++◌, ◌<◌, ◌≡◌, ℕ}
 use Rattle.bcdb.proofs.Taken.{goes_on, stops, within}
@@ -27,3 +29,6 @@ returns-in-Some-clause-goes g c =
     let is : c.in_ok-take.field-0 ≡ lasting (chain both).1 = subst (λ r. IfOk r (λ fault. fault ≡ lasting (chain both).1)) c.in_ok-take.was (c.take.ensures.fault read.bytes read.follows) in
     stops told c.args.name.now c.read_at.new.buf c.args.at c.in-Ok.count (g.I.Intake.took c.args.intake.now) (g.I.Intake.took c.take.new.self) read c.in-Ok.ensures.bound c.in-Ok.ensures.bytes c.requires.lasting _ _ took is
     c.in-Some.is
+
+pub returns-then-count-eq0-clause-goes : goal.returns-then-count-eq0-clause-goes
+returns-then-count-eq0-clause-goes g c = grind (arith, common_steps)

@@ -1,3 +1,5 @@
+use Rattle.std.proofs.Common.{arith}
+use Rattle.std.proofs.lemmas.Grind.{pieces}
 use Rattle.std.proofs.Common.{Err, IfOk, Result, rules, subst, sym, ◌≡◌}
 use Rattle.bcdb.proofs.Clustered.{replies_app, replies_arrivals}
 use Rattle.bcdb.proofs.clustering.answer_inputs.Goals as goal
@@ -22,3 +24,6 @@ returns-in-Err-Arrivals-clause-replies g c =
     let read : c.args.read ≡ Err (bad.Arrivals c.in-Err-Arrivals.bad) = search rules in
     subst (λ (found : Result Inputs BadInput). IfOk c.refuse_arrivals.result (λ reply. (files : Files) → AreInputs found asked files → RepliesCluster asked (accepted (files asked.app)) files reply))
     (sym read) (replies_arrivals asked c.in-Err-Arrivals.bad c.refuse_arrivals.result c.refuse_arrivals.ensures.means)
+
+pub returns-in-Ok-clause-replies : goal.returns-in-Ok-clause-replies
+returns-in-Ok-clause-replies g c = search (pieces, arith) depth 5 fits 300

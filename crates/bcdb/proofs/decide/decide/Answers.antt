@@ -1,3 +1,5 @@
+use Rattle.std.proofs.Common.{arith}
+use Rattle.std.proofs.lemmas.Grind.{common_steps}
 use Rattle.std.proofs.Common.{IfOk, IfSome, IsErrOf, Result, Some, refl, subst, sym, ◌≡◌}
 use Rattle.bcdb.proofs.Replying.{replies_told}
 use Rattle.bcdb.proofs.decide.decide.Goals as goal
@@ -66,3 +68,6 @@ returns-in_ok-simulation-in-Simulate-clause-counted g c =
     subst (λ (made : Result Simulation NoMemory). IfOk made (λ asked. asked ≡ meant)) c.in_ok-simulation-in-Simulate.was c.simulation_of-simulation.ensures in
     subst (λ (settings : Settings). Counted c.answer_simulation-reply.result (RoseAtNamed (Some settings) before now) before now) (sym c.in-Simulate.is)
     (subst (λ (asked : Simulation). Counted c.answer_simulation-reply.result (RoseAtSimulation asked before now) before now) is c.answer_simulation-reply.ensures.counted)
+
+pub returns-in-Provenance-clause-told : goal.returns-in-Provenance-clause-told
+returns-in-Provenance-clause-told g c = grind (arith, common_steps)

@@ -1,3 +1,5 @@
+use Rattle.std.proofs.Common.{arith}
+use Rattle.std.proofs.lemmas.Grind.{common_steps}
 use Rattle.std.proofs.Common.{[], ap, drop, length, rules, slice_index_or, subst, sym, take, ◌++◌, ◌+◌, ◌<◌, ◌∙◌, ◌≡◌, ◌∷◌}
 use Rattle.std.proofs.lemmas.List.{drop_more, take_more}
 use Rattle.bcdb.proofs.run.run_blocks.Goals as goal
@@ -29,3 +31,9 @@ loop-block-preserved g c =
           c.process.new.self.ids c.process.new.self.chain.blocks) before.0
           (done.holds (take c.loop-block.block-index c.args.blocks.now) was)),
     )
+
+pub process-requires-clause-next : goal.process-requires-clause-next
+process-requires-clause-next g c = grind (arith, common_steps)
+
+pub returns-clause-holds : goal.returns-clause-holds
+returns-clause-holds g c = grind (arith, common_steps)

@@ -1,3 +1,5 @@
+use Rattle.std.proofs.Common.{arith}
+use Rattle.std.proofs.lemmas.Grind.{common_steps}
 use Rattle.std.proofs.Common.{rules, ◌++◌, ◌∙◌}
 use Rattle.std.specs.Vec.Iter.{into_iter_items}
 use Rattle.block_work.proofs.Applied.{one_applied}
@@ -12,3 +14,9 @@ loop-done-preserved g c =
     (g.V.Versions.history c.loop-done.versions) (g.V.Versions.history c.apply.new.self) (g.V.Versions.history c.args.versions.now ++ stamps c.args.number c.args.committed.items)
     c.in-Some.done (into_iter_items c.loop-done.done-iterator) (into_iter_items c.next.new.self) before.1 before.2 before.3 before.4 (search rules) c.apply.ensures.tables c.apply.ensures.history c.apply.ensures.room in
     (c.apply.ensures.tables ∙ before.0, after.0, after.1, after.2, after.3)
+
+pub apply-requires-clause-room : goal.apply-requires-clause-room
+apply-requires-clause-room g c = grind (arith, common_steps)
+
+pub returns-clause-history : goal.returns-clause-history
+returns-clause-history g c = grind (arith, common_steps)

@@ -1,3 +1,5 @@
+use Rattle.std.proofs.Common.{arith}
+use Rattle.std.proofs.lemmas.Grind.{common_steps}
 use Rattle.std.proofs.Common.{rules}
 use Rattle.cluster_run.proofs.Following.{same_self, same_then}
 use Rattle.cluster_run.proofs.processing.process_all.Goals as goal
@@ -25,3 +27,12 @@ returns-clause-hand g c = c.loop-block.invariant.2
 
 pub returns-clause-rests : goal.returns-clause-rests
 returns-clause-rests g c = c.loop-block.invariant.3
+
+pub process_block-requires-clause-next : goal.process_block-requires-clause-next
+process_block-requires-clause-next g c = grind (arith, common_steps)
+
+pub loop-block-preserved : goal.loop-block-preserved
+loop-block-preserved g c = grind (arith, common_steps)
+
+pub returns-clause-delivers : goal.returns-clause-delivers
+returns-clause-delivers g c = grind (arith, common_steps)

@@ -1,3 +1,5 @@
+use Rattle.std.proofs.Common.{arith}
+use Rattle.std.proofs.lemmas.Grind.{common_steps}
 use Rattle.std.proofs.Common.{◌≡◌, ◌<◌, length, map, refl, rules}
 use Rattle.std.specs.Prelude.{slice_index_or}
 use Rattle.proc_code.specs.Numbers.{bound_names, joined, with_names}
@@ -24,3 +26,6 @@ gather_stmt-returns-in_ok-gather_block-in-Get t c = on_ok c.gather_block-in-Get-
     row_and_blocks c.args.names.now c.add-in-Get.new.self c.gather_block-in-Get.new.names c.gather_block-in-Get-2.new.names c.args.stmt.now
     c.in-Get.name c.in-Get.table c.in-Get.key c.in-Get.found c.in-Get.absent c.as_slice-in-Get.result.now c.as_slice-in-Get-2.result.now
     c.in-Get.is c.as_slice-in-Get.ensures c.as_slice-in-Get-2.ensures c.in_ok-add-in-Get.ensures c.in_ok-gather_block-in-Get.ensures done)
+
+pub gather_block-returns : goal.gather_block-returns
+gather_block-returns t c = grind (arith, common_steps)

@@ -1,3 +1,5 @@
+use Rattle.std.proofs.Common.{arith}
+use Rattle.std.proofs.lemmas.Grind.{common_steps}
 use Rattle.std.proofs.Common.{◌≡◌, ◌<◌, length, refl, rules}
 use Rattle.std.specs.Prelude.{slice_index_or}
 use Rattle.proc_code.specs.Coded.{worth_of, worths_of}
@@ -12,3 +14,6 @@ loop-term-preserved c =
     let slots = c.args.slots.now in
     gathered (λ x. worth_of columns x slots) (λ xs. worths_of columns xs slots) (λ x rest. refl) c.args.terms.now c.loop-term.term-index c.term-item.result c.loop-term.key c.in_ok-key.key c.in_ok-value.value
     (worths_of columns c.args.terms.now slots) within here c.loop-term.invariant c.in_ok-key.ensures c.in_ok-value.ensures
+
+pub returns : goal.returns
+returns c = grind (arith, common_steps)

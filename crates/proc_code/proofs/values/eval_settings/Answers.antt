@@ -1,3 +1,5 @@
+use Rattle.std.proofs.Common.{arith}
+use Rattle.std.proofs.lemmas.Grind.{common_steps}
 use Rattle.std.proofs.Common.{◌≡◌, ◌<◌, length, refl, rules}
 use Rattle.std.specs.Prelude.{slice_index_or}
 use Rattle.proc_code.specs.Coded.{set_worth, sets_worth}
@@ -12,3 +14,9 @@ loop-setting-preserved c =
     let slots = c.args.slots.now in
     gathered (λ x. set_worth columns x slots) (λ xs. sets_worth columns xs slots) (λ x rest. refl) c.args.settings.now c.loop-setting.setting-index c.setting-item.result c.loop-setting.values c.push.new.self c.in_ok-value.value
     (sets_worth columns c.args.settings.now slots) within here c.loop-setting.invariant c.in_ok-push.ensures.ok c.in_ok-value.ensures
+
+pub returns-in_err-value : goal.returns-in_err-value
+returns-in_err-value c = grind (arith, common_steps)
+
+pub returns : goal.returns
+returns c = grind (arith, common_steps)

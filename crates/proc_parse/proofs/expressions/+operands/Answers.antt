@@ -1,3 +1,4 @@
+use Rattle.std.proofs.lemmas.Grind.{common_steps}
 use Rattle.std.proofs.Common.{◌<◌, subst, sym, arith}
 use Rattle.proc_syntax.specs.declared.tree.Expr.{Expr}
 use Rattle.proc_parse.specs.Reading.{Read, on_read, Gives}
@@ -17,3 +18,9 @@ chain-returns t c =
     subst (λ (meant : Read Expr). Gives c.more.result (on_read meant (chain_from (op_of c.args.level) (operand_of c.args.level (inner c.args.depth)) 32)))
     (sym c.in_ok-left.ensures)
     c.more.ensures
+
+pub denial-returns-in_err-inner : goal.denial-returns-in_err-inner
+denial-returns-in_err-inner t c = grind (arith, common_steps)
+
+pub group-returns-in_err-inner : goal.group-returns-in_err-inner
+group-returns-in_err-inner t c = grind (arith, common_steps)

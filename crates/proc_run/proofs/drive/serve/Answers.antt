@@ -1,3 +1,5 @@
+use Rattle.std.proofs.Common.{arith}
+use Rattle.std.proofs.lemmas.Grind.{common_steps}
 use Rattle.std.proofs.Common.{◌≡◌, false, ap, ◌∙◌, [], ◌∷◌, length, length-append, Some}
 use Rattle.rel_base.specs.Among.{rows_in}
 use Rattle.proc_syntax.specs.Declaring.{tables_of}
@@ -25,3 +27,6 @@ returns-in_ok-rows-in-Rows-clause-few g c = λ more.
     let S = g.S.Snapshot.tables c.args.source.now in
     let reads = rw c.in-Rows.is at (c.in_ok-want.ensures.reads S c.requires.agrees) in
     fewer_reads old.app old.tx old.time S old.fed reads.0 _ reads.1
+
+pub returns-in_ok-rows-in-Rows-clause-agrees : goal.returns-in_ok-rows-in-Rows-clause-agrees
+returns-in_ok-rows-in-Rows-clause-agrees c = grind (arith, common_steps)

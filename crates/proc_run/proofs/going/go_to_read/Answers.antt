@@ -1,3 +1,5 @@
+use Rattle.std.proofs.Common.{arith}
+use Rattle.std.proofs.lemmas.Grind.{elements}
 use Rattle.std.proofs.Common.{◌≡◌, [], ◌++◌, ap, sym, subst, ◌∙◌}
 use Rattle.proc_syntax.specs.Declaring.{tables_of}
 use Rattle.row_sets.specs.Overlay.{AreFound}
@@ -26,3 +28,6 @@ returns-clause-sound c = λ tx time s.
     fed
     (λ S a f. subst (λ own. AreFound (tables_of app) S own) (sym c.go_on.ensures.own) (c.settle.ensures.found (tables_of app) S a f))
     c.go_on.ensures.steps c.go_on.ensures.fits c.go_on.ensures.settled c.go_on.ensures.list
+
+pub returns-in_err-settle-clause-sound : goal.returns-in_err-settle-clause-sound
+returns-in_err-settle-clause-sound c = grind (arith, elements)

@@ -1,3 +1,5 @@
+use Rattle.std.proofs.Common.{arith}
+use Rattle.std.proofs.lemmas.Grind.{elements}
 use Rattle.std.proofs.Common.{rules}
 use Rattle.provenance.proofs.Choosing.{history_found}
 use Rattle.provenance.proofs.Spans.{spans_told}
@@ -12,3 +14,6 @@ pub returns : goal.returns
 returns g c =
     history_found c.args.tables.now c.args.blocks.now c.args.key.now c.args.table (g.V.Versions.history c.args.versions.now) c.in_ok-spans.spans c.in_ok-told.told
     (search rules) c.requires.history c.in_ok-spans.ensures c.in_ok-told.ensures
+
+pub chain_of-requires : goal.chain_of-requires
+chain_of-requires g c = grind (arith, elements)

@@ -1,3 +1,5 @@
+use Rattle.std.proofs.Common.{arith}
+use Rattle.std.proofs.lemmas.Grind.{common_steps}
 use Rattle.std.proofs.Common.{◌≡◌, ◌+◌, ◌<◌, ℕ, List, Err, Result, drop, get_or, length, rules, subst, sym, take}
 use Rattle.std.specs.List.{flat_map}
 use Rattle.proc_syntax.specs.declared.call.Tx.{Tx}
@@ -18,3 +20,12 @@ returns-in_err-txs c =
     subst (λ (r : Result (List Tx) ArrivalFault). Gives r (arrivals (flat_map (λ piece. piece) pieces))) (sym same)
     (fault_of_file c.in_err-txs.field-0.0 (flat_map (λ piece. piece) (take i pieces)) c.as_slice.result.now (flat_map (λ piece. piece) (drop (i + 1) pieces)) (flat_map (λ piece. piece) pieces)
     (seam pieces i c.as_slice.result.now within here) fed)
+
+pub loop-piece-preserved : goal.loop-piece-preserved
+loop-piece-preserved c = grind (arith, common_steps)
+
+pub returns-in-Ok : goal.returns-in-Ok
+returns-in-Ok c = grind (arith, common_steps)
+
+pub returns : goal.returns
+returns c = grind (arith, common_steps)

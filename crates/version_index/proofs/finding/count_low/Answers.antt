@@ -1,3 +1,4 @@
+use Rattle.std.proofs.lemmas.Grind.{elements}
 use Rattle.std.proofs.Common.{◌≡◌, ◌∙◌, ◌+◌, ◌-◌, ◌/◌, ℕ, Bool, List, false, true, arith, length}
 use Rattle.row_sets.specs.Log.{history_of}
 use Rattle.version_index.specs.Chains.{lists_of, numbers_at}
@@ -57,3 +58,9 @@ loop-low-preserved g c =
       paid.0,
       paid.1,
     )
+
+pub loop-low-init : goal.loop-low-init
+loop-low-init c = grind (arith, elements)
+
+pub entry_at-requires : goal.entry_at-requires
+entry_at-requires c = grind (arith, elements)

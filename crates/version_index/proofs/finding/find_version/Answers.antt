@@ -1,3 +1,5 @@
+use Rattle.std.proofs.Common.{arith}
+use Rattle.std.proofs.lemmas.Grind.{elements}
 use Rattle.std.proofs.Common.{ℕ, List, None, subst, sym}
 use Rattle.rel_base.specs.declared.value.Value.{Value}
 use Rattle.row_sets.specs.Log.{history_of, stamped_of}
@@ -18,3 +20,6 @@ returns-in-Some-clause-version g c =
     let entry = c.entry_at.result.now in
     subst (IsVersion ref c.args.height history) (sym c.if_row.ensures)
     (version_of ref c.args.height history c.in-Some.number (stamped_of entry) (get_history c.args.view.now.entries.now c.in-Some.number entry c.entry_at.ensures) c.in-Some.ensures.last)
+
+pub entry_at-requires : goal.entry_at-requires
+entry_at-requires c = grind (arith, elements)

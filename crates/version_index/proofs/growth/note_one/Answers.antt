@@ -1,3 +1,4 @@
+use Rattle.std.proofs.lemmas.Grind.{elements}
 use Rattle.std.proofs.Common.{◌≡◌, ◌∙◌, ◌+◌, ℕ, List, arith, subst, suc, sym, map, ap, slice_set}
 use Rattle.std.proofs.Math.Seq.{map-set_same}
 use Rattle.row_sets.proofs.Endings.{on_ok_then, on_err_then}
@@ -32,3 +33,9 @@ pub returns-clause-columns : goal.returns-clause-columns
 returns-clause-columns c =
     let columns : TableIndex → List ℕ = λ index. map (λ (column : ColumnIndex). column.column) index.columns.items in
     map-set_same columns c.args.indexes.now.items c.entry_at.result.now.placed.write.table c.note.new.self c.index_mut.result.now (c.note.ensures.columns ∙ ap columns c.index_mut.ensures.value)
+
+pub index_mut-requires : goal.index_mut-requires
+index_mut-requires c = grind (arith, elements)
+
+pub note-requires-clause-old : goal.note-requires-clause-old
+note-requires-clause-old c = grind (arith, elements)

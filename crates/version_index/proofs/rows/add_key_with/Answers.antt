@@ -1,3 +1,5 @@
+use Rattle.std.proofs.Common.{arith}
+use Rattle.std.proofs.lemmas.Grind.{elements}
 use Rattle.std.proofs.Common.{◌≡◌, ◌∙◌, ◌++◌, ap, sym, subst, ℕ, List, Some, None, OnOk}
 use Rattle.std.proofs.lemmas.List.{append-nil}
 use Rattle.rel_base.specs.declared.value.Value.{Value}
@@ -20,3 +22,9 @@ returns-in-Some c =
     subst (λ found. OnOk c.add_row.result (c.add_row.new.rows ≡ c.args.rows.now ++ covered_row c.args.look.now.def.now c.args.look.now.read.now found))
     (sym (get_seen ref c.args.look.now.height (history_in c.args.view.now) (Some c.in-Some.number) c.in-Some.ensures ∙ ap seen_by (get_history c.args.view.now.entries.now c.in-Some.number c.entry_at.result.now c.entry_at.ensures)))
     c.add_row.ensures
+
+pub entry_at-requires : goal.entry_at-requires
+entry_at-requires c = grind (arith, elements)
+
+pub add_row-requires-clause-row_fits : goal.add_row-requires-clause-row_fits
+add_row-requires-clause-row_fits c = grind (arith, elements)

@@ -1,3 +1,5 @@
+use Rattle.std.proofs.Common.{arith}
+use Rattle.std.proofs.lemmas.Grind.{moves}
 use Rattle.std.proofs.Common.{ℕ, All, List, Option, true, ◌≡◌, refl, subst, sym}
 use Rattle.std.specs.Borrow.{Bor}
 use Rattle.std.specs.declared.alloc.Global.{Global}
@@ -30,3 +32,6 @@ returns-clause-all c key wanted =
           (w.in_ok-add_by_column-in-Some.ensures.added key
           (subst (λ number. HasCellAt c.args.view.now number c.args.ends.low.now c.args.ends.high.now c.args.height key) (sym w.in-Some.ensures.some.0) wanted.by_cell))
     ])
+
+pub returns-clause-found : goal.returns-clause-found
+returns-clause-found c = grind (arith, moves)

@@ -1,3 +1,5 @@
+use Rattle.std.proofs.Common.{arith}
+use Rattle.std.proofs.lemmas.Grind.{common_steps}
 use Rattle.std.proofs.Common.{All, [], length, rules, subst, sym, ◌++◌, ◌∙◌, ◌≡◌, ◌∷◌}
 use Rattle.block_work.proofs.Applied.{holds_more, still_fits}
 use Rattle.block_work.proofs.Consistent.{in_order_longer}
@@ -33,3 +35,6 @@ returns-clause-holds g c = λ chain holds.
     let wrote : g.V.Versions.history c.apply_all.new.versions ≡ g.V.Versions.history c.args.self.now.versions ++ stamps c.args.work.number c.args.work.committed.items = search rules in
     holds_more tables chain (g.V.Versions.history c.args.self.now.versions) (g.V.Versions.history c.apply_all.new.versions) c.args.self.now.blocks c.add_result.new.blocks c.args.work holds wrote
     (subst (λ defs. c.add_result.new.blocks ≡ c.args.self.now.blocks ++ block_result defs (last_digest c.args.self.now.blocks) (sealed_of c.args.work) ∷ []) c.requires.store.declared c.in_default.ensures.added)
+
+pub returns-clause-count : goal.returns-clause-count
+returns-clause-count g c = grind (arith, common_steps)

@@ -1,3 +1,5 @@
+use Rattle.std.proofs.Common.{arith}
+use Rattle.std.proofs.lemmas.Grind.{common_steps}
 use Rattle.std.proofs.Common.{subst, sym, ◌≡◌}
 use Rattle.turn_lock.specs.Passes.{mine, pass_base, pass_number, seen}
 use Rattle.node_core.specs.Core.{IsHeld}
@@ -13,3 +15,6 @@ give_up-requires g c =
     let held : IsHeld (record { app = s.app; journal = seen p }) c.args.work = subst (λ a. IsHeld (record { app = a; journal = seen p }) c.args.work) (sym base) c.requires.held in
     let found : IsFound s.app (pass_number p) (seen p) (mine p) s.journal = record { legal = c.journal_len.ensures.legal; later = c.take-core.ensures.later; own = c.take-core.ensures.own } in
     record { held = found_held s.app (pass_number p) (seen p) (mine p) s.journal c.number.ensures.own found c.args.work c.requires.own held }
+
+pub returns-clause-later : goal.returns-clause-later
+returns-clause-later g c = grind (arith, common_steps)

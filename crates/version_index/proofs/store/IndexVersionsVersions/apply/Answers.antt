@@ -1,3 +1,4 @@
+use Rattle.std.proofs.lemmas.Grind.{common_steps}
 use Rattle.std.proofs.Common.{All, ap, arith, length, length-append, subst, sym}
 use Rattle.std.proofs.lemmas.List.{length-map}
 use Rattle.rel_base.specs.Among.{WriteFitsIn}
@@ -19,3 +20,6 @@ invariant_of-self c =
     kept_next c.self.inside.tables old c.self.inside.indexes.items c.self.inside.noted c.self.invariant new c.args.place c.args.writes
     (subst (λ store. All (WriteFitsIn store.0) c.args.writes) (sym c.self.view_is) c.requires.fit) c.requires.rise (subst (λ store. All (IsBefore c.args.place) store.1.0) (sym c.self.view_is) c.requires.later)
     c.push_all.ensures.history (omega (arith, longer, parts, one, other, within))
+
+pub returns-clause-tail : goal.returns-clause-tail
+returns-clause-tail c = grind (arith, common_steps)

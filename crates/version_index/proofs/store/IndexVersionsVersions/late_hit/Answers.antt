@@ -1,3 +1,5 @@
+use Rattle.std.proofs.Common.{arith}
+use Rattle.std.proofs.lemmas.Grind.{elements}
 use Rattle.std.proofs.Common.{◌≡◌, ◌∙◌, Some, ap, slice_get, subst, sym}
 use Rattle.std.specs.Option.{option_map}
 use Rattle.rel_base.specs.Access.{read_table}
@@ -32,3 +34,6 @@ returns c =
     (subst (λ es. InOrder (history_of es)) (sym logged) c.self.invariant.in_order) c.late_at.ensures
     ∙ ap (λ es. option_map (hit_by inside.tables read) (least_hit inside.tables read (writes_between c.args.after c.args.upto (history_of es)))) logged
     ∙ ap (λ store. option_map (hit_by store.0 read) (least_hit store.0 read (writes_between c.args.after c.args.upto store.1.0))) c.self.view_is
+
+pub view_of-view-requires : goal.view_of-view-requires
+view_of-view-requires c = grind (arith, elements)

@@ -1,0 +1,15 @@
+use Rattle.std.proofs.Common.{arith}
+use Rattle.std.proofs.lemmas.Grind.{common_steps}
+use Rattle.canon_code.proofs.value.read_value.Goals as goal
+
+pub returns-in-1 : goal.returns-in-1
+returns-in-1 c = grind (arith, common_steps)
+
+pub returns-in-2 : goal.returns-in-2
+returns-in-2 c = grind (arith, common_steps)
+
+pub returns-in-3 : goal.returns-in-3
+returns-in-3 c = grind (arith, common_steps)
+
+pub returns-in-4 : goal.returns-in-4
+returns-in-4 c = grind (arith, common_steps)

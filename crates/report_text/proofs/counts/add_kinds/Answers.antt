@@ -1,0 +1,9 @@
+use Rattle.std.proofs.Common.{arith}
+use Rattle.std.proofs.lemmas.Grind.{common_steps}
+use Rattle.report_text.proofs.counts.add_kinds.Goals as goal
+
+pub loop-told-preserved : goal.loop-told-preserved
+loop-told-preserved c = grind (arith, common_steps)
+
+pub returns : goal.returns
+returns c = grind (arith, common_steps)
