@@ -1,4 +1,4 @@
--- Pieces of an arrival file, one after another: what was read stays a front of the file, and a fault that was met is the file's.
+-- Pieces of an arrival file, one after another: what was read stays a prefix of the file, and a fault that was met is the file's.
 use Rattle.std.proofs.Common.{Bool, IfSome, List, None, Option, Some, ap, arith, cond, drop, false, length, length-append, refl, subst, sym, take, true, ◌&&◌, ◌+◌, ◌++◌, ◌<◌, ◌==◌, ◌∙◌, ◌≡◌, ◌≤◌, ℕ}
 use Rattle.std.proofs.lemmas.List.{length-take-le, take-append-drop}
 use Rattle.std.specs.Prelude.{Err, Ok, Result, nat_lt}
@@ -28,7 +28,7 @@ module _ (told : Option Files) (name buffer : List ℕ) (at count : ℕ) (old : 
   front : IfSome told (λ files. both ≡ take (length both) (files name))
   front = front_by told name read.bytes buffer at count read.size le piece read.front
 
-  -- the reading goes on behind a piece without a fault
+  -- the reading goes on after a piece without a fault
   pub goes_on : (new : ArrivalReader) (txs : List Tx) → HasRead both new txs → IsRead told name (at + count) new txs
   goes_on new txs has = record { bytes = both; size = size; has = has; front = at_size told name both (at + count) size front }
 

@@ -55,7 +55,7 @@ pub told_traced : (settings : Option Settings) (told : Option Files) (reply : Re
 told_traced settings None reply status before now same other replies writes is = tt
 told_traced settings (Some files) reply status before now same other replies writes is = inl (ends_traced settings files reply status before now replies writes, is)
 
--- where nothing was written for want of memory
+-- where nothing was written since memory ran out
 pub ends_short : (settings : Option Settings) (files : Files) (before now : Option (List ℕ)) → now ≡ before → EndsTraced settings files NoMemory before now
 ends_short settings files before now same = inl (refl, none_front before now (over_settings settings files).bytes same)
 

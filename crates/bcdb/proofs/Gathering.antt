@@ -48,7 +48,7 @@ keeps_nodes told old new front node (suc count) blocks keeps allows = (
 
 -- ---- the first node, and one after another
 
--- what comes of all is what comes behind none
+-- what comes of all is what comes after none
 behind_none : (others : Result (List (List Tx)) BadArrivals) → others ≡ behind [] others
 behind_none (Ok others) = refl
 behind_none (Err bad) = refl
@@ -158,7 +158,7 @@ module _ (asked : Cluster) (told : Option Files) (may_read : Leave) (node : ℕ)
   failed_turns T result fault.Failed before now g within counted same is = rose_in before now g within counted
   failed_turns T result fault.NoMemory before now g within counted same is = absurd (cc)
 
-  -- behind the last node all is read, and the blocks may be
+  -- after the last node all is read, and the blocks may be
   none_left : (left : ℕ) → Gathers asked told may_read node made left → asked.nodes < node → Gathers asked told may_read node made zero
   none_left zero g past = g
   none_left (suc rest) g past = absurd (omega (arith, past, g.count, g.place))
@@ -177,7 +177,7 @@ module _ (asked : Cluster) (told : Option Files) (may_read : Leave) (node : ℕ)
   pub may_read_blocks : Stands → asked.nodes < node → AllowsBlocks told may_read asked.blocks
   may_read_blocks g past = (none_left g.0 g.1 past).allows
 
--- ---- the blocks behind them
+-- ---- the blocks after them
 
 -- a read of the blocks that failed is one of the run
 pub blocks_rose : (front : Option (List ℕ)) (node count : ℕ) (blocks : List ℕ) (before now : Counts) → Rose (before blocks) (now blocks) → RoseAtNodes front node count blocks before now

@@ -1,4 +1,4 @@
--- Replies of commands behind whose answers nothing follows.
+-- Replies of commands after whose answers nothing follows.
 use Rattle.std.proofs.Common.{IfOk, IfSome, None, Option, Some, []}
 use Rattle.std.specs.Prelude.{Err, Ok, Result}
 use Rattle.bcdb.proofs.Clustered.{alone}

@@ -1,4 +1,4 @@
--- Pieces of a file, one after another: what was read stays a front of the file, and a fault that was met is the file's.
+-- Pieces of a file, one after another: what was read stays a prefix of the file, and a fault that was met is the file's.
 use Rattle.std.proofs.Common.{◌≡◌, ℕ, ◌<◌, ◌≤◌, ◌+◌, List, ◌++◌, length, take, drop, sym, ap, subst, ◌∙◌, length-append, arith, Option, Some, None, IfSome}
 use Rattle.std.proofs.lemmas.List.{length-take-le, take-append-drop, take_all}
 use Rattle.bcdb.specs.Reading.{HasFault, IsRead, IsWholeChain}
@@ -9,7 +9,7 @@ use Rattle.edge_traits.proofs.Fronts.{told_grows}
 use Rattle.edge_traits.specs.Shelf.{Files, IsPiece}
 use Rattle.proc_syntax.specs.declared.chain_fault.ChainFault.{ChainFault}
 
--- what was read and a piece behind it are a front of the file
+-- what was read and a piece after it are a prefix of the file
 pub front_by : (told : Option Files) (name bytes buffer : List ℕ) (at count : ℕ) → length bytes ≡ at → count ≤ length buffer → IfSome told (λ files. IsPiece (files name) at count buffer)
     → IfSome told (λ files. bytes ≡ take at (files name)) → IfSome told (λ files. bytes ++ take count buffer ≡ take (length (bytes ++ take count buffer)) (files name))
 front_by None name bytes buffer at count size le piece front = tt
@@ -36,7 +36,7 @@ module _ (told : Option Files) (name buffer : List ℕ) (at count : ℕ) (old ne
   front : IfSome told (λ files. both ≡ take (length both) (files name))
   front = front_by told name read.bytes buffer at count read.size le piece read.front
 
-  -- the reading goes on behind a piece without a fault
+  -- the reading goes on after a piece without a fault
   pub goes_on : (fault : Option ChainFault) → new both → fault ≡ lasting (chain both).1 → fault ≡ None → IsRead told name (at + count) new
   goes_on fault took is none = record { bytes = both; size = size; follows = took; clear = sym is ∙ none; front = at_size told name both (at + count) size front }
 

@@ -85,7 +85,7 @@ over_load number (Ok app) = says Done (summary_text number (node_result app (loa
 
 -- ---- what arrives
 
--- the file of what arrives at a node is named by the words, and behind these the node's number
+-- the file of what arrives at a node is named by the words, and after these the node's number
 abbrev pub node_file : List ℕ → ℕ → List ℕ
 node_file front node = front ++ decimal node
 
@@ -173,12 +173,12 @@ answer words files = over_settings (settings_of words) files
 abbrev pub read_refused : ProgramAnswer
 read_refused = says ReadFault (codes "refused read\n")
 
--- What was meant is written: with its status and all of its bytes, or short of a write with a front of them.
+-- What was meant is written: with its status and all of its bytes, or short of a write with a prefix of them.
 abbrev pub Writes : ProgramAnswer → Status → Option (List ℕ) → Option (List ℕ) → Type 0
 Writes meant WriteFault before now = WroteFront before now meant.bytes
 Writes meant status before now = (status ≡ meant.status) × (now ≡ appended before meant.bytes)
 
--- The call ends as it was meant to, or short of memory with a front of the bytes.
+-- The call ends as it was meant to, or short of memory with a prefix of the bytes.
 abbrev pub Ends : ProgramAnswer → Status → Option (List ℕ) → Option (List ℕ) → Type 0
 Ends meant NoMemory before now = WroteFront before now meant.bytes
 Ends meant status before now = Writes meant status before now

@@ -21,7 +21,7 @@ abbrev pub TakesLines : List ℕ → ArrivalReader → List Tx → Option ℕ �
 TakesLines bytes reader txs None = HasRead bytes reader txs
 TakesLines bytes reader txs (Some line) = arrived bytes ≡ Err line
 
--- so many bytes of a file were read, with no fault yet; they are its front if the shelf tells its files
+-- so many bytes of a file were read, with no fault yet; they are its prefix if the shelf tells its files
 pub record IsRead (told : Option Files) (name : List ℕ) (count : ℕ) (reader : ArrivalReader) (txs : List Tx) : Type 0 where
   pub bytes : List ℕ
   pub size : length bytes ≡ count

@@ -94,7 +94,7 @@ Counted (Err fault.Failed) rose before now = rose
 Counted (Err fault.NoMemory) rose before now = now ≡ before
 Counted (Ok value) rose before now = now ≡ before
 
--- a block file may be asked for 65,536 bytes behind each of its fronts that has no fault but that it ends too early
+-- a block file may be asked for 65,536 bytes after each of its prefixes that has no fault but that it ends too early
 abbrev pub AllowsBlocks : Option Files → Leave → List ℕ → Type 0
 AllowsBlocks told may_read name = (at : ℕ) → IfSome told (λ files. lasting (chain (take at (files name))).1 ≡ None) → may_read name at 65536
 
@@ -103,7 +103,7 @@ abbrev pub AllowsRun : (app blocks : List ℕ) → Option Files → Leave → Ty
 AllowsRun app blocks told may_read =
     AllowsFront may_read app 1048577 × (IfSome told (λ files. IsOk (accepted (files app))) → AllowsBlocks told may_read blocks)
 
--- what arrives may be asked for like blocks: 65,536 bytes behind each front that has no fault that no more bytes mend
+-- what arrives may be asked for like blocks: 65,536 bytes after each prefix that has no fault that no more bytes mend
 abbrev pub AllowsArrivals : Option Files → Leave → Option (List ℕ) → Type 0
 AllowsArrivals told may_read None = Unit {0}
 AllowsArrivals told may_read (Some name) = (at : ℕ) → IfSome told (λ files. IsOk (arrived (take at (files name)))) → may_read name at 65536

@@ -10,7 +10,7 @@ use Rattle.bcdb.specs.declared.inputs.Inputs.{Inputs}
 use Rattle.chain_file.specs.Chain.{chain}
 use Rattle.edge_traits.specs.Shelf.{Files}
 
--- each file is what was read of it; or the first that is refused is refused for the reason that is told
+-- each file is what was read of it; or the first that is refused is refused for the reason that is reported
 abbrev pub AreInputs : Result Inputs BadInput → Cluster → Files → Type 0
 AreInputs (Ok inputs) asked files = (accepted (files asked.app) ≡ Ok inputs.app.app)
     × (all_arrived asked.arrivals 1 asked.nodes files ≡ Ok inputs.arrivals)

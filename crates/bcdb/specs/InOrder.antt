@@ -23,7 +23,7 @@ abbrev pub BlocksInOrder : Result App Refusal → List ℕ → Type 0
 BlocksInOrder (Err refusal) bytes = Unit {0}
 BlocksInOrder (Ok app) bytes = EachInOrder app (chain bytes).0 (node_result app (chain bytes).0).blocks
 
--- and so do those that a node tells which a schedule drives, if they are told
+-- and so do those that a node tells which a schedule drives, if they are reported
 abbrev pub ToldInOrder : App → List Block → Result NodeResult ℕ → Type 0
 ToldInOrder app blocks (Err sealed) = Unit {0}
 ToldInOrder app blocks (Ok told) = EachInOrder app blocks told.blocks

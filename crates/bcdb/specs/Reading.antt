@@ -13,7 +13,7 @@ use Rattle.proc_syntax.specs.declared.chain_fault.ChainFault.{ChainFault}
 abbrev pub Gathers : Gatherer → List ℕ → Type 0
 Gathers gatherer bytes = WasFed gatherer.reader bytes × ((chain bytes).0 ≡ gatherer.blocks)
 
--- so many bytes of a file were taken, with no fault yet; they are its front if the shelf tells its files
+-- so many bytes of a file were taken, with no fault yet; they are its prefix if the shelf tells its files
 pub record IsRead (told : Option Files) (name : List ℕ) (count : ℕ) (took : List ℕ → Type 0) : Type 0 where
   pub bytes : List ℕ
   pub size : length bytes ≡ count

@@ -28,7 +28,7 @@ place_text refusal = codes " " ++ decimal refusal.line ++ codes " " ++ kind_text
 abbrev pub refusal_line : Refusal → List ℕ
 refusal_line refusal = codes "refused application" ++ place_text refusal
 
--- why a query is refused, by its name; want of memory has a name too, and refuses none
+-- why a query is refused, by its name; out of memory has a name too, and refuses none
 abbrev pub fault_text : QueryFault → List ℕ
 fault_text fault.NoMemory = codes "NoMemory"
 fault_text fault.BadQuery = codes "BadQuery"

@@ -15,7 +15,7 @@ abbrev pub selected : App → List Block → Option Query → Result (List Versi
 selected app blocks None = Err fault.BadQuery
 selected app blocks (Some query) = answer (tables_of app) (results_of (tables_of app) (fold app blocks)) query
 
--- what is told is what is meant, but where memory ran out
+-- what is reported is what is meant, but where memory ran out
 abbrev pub Tells : Result (List Version) QueryFault → Result (List Version) QueryFault → Type 0
 Tells (Ok versions) meant = meant ≡ Ok versions
 Tells (Err fault.NoMemory) meant = Unit {0}

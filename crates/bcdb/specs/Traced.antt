@@ -42,7 +42,7 @@ abbrev pub FollowsCluster : Cluster → Result App Refusal → Files → List �
 FollowsCluster asked (Err refusal) files lines = lines ≡ []
 FollowsCluster asked (Ok app) files lines = FollowsNodes asked app (all_arrived asked.arrivals 1 asked.nodes files) (files asked.blocks) lines
 
--- and none behind what other commands answer
+-- and none after what other commands answer
 abbrev pub Follows : Option Settings → Files → List ℕ → Type 0
 Follows (Some (Run app blocks front nodes executors flags)) files lines = FollowsCluster (cluster_of app blocks front nodes executors flags) (accepted (files app)) files lines
 Follows settings files lines = lines ≡ []
@@ -62,7 +62,7 @@ RepliesCluster asked found files reply = (lines : List ℕ) × (FollowsCluster a
 abbrev pub Replies : Option Settings → Files → Reply → Type 0
 Replies settings files reply = (lines : List ℕ) × (Follows settings files lines × Means (followed_by lines (over_settings settings files)) reply)
 
--- The answer and what may follow it is written; or memory runs out, and a front of the answer was written.
+-- The answer and what may follow it is written; or memory runs out, and a prefix of the answer was written.
 abbrev pub EndsTraced : Option Settings → Files → Status → Option (List ℕ) → Option (List ℕ) → Type 0
 EndsTraced settings files status before now =
     ((status ≡ NoMemory) × WroteFront before now (over_settings settings files).bytes)

@@ -26,7 +26,7 @@ fn node_file(alloc: Global, front: &str, node: u32) -> Result<Word, NoMemory>
     Word::new(alloc, name.as_str())
 }
 
-/// The name of the file of what arrives at a node, if the words name such files by the front of their names.
+/// The name of the file of what arrives at a node, if the words name such files by the prefix of their names.
 pub fn arrivals_name(
     alloc: Global,
     front: &Option<Word>,
@@ -59,7 +59,7 @@ fn read_node<S: Shelf>(
 
 /// What arrives at each node of a run, in the order of the nodes; or the first node whose file has a fault, with the line.
 ///
-/// A file is read only once those of the nodes before it have no fault, and none behind the first fault. A read that fails is not
+/// A file is read only once those of the nodes before it have no fault, and none after the first fault. A read that fails is not
 /// tried again.
 pub fn read_all_arrivals<S: Shelf>(
     alloc: Global,

@@ -93,7 +93,7 @@ fn read_piece<S: Shelf>(
     }
 }
 
-// Reads a file from its front, by a buffer that has room.
+// Reads a file from its start, by a buffer that has room.
 #[tactic(auto, using(crate::proofs::Arriving::told_whole))]
 fn read_through<S: Shelf>(
     alloc: Global,
@@ -149,7 +149,7 @@ fn read_file<S: Shelf>(
 
 /// What arrives by a file, if one is named: its transactions, or its first line with a fault.
 ///
-/// Each call to the shelf asks for 65,536 bytes, and none is made once the fault is met: a file is asked for no byte behind the
+/// Each call to the shelf asks for 65,536 bytes, and none is made once the fault is met: a file is asked for no byte after the
 /// piece that has its fault. A read that fails is not tried again.
 pub fn read_arrivals<S: Shelf>(
     alloc: Global,

@@ -58,7 +58,7 @@ fn read_piece<S: Shelf, I: Intake>(
     }
 }
 
-// Reads a file from its front, by a buffer that has room, and answers the fault that was met.
+// Reads a file from its start, by a buffer that has room, and answers the fault that was met.
 fn read_through<S: Shelf, I: Intake>(
     shelf: &mut S,
     name: &str,
@@ -85,7 +85,7 @@ fn read_through<S: Shelf, I: Intake>(
 
 /// Hands a file piece by piece to what takes it, and answers the fault at which it was stopped, if more bytes could not heal that.
 ///
-/// Each call to the shelf asks for 65,536 bytes, and none is made once the fault is met: a file is asked for no byte behind the
+/// Each call to the shelf asks for 65,536 bytes, and none is made once the fault is met: a file is asked for no byte after the
 /// piece that has its fault. A read that fails is not tried again.
 pub fn read_file<S: Shelf, I: Intake>(
     alloc: Global,

@@ -11,7 +11,7 @@ use report_text::Look;
 pub struct Cluster {
     /// The application.
     pub app: Word,
-    /// What arrives at the nodes, if anything does: the front of the names of the files, behind which the number of a node stands.
+    /// What arrives at the nodes, if anything does: the prefix of the names of the files, after which the number of a node stands.
     pub arrivals: Option<Word>,
     /// How many nodes there are, from 1 to 8.
     pub nodes: u32,

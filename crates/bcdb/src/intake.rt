@@ -16,7 +16,7 @@ use std::alloc::Global;
 
 /// What takes a block file piece by piece.
 pub trait Intake {
-    /// It took these bytes, from the front of a file on.
+    /// It took these bytes, from the start of a file on.
     ghost took: { Self → List ℕ → Type 0 };
 
     /// Takes the next piece, and answers the fault that was met in it.

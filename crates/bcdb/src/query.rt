@@ -52,7 +52,7 @@ fn select(
     }
 }
 
-// Puts the line behind others that tells how the block file ended.
+// Puts the line after others that tells how the block file ended.
 fn push_end(alloc: Global, lines: &mut List<u8>, stop: &Option<ChainFault>) -> Result<(), NoMemory>
     ensures { OnOk result (lines.new ≡ lines.old ++ end_line stop.now) }
 {

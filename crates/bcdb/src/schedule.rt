@@ -19,7 +19,7 @@ use std::alloc::Global;
 /// The number of bytes that no schedule has more of.
 const LONGEST_SCHEDULE: u64 = 4_097_008_193;
 
-// Reads the next piece of a file, of which `text` is the front, and answers the piece's length.
+// Reads the next piece of a file, of which `text` is the prefix, and answers the piece's length.
 #[tactic(auto, using(edge_traits::proofs::Fronts::told_grows))]
 fn add_piece<S: Shelf>(
     shelf: &mut S,
@@ -84,7 +84,7 @@ fn parse_text(alloc: Global, text: &[u8]) -> Result<Result<Schedule, u64>, NoMem
 
 /// The schedule of a file, or its first bad line.
 ///
-/// Each call to the shelf asks for 65,536 bytes, and no byte is asked for behind 4,097,073,729 bytes, which are more than a schedule
+/// Each call to the shelf asks for 65,536 bytes, and no byte is asked for after 4,097,073,729 bytes, which are more than a schedule
 /// can have. A read that fails is not tried again.
 pub fn read_schedule<S: Shelf>(
     alloc: Global,

@@ -90,9 +90,9 @@ fn serve<R: Threads + Wait + Sync, S: Shelf, W: Sink, G: Gate>(
 /// results.
 ///
 /// Over a shelf that tells its files, either no read failed and the call ends with the status and all the bytes of that answer; or the
-/// count of a named file rose in its turn, and it ends with those of a failed read. At `WriteFault` and `NoMemory` a front of the bytes
+/// count of a named file rose in its turn, and it ends with those of a failed read. At `WriteFault` and `NoMemory` a prefix of the bytes
 /// was written. Nothing is asked for but bytes of the named files, of each only once the one before it is accepted, and none of the
-/// blocks or of what arrives behind the first fault: that is what `allowed`, which every shelf here meets, asks of the body.
+/// blocks or of what arrives after the first fault: that is what `allowed`, which every shelf here meets, asks of the body.
 ///
 /// The gate can hold the executors and the processor of a node at some points, for a test; no answer depends on it.
 #[tactic(auto, using(crate::proofs::Orders::told_in_order, crate::proofs::Agreeing::told_as_run, crate::proofs::Ends::ends_refused, crate::proofs::Ends::ends_short))]
@@ -129,7 +129,7 @@ pub fn bcdb<R: Threads + Wait + Sync, S: Shelf, W: Sink, G: Gate>(
     ensures refuses { settings_of (texts words.now) ≡ None → Ends usage_refused result (W.written out.old) (W.written out.new) }
     ensures usage { result ≡ Status.Usage → settings_of (texts words.now) ≡ None }
 
-    // A failure has its cause, and each failure is told: where a count of failed reads rose the status is `ReadFault`, and where
+    // A failure has its cause, and each failure is reported: where a count of failed reads rose the status is `ReadFault`, and where
     // that of failed writes did it is `WriteFault`, which goes first.
     ensures read { result ≡ Status.ReadFault → RoseAtNamed (settings_of (texts words.now)) (S.faults shelf.old) (S.faults shelf.new) }
     ensures counted { (S.faults shelf.new ≡ S.faults shelf.old) ⊎ Writes read_refused result (W.written out.old) (W.written out.new) }

@@ -18,13 +18,13 @@ fn words_fault(error: &io::Error) -> WordsFault
     }
 }
 
-// The words behind the program's name.
+// The words after the program's name.
 fn collect(rt: &HostRuntime) -> io::Result<Vec<String>> {
     let words = env::args(rt)?.skip(1).collect(rt.alloc())?;
     Ok(words)
 }
 
-/// The words behind the program's name, or why they can not be had.
+/// The words after the program's name, or why they can not be had.
 pub fn collect_words(rt: &HostRuntime) -> Result<Vec<String>, WordsFault> {
     match collect(rt) {
         Ok(words) => Ok(words),

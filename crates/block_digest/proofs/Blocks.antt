@@ -94,7 +94,7 @@ HasHeadCode = HasBoth IsWide (HasCounted most_outcomes HasToldCode)
 head_exact : IsExact head_code HasHeadCode (then_at (number_at w64) outcomes_at)
 head_exact = both_exact (be_code w64) IsWide (number_at w64) (counted small_code told_code) (HasCounted most_outcomes HasToldCode) outcomes_at u64_exact outcomes_exact
 
--- with the order behind them
+-- with the order after them
 abbrev ordered_code : (ℕ × List Told) × List ℕ → List ℕ
 ordered_code = pair_code head_code (counted small_code small_code)
 
@@ -112,7 +112,7 @@ ordered_exact =
     then_exact head_code HasHeadCode (then_at (number_at w64) outcomes_at) (counted small_code small_code) IsOrderOf (λ found. order_at (length found.1))
     head_exact (λ head has. order_exact (length head.1) has.1.0)
 
--- with the writes behind them
+-- with the writes after them
 abbrev parts_code : ((ℕ × List Told) × List ℕ) × List Placed → List ℕ
 parts_code = pair_code ordered_code (counted small_code write_code)
 

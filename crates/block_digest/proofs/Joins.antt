@@ -38,7 +38,7 @@ pub tested_exact : {A : Type 0} (code : A → List ℕ) (HasCode : A → Type 0)
 tested_exact code HasCode reading test exact =
     record { back = tested_back code HasCode reading test exact; written = tested_written code HasCode reading test exact }
 
--- bytes of a form, behind their length
+-- bytes of a form, after their length
 pub form_exact : (form : List ℕ → Bool) → IsExact short_code (λ bytes. form bytes ≡ true) (tested_at form short_at)
 form_exact form = record {
   back = λ found rest fine. ap (λ short. short >>= λ a. cond (form a.0) (Some a) None) (short_back found rest) ∙ ap (λ passed. cond passed (Some (found, rest)) None) fine;
@@ -119,7 +119,7 @@ made_exact make parts code HasCode reading made_code HasMade exact made = record
 
 -- ---- one of several kinds, by a byte
 
--- what is read behind the byte of a kind was written so
+-- what is read after the byte of a kind was written so
 pub record Says {A : Type 0} (code : A → List ℕ) (HasCode : A → Type 0) (kind : ℕ) (reading : Reading A) : Type 0 where
   pub says : (bytes : List ℕ) (x : A) (rest : List ℕ) → AreBytes bytes → reading bytes ≡ Some (x, rest) → HasCode x × (kind ∷ bytes ≡ code x ++ rest)
 

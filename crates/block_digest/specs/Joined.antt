@@ -2,7 +2,7 @@
 use Rattle.canon_code.specs.Parts.{◌>>=◌}
 use Rattle.std.specs.Prelude.{Bool, List, None, Option, Some, cond, ℕ}
 
--- a way to read a thing at the front of some bytes: the thing, and the bytes after it
+-- a way to read a thing at the start of some bytes: the thing, and the bytes after it
 abbrev pub Reading : Type 0 → Type 0
 Reading A = List ℕ → Option (A × List ℕ)
 

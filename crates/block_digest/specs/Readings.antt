@@ -1,4 +1,4 @@
--- How the result of a block is read from the front of some bytes.
+-- How the result of a block is read from the start of some bytes.
 use Rattle.block_digest.specs.Grammar.{most_counted, most_outcomes, placed_cmp}
 use Rattle.block_digest.specs.Joined.{Reading, made_at, tested_at, then_at, then_by}
 use Rattle.canon_code.specs.Parts.{counted_at, number_at, short_at}
@@ -38,7 +38,7 @@ abbrev pub late_of : Bool → ((ℕ × ℕ) × ℕ) × (ℕ × List Value) → L
 late_of stale found =
     record { stale = stale; read = found.0.0.0; place = record { block = found.0.0.1; pos = found.0.1 }; table = found.1.0; key = found.1.1 }
 
--- a late read behind its kind
+-- a late read after its kind
 abbrev pub late_at : Bool → Reading Late
 late_at stale = made_at (late_of stale) (then_at (then_at (then_at small_at (number_at w64)) small_at) named_at)
 
@@ -130,7 +130,7 @@ block_of found = record {
   digest = replicate 32 0;
 }
 
--- the block at the front of the bytes, and what follows it
+-- the block at the start of the bytes, and what follows it
 abbrev pub block_at : Reading BlockResult
 block_at =
     made_at block_of (then_by (then_by (then_at (number_at w64) outcomes_at) (λ found. order_at (length found.1))) (λ found. writes_at (length found.0.1)))

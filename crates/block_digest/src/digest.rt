@@ -11,7 +11,7 @@ use rel_base::NoMemory;
 use sha2::{Digest, Sha256};
 use std::alloc::Global;
 
-/// The SHA-256 of a digest and the bytes behind it.
+/// The SHA-256 of a digest and the bytes after it.
 fn digest_behind(previous: &[u8; 32], code: &[u8]) -> [u8; 32]
     ensures { result ≡ sha256 (previous.now ++ code.now) }
 {
@@ -23,7 +23,7 @@ fn digest_behind(previous: &[u8; 32], code: &[u8]) -> [u8; 32]
 
 /// The digest of a block's result, where the block before has a digest: before the first block, `NO_DIGEST` of `node_model`. The
 /// digest and the time that the result holds have no part in it. There are fewer than 2^32 outcomes, positions and writes, and at
-/// most 32 values in each key and row. The only refusal is want of memory, which is taken for the code of the result.
+/// most 32 values in each key and row. The only refusal is out of memory, which is taken for the code of the result.
 pub fn digest_of(
     alloc: Global,
     previous: &[u8; 32],

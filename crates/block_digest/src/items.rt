@@ -13,7 +13,7 @@ use std::alloc::Global;
 pub trait Item: Sized + Drop {
     ghost item_at: { ℕ → Reading Self };
 
-    /// Reads the item whose code stands at the front of the bytes, and answers what follows it too.
+    /// Reads the item whose code stands at the start of the bytes, and answers what follows it too.
     fn read<'a>(alloc: Global, count: usize, bytes: &'a [u8]) -> Result<(Self, &'a [u8]), CodeFault>
         ensures { Reads result (item_at count bytes.now) };
 }

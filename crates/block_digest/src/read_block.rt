@@ -162,7 +162,7 @@ fn rise(writes: &[Placed]) -> bool
     }
 }
 
-/// Reads writes behind their count.
+/// Reads writes after their count.
 fn read_counted_writes(
     alloc: Global,
     count: usize,
@@ -189,7 +189,7 @@ fn read_writes(
     Ok((writes, rest))
 }
 
-/// Reads the block whose code stands at the front of the bytes, and answers what follows it too.
+/// Reads the block whose code stands at the start of the bytes, and answers what follows it too.
 fn read_block(alloc: Global, bytes: &[u8]) -> Result<(BlockResult, &[u8]), CodeFault>
     ensures { Reads result (block_at bytes.now) }
 {

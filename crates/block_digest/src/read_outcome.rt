@@ -112,7 +112,7 @@ fn read_danger(bytes: &[u8]) -> Result<(Outcome, &[u8]), CodeFault>
     Ok((Outcome::Danger(danger), rest))
 }
 
-/// Reads the outcome whose code stands at the front of the bytes, and answers what follows it too.
+/// Reads the outcome whose code stands at the start of the bytes, and answers what follows it too.
 pub fn read_outcome(alloc: Global, bytes: &[u8]) -> Result<(Outcome, &[u8]), CodeFault>
     ensures { Reads result (outcome_at bytes.now) }
 {

@@ -34,7 +34,7 @@ fn push_all_told(out: &mut Vec<u8>, outcomes: &[Told]) -> Result<(), NoMemory>
     Ok(())
 }
 
-/// Writes transactions at the end, behind their count.
+/// Writes transactions at the end, after their count.
 fn push_outcomes(out: &mut Vec<u8>, outcomes: &List<Told>) -> Result<(), NoMemory>
     requires few { length outcomes.now < 2 ^ 32 }
     requires keys { All (λ told. HasFewKey told.outcome) outcomes.now }
@@ -54,7 +54,7 @@ fn push_positions(out: &mut Vec<u8>, order: &[u32]) -> Result<(), NoMemory>
     Ok(())
 }
 
-/// Writes positions at the end, behind their count.
+/// Writes positions at the end, after their count.
 fn push_order(out: &mut Vec<u8>, order: &List<u32>) -> Result<(), NoMemory>
     requires { length order.now < 2 ^ 32 }
     ensures { OnOk result (out.new.items ≡ out.old.items ++ counted small_code small_code order.now) }
@@ -74,7 +74,7 @@ fn push_all_placed(out: &mut Vec<u8>, writes: &[Placed]) -> Result<(), NoMemory>
     Ok(())
 }
 
-/// Writes writes at the end, behind their count.
+/// Writes writes at the end, after their count.
 fn push_writes(out: &mut Vec<u8>, writes: &List<Placed>) -> Result<(), NoMemory>
     requires few { length writes.now < 2 ^ 32 }
     requires rows { All IsFewWrite writes.now }
@@ -96,7 +96,7 @@ fn push_block(out: &mut Vec<u8>, block: &BlockResult) -> Result<(), NoMemory>
 }
 
 /// The code of a block's result, in which its time and its digest have no part. There are fewer than 2^32 outcomes, positions
-/// and writes, and at most 32 values in each key and row. The only refusal is want of memory, which is taken for the code alone.
+/// and writes, and at most 32 values in each key and row. The only refusal is out of memory, which is taken for the code alone.
 pub fn encode(alloc: Global, block: &BlockResult) -> Result<List<u8>, NoMemory>
     requires { IsCodable block.now }
     ensures { IfOk result (λ bytes. bytes ≡ block_code block.now) }

@@ -20,7 +20,7 @@ fn push_byte(out: &mut Vec<u8>, byte: u8) -> Result<(), NoMemory>
     Ok(())
 }
 
-/// Writes a key of a table at the end, behind the position that wrote it.
+/// Writes a key of a table at the end, after the position that wrote it.
 fn push_ref(out: &mut Vec<u8>, pos: u32, table: u32, key: &Key) -> Result<(), NoMemory>
     requires { length key.now ≤ 32 }
     ensures { OnOk result (out.new.items ≡ out.old.items ++ (small_code pos ++ small_code table ++ key_code key.now)) }
@@ -78,7 +78,7 @@ fn push_fault(out: &mut Vec<u8>, fault: &Fault) -> Result<(), NoMemory>
     }
 }
 
-/// Writes a fault at the end, behind the byte of its outcome.
+/// Writes a fault at the end, after the byte of its outcome.
 fn push_faulted(out: &mut Vec<u8>, fault: &Fault) -> Result<(), NoMemory>
     ensures { OnOk result (out.new.items ≡ out.old.items ++ 7 ∷ fault_code fault.now) }
 {
@@ -86,7 +86,7 @@ fn push_faulted(out: &mut Vec<u8>, fault: &Fault) -> Result<(), NoMemory>
     push_fault(out, fault)
 }
 
-/// Writes a write conflict at the end, behind the byte of its outcome.
+/// Writes a write conflict at the end, after the byte of its outcome.
 fn push_clash(out: &mut Vec<u8>, clash: &Clash) -> Result<(), NoMemory>
     requires { length clash.now.key ≤ 32 }
     ensures { OnOk result (out.new.items ≡ out.old.items ++ 8 ∷ clash_code clash.now) }
@@ -104,7 +104,7 @@ fn push_positions(out: &mut Vec<u8>, form: u8, first: u32, second: u32) -> Resul
     put_u32(out, second)
 }
 
-/// Writes the positions of a danger at the end, behind its form.
+/// Writes the positions of a danger at the end, after its form.
 fn push_form(out: &mut Vec<u8>, danger: &Danger) -> Result<(), NoMemory>
     ensures { OnOk result (out.new.items ≡ out.old.items ++ danger_code danger.now) }
 {
@@ -114,7 +114,7 @@ fn push_form(out: &mut Vec<u8>, danger: &Danger) -> Result<(), NoMemory>
     }
 }
 
-/// Writes a danger at the end, behind the byte of its outcome.
+/// Writes a danger at the end, after the byte of its outcome.
 fn push_danger(out: &mut Vec<u8>, danger: &Danger) -> Result<(), NoMemory>
     ensures { OnOk result (out.new.items ≡ out.old.items ++ 9 ∷ danger_code danger.now) }
 {

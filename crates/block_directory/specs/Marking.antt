@@ -16,7 +16,7 @@ use Rattle.std.specs.Prelude.{Bool, List, Some, false, length, slice_get, slice_
 
 -- ---- places
 
--- the place of a table, behind those of all keys
+-- the place of a table, after those of all keys
 abbrev pub table_place : ℕ → ℕ
 table_place table = 1024 + table % 64
 

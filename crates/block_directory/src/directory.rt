@@ -39,7 +39,7 @@ impl Directory {
         }
     }
 
-    /// Takes room for the transaction of a number, from 0. The directory says what it said, with want of memory or without.
+    /// Takes room for the transaction of a number, from 0. The directory says what it said, whether memory runs out or not.
     pub fn reserve(&mut self, number: usize) -> Result<(), NoMemory>
         ensures same { (committed : List Done) → IsDirectoryOf committed self.old → IsDirectoryOf committed self.new }
         ensures room { OnOk result (HasRoomFor number self.new) }

@@ -7,7 +7,7 @@ use crate::places::{ROW, read_place, table_place, write_place};
 use rel_base::{Made, NoMemory, Write};
 use rw_graph::word::with_one;
 
-/// Takes room for the marks of a transaction, which is none where it stands behind 1,024 others. No mark changes, with want of memory
+/// Takes room for the marks of a transaction, which is none where it stands after 1,024 others. No mark changes, with out of memory
 /// or without.
 pub fn grow(words: &mut Vec<u64>, number: usize) -> Result<(), NoMemory>
     ensures same { (place other : ℕ) → is_marked words.new.items place other ≡ is_marked words.old.items place other }

@@ -11,7 +11,7 @@ use Rattle.std.specs.Prelude.{Bool, List, Option, is_some, length, slice_index, 
 abbrev pub hash_of : List ℕ → ℕ
 hash_of id = finish (write initial id)
 
--- whether an id has its mark: the word is told by the hash, and the bit of the word by the six highest bits of the hash
+-- whether an id has its mark: the hash names the word, and the bit of the word by the six highest bits of the hash
 abbrev pub has_mark : List ℕ → List ℕ → Bool
 has_mark words id = is_one (slice_index words (hash_of id % length words)) (hash_of id / 2 ^ 58)
 

@@ -48,7 +48,7 @@ impl BlockInWork {
         }
     }
 
-    /// Takes room for one more transaction. Nothing else changes, with want of memory or without.
+    /// Takes room for one more transaction. Nothing else changes, whether memory runs out or not.
     pub fn reserve(&mut self) -> Result<(), NoMemory>
         requires few { length self.old.outcomes.items < 1024 }
         ensures same { IsSameWork self.old self.new }

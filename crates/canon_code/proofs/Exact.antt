@@ -34,7 +34,7 @@ rest_within code HasCode reading exact bytes x rest fits e =
     let written = exact.written bytes x rest fits e in
     omega (arith, ap length written.1, length-append (code x) rest)
 
--- what was read stands at the front, and what precedes the rest is its code
+-- what was read stands at the start, and what precedes the rest is its code
 pub is_front : {A : Type 0} (code : A → List ℕ) (HasCode : A → Type 0) (reading : List ℕ → Option (A × List ℕ)) → IsExact code HasCode reading
     → (bytes : List ℕ) (x : A) (rest : List ℕ) → AreBytes bytes → reading bytes ≡ Some (x, rest) → IsFront code HasCode bytes (x, length bytes - length rest)
 is_front code HasCode reading exact bytes x rest fits e =
@@ -46,7 +46,7 @@ is_front code HasCode reading exact bytes x rest fits e =
       len = len;
     }
 
--- where nothing was read, no code stands at the front
+-- where nothing was read, no code stands at the start
 pub no_front : {A : Type 0} (code : A → List ℕ) (HasCode : A → Type 0) (reading : List ℕ → Option (A × List ℕ)) → IsExact code HasCode reading
     → (bytes : List ℕ) (e : ReadFault) → Reads {A = A} (Err e) (reading bytes) → Gets code HasCode bytes (Err e)
 no_front code HasCode reading exact bytes fault.NoMemory none = tt
@@ -138,7 +138,7 @@ byte_written (b ∷ bytes) n rest fits e =
 pub byte_exact : IsExact byte_code (λ n. n < 256) byte_at
 byte_exact = record { back = λ n rest lt. refl; written = byte_written }
 
--- ---- bytes behind their length
+-- ---- bytes after their length
 
 pub short_back : (bytes rest : List ℕ) → short_at (short_code bytes ++ rest) ≡ Some (bytes, rest)
 short_back bytes rest =
@@ -160,7 +160,7 @@ short_written (len ∷ bytes) found rest fits e =
 pub short_exact : IsExact short_code HasShortCode short_at
 short_exact = record { back = λ bytes rest has. short_back bytes rest; written = short_written }
 
--- ---- items behind their count
+-- ---- items after their count
 
 items_back : {A : Type 0} (code : A → List ℕ) (HasCode : A → Type 0) (reading : List ℕ → Option (A × List ℕ)) → IsExact code HasCode reading
     → (items : List A) (rest : List ℕ) → AllByRecursion HasCode items → items_at reading (length items) (flat_map code items ++ rest) ≡ Some (items, rest)
@@ -170,7 +170,7 @@ items_back code HasCode reading exact (x ∷ xs) rest has =
     ∙ ap (λ found. found >>= λ first. (items_at reading (length xs) first.1 >>= λ others. Some (first.0 ∷ others.0, others.1))) (exact.back x (flat_map code xs ++ rest) has.0)
     ∙ ap (λ found. found >>= λ others. Some (x ∷ others.0, others.1)) (items_back code HasCode reading exact xs rest has.1)
 
--- so many items stand at the front of the bytes
+-- so many items stand at the start of the bytes
 abbrev AreItems : {A : Type 0} → (A → List ℕ) → (A → Type 0) → ℕ → List ℕ → List ℕ → List A → Type 0
 AreItems code HasCode n bytes rest items = (length items ≡ n) × AllByRecursion HasCode items × (bytes ≡ flat_map code items ++ rest)
 

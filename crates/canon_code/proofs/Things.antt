@@ -94,7 +94,7 @@ value_back (value.Text t) rest has = ap (as_kind value.Text) (text_exact.back t 
 value_back (value.Bool b) rest has = ap (as_kind value.Bool) (bool_exact.back b rest has)
 value_back (value.Bytes b) rest has = ap (as_kind value.Bytes) (short_exact.back b rest has)
 
--- a value and the bytes whose front is its code
+-- a value and the bytes whose prefix is its code
 abbrev IsWritten : List ℕ → Value → List ℕ → Type 0
 IsWritten bytes v rest = HasValueCode v × (bytes ≡ value_code v ++ rest)
 

@@ -1,4 +1,4 @@
--- The parts that all codes share: numbers of fixed width, bytes behind their length, and lists behind their count.
+-- The parts that all codes share: numbers of fixed width, bytes after their length, and lists after their count.
 use Rattle.std.specs.Prelude.{◌<◌, ◌≤◌, ◌++◌, ℕ, List, [], ◌∷◌, length, get_or}
 use Rattle.std.specs.Int.{Width, to_be_bytes}
 use Rattle.std.specs.List.{flat_map, AllByRecursion}
@@ -15,7 +15,7 @@ be_code width n = to_be_bytes width n
 abbrev pub byte_code : ℕ → List ℕ
 byte_code n = n ∷ []
 
--- bytes behind one byte, which is their length
+-- bytes after one byte, which is their length
 abbrev pub short_code : List ℕ → List ℕ
 short_code bytes = length bytes ∷ bytes
 
@@ -23,7 +23,7 @@ short_code bytes = length bytes ∷ bytes
 abbrev pub HasShortCode : List ℕ → Type 0
 HasShortCode bytes = AreBytes bytes × (length bytes ≤ 255)
 
--- items behind their count
+-- items after their count
 abbrev pub counted : {A : Type 0} → (ℕ → List ℕ) → (A → List ℕ) → List A → List ℕ
 counted count item items = count (length items) ++ flat_map item items
 

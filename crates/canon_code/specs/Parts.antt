@@ -1,4 +1,4 @@
--- How the parts that all codes share are read from the front of some bytes: the part, and the bytes after it.
+-- How the parts that all codes share are read from the start of some bytes: the part, and the bytes after it.
 use Rattle.std.specs.Prelude.{ℕ, zero, suc, List, [], ◌∷◌, length, take, drop, cond, nat_lt, nat_le, Option, Some, None}
 use Rattle.std.specs.Int.{Width, byte_len, from_be_bytes}
 
@@ -22,7 +22,7 @@ byte_at (b ∷ bytes) = Some (b, bytes)
 abbrev pub parted : ℕ → List ℕ → Option (List ℕ × List ℕ)
 parted len bytes = cond (nat_lt (length bytes) len) None (Some (take len bytes, drop len bytes))
 
--- bytes behind their length
+-- bytes after their length
 abbrev pub short_at : List ℕ → Option (List ℕ × List ℕ)
 short_at [] = None
 short_at (len ∷ bytes) = parted len bytes
@@ -35,7 +35,7 @@ items_at item (suc n) bytes = do
   others ← items_at item n first.1
   Some (first.0 ∷ others.0, others.1)
 
--- items behind their count, of which there are at most so many
+-- items after their count, of which there are at most so many
 abbrev pub counted_at : {A : Type 0} → (List ℕ → Option (ℕ × List ℕ)) → ℕ → (List ℕ → Option (A × List ℕ)) → List ℕ → Option (List A × List ℕ)
 counted_at count most item bytes = do
   n ← count bytes

@@ -16,6 +16,6 @@ key_code key = row_code key
 abbrev pub HasRowCode : List Value → Type 0
 HasRowCode row = HasCounted 32 HasValueCode row
 
--- the row at the front of the bytes, and what follows it
+-- the row at the start of the bytes, and what follows it
 abbrev pub row_at : List ℕ → Option (List Value × List ℕ)
 row_at bytes = counted_at byte_at 32 value_at bytes

@@ -51,7 +51,7 @@ abbrev pub bool_at : List ℕ → Option (Bool × List ℕ)
 bool_at [] = None
 bool_at (b ∷ bytes) = cond (b == 0) (Some (false, bytes)) (cond (b == 1) (Some (true, bytes)) None)
 
--- the value at the front of the bytes, and what follows it
+-- the value at the start of the bytes, and what follows it
 abbrev pub value_at : List ℕ → Option (Value × List ℕ)
 value_at [] = None
 value_at (kind ∷ bytes) =

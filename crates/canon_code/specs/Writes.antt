@@ -68,7 +68,7 @@ change_at [] = None
 change_at (kind ∷ bytes) =
     cond (kind == 1) (insert_at bytes) (cond (kind == 2) (update_at bytes) (cond (kind == 3) (delete_at bytes) None))
 
--- the write at the front of the bytes, and what follows it
+-- the write at the start of the bytes, and what follows it
 abbrev pub write_at : List ℕ → Option (Placed × List ℕ)
 write_at bytes = do
   pos ← number_at w32 bytes

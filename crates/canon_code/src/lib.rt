@@ -1,7 +1,7 @@
 //! One code in bytes for each value, row and write, so that nodes can compare what they hold by digests.
 //!
 //! Each `put_` call writes the code of a thing at the end of some bytes. Each `read_` call reads the thing whose code stands at
-//! the front of some bytes, and answers what follows; a `get_` call answers the length of the code instead.
+//! the start of some bytes, and answers what follows; a `get_` call answers the length of the code instead.
 #![tactic(auto)]
 
 pub mod laws;

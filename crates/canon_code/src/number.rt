@@ -27,7 +27,7 @@ pub fn put_u64(out: &mut Vec<u8>, number: u64) -> Result<(), NoMemory>
     Ok(())
 }
 
-/// Reads the byte at the front of the bytes, and answers what follows it too.
+/// Reads the byte at the start of the bytes, and answers what follows it too.
 pub fn read_u8(bytes: &[u8]) -> Result<(u8, &[u8]), CodeFault>
     ensures number { Reads result (byte_at bytes.now) }
     ensures judged { IsErrOf result CodeFault.NoMemory → ⊥ }
@@ -38,7 +38,7 @@ pub fn read_u8(bytes: &[u8]) -> Result<(u8, &[u8]), CodeFault>
     }
 }
 
-/// Reads the number of 32 bits at the front of the bytes, and answers what follows it too.
+/// Reads the number of 32 bits at the start of the bytes, and answers what follows it too.
 pub fn read_u32(bytes: &[u8]) -> Result<(u32, &[u8]), CodeFault>
     ensures number { Reads result (number_at w32 bytes.now) }
     ensures judged { IsErrOf result CodeFault.NoMemory → ⊥ }
@@ -51,7 +51,7 @@ pub fn read_u32(bytes: &[u8]) -> Result<(u32, &[u8]), CodeFault>
     Ok((number, rest))
 }
 
-/// Reads the number of 64 bits at the front of the bytes, and answers what follows it too.
+/// Reads the number of 64 bits at the start of the bytes, and answers what follows it too.
 pub fn read_u64(bytes: &[u8]) -> Result<(u64, &[u8]), CodeFault>
     ensures number { Reads result (number_at w64 bytes.now) }
     ensures judged { IsErrOf result CodeFault.NoMemory → ⊥ }

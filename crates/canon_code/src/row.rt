@@ -81,7 +81,7 @@ fn read_few(alloc: Global, count: u8, bytes: &[u8]) -> Result<(List<Value>, &[u8
     read_values(alloc, count, bytes)
 }
 
-/// Reads the values whose number and codes stand at the front of the bytes.
+/// Reads the values whose number and codes stand at the start of the bytes.
 fn read_counted(alloc: Global, bytes: &[u8]) -> Result<(List<Value>, &[u8]), CodeFault>
     ensures { Reads result (row_at bytes.now) }
 {
@@ -89,7 +89,7 @@ fn read_counted(alloc: Global, bytes: &[u8]) -> Result<(List<Value>, &[u8]), Cod
     read_few(alloc, count, rest)
 }
 
-/// Reads the key whose code stands at the front of the bytes, and answers what follows it too.
+/// Reads the key whose code stands at the start of the bytes, and answers what follows it too.
 pub fn read_key(alloc: Global, bytes: &[u8]) -> Result<(Key, &[u8]), CodeFault>
     ensures { Reads result (row_at bytes.now) }
 {
@@ -97,7 +97,7 @@ pub fn read_key(alloc: Global, bytes: &[u8]) -> Result<(Key, &[u8]), CodeFault>
     Ok((Key::from_list(values)?, rest))
 }
 
-/// Reads the row whose code stands at the front of the bytes, and answers what follows it too.
+/// Reads the row whose code stands at the start of the bytes, and answers what follows it too.
 pub fn read_row(alloc: Global, bytes: &[u8]) -> Result<(Row, &[u8]), CodeFault>
     ensures { Reads result (row_at bytes.now) }
 {
@@ -106,7 +106,7 @@ pub fn read_row(alloc: Global, bytes: &[u8]) -> Result<(Row, &[u8]), CodeFault>
     Ok((row, rest))
 }
 
-/// Reads the row whose code stands at the front of the bytes, and answers the length of its code too. Bytes may follow it.
+/// Reads the row whose code stands at the start of the bytes, and answers the length of its code too. Bytes may follow it.
 pub fn get_row(alloc: Global, bytes: &[u8]) -> Result<(Row, usize), CodeFault>
     ensures { Gets row_code HasRowCode bytes.now result }
 {

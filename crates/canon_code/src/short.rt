@@ -1,4 +1,4 @@
-//! Texts and bytes behind one byte, which is their length.
+//! Texts and bytes after one byte, which is their length.
 
 ghost use Rattle.std.specs.Prelude.{◌≡◌, ◌≤◌, ◌++◌, true, length, take, Some, OnOk, OnErr, IsErrOf, IfOk};
 ghost use Rattle.canon_code.specs.Codes.{AreBytes, HasShortCode, short_code};
@@ -10,7 +10,7 @@ use crate::CodeFault;
 use rel_base::{Blob, BlobFault, NoMemory, Str, text_of};
 use std::alloc::Global;
 
-/// Writes bytes behind their length at the end, or a part of that.
+/// Writes bytes after their length at the end, or a part of that.
 fn push_short(out: &mut Vec<u8>, bytes: &[u8]) -> Result<(), NoMemory>
     requires { length bytes.now ≤ 255 }
     ensures ok { OnOk result (out.new.items ≡ out.old.items ++ short_code bytes.now) }
@@ -21,7 +21,7 @@ fn push_short(out: &mut Vec<u8>, bytes: &[u8]) -> Result<(), NoMemory>
     Ok(())
 }
 
-/// Writes bytes behind their length at the end, or nothing where memory runs out.
+/// Writes bytes after their length at the end, or nothing where memory runs out.
 pub fn put_short(out: &mut Vec<u8>, bytes: &[u8]) -> Result<(), NoMemory>
     requires { length bytes.now ≤ 255 }
     ensures ok { OnOk result (out.new.items ≡ out.old.items ++ short_code bytes.now) }
@@ -36,7 +36,7 @@ pub fn put_short(out: &mut Vec<u8>, bytes: &[u8]) -> Result<(), NoMemory>
     pushed
 }
 
-/// Writes a text behind its length at the end, or nothing where memory runs out.
+/// Writes a text after its length at the end, or nothing where memory runs out.
 #[tactic(auto, using(rel_base::proofs::Utf8::text_sound))]
 pub fn put_text(out: &mut Vec<u8>, text: &Str) -> Result<(), NoMemory>
     ensures ok { OnOk result (out.new.items ≡ out.old.items ++ short_code text.now) }
@@ -46,7 +46,7 @@ pub fn put_text(out: &mut Vec<u8>, text: &Str) -> Result<(), NoMemory>
     put_short(out, text.as_str().as_bytes())
 }
 
-/// Writes a byte string behind its length at the end, or nothing where memory runs out.
+/// Writes a byte string after its length at the end, or nothing where memory runs out.
 pub fn put_blob(out: &mut Vec<u8>, blob: &Blob) -> Result<(), NoMemory>
     ensures ok { OnOk result (out.new.items ≡ out.old.items ++ short_code blob.now) }
     ensures err { OnErr result (out.new.items ≡ out.old.items) }
@@ -55,7 +55,7 @@ pub fn put_blob(out: &mut Vec<u8>, blob: &Blob) -> Result<(), NoMemory>
     put_short(out, blob.as_slice())
 }
 
-/// Reads the bytes behind their length at the front of the bytes, and answers what follows them too.
+/// Reads the bytes after their length at the start of the bytes, and answers what follows them too.
 pub fn read_short(bytes: &[u8]) -> Result<(&[u8], &[u8]), CodeFault>
     ensures found { Reads (slice_of result) (short_at bytes.now) }
     ensures short { IfOk result (λ found. length found.0.now ≤ 255) }
@@ -80,7 +80,7 @@ fn split_short(len: u8, bytes: &[u8]) -> Result<(&[u8], &[u8]), CodeFault>
     Ok(bytes.split_at(len))
 }
 
-/// Reads the text behind its length at the front of the bytes, and answers what follows it too.
+/// Reads the text after its length at the start of the bytes, and answers what follows it too.
 pub fn read_text(alloc: Global, bytes: &[u8]) -> Result<(Str, &[u8]), CodeFault>
     ensures { Reads result (text_at bytes.now) }
 {
@@ -101,7 +101,7 @@ fn blob_of(alloc: Global, bytes: &[u8]) -> Result<Blob, CodeFault>
     }
 }
 
-/// Reads the byte string behind its length at the front of the bytes, and answers what follows it too.
+/// Reads the byte string after its length at the start of the bytes, and answers what follows it too.
 pub fn read_blob(alloc: Global, bytes: &[u8]) -> Result<(Blob, &[u8]), CodeFault>
     ensures { Reads result (short_at bytes.now) }
 {

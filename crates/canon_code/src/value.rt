@@ -117,7 +117,7 @@ fn blob_value(alloc: Global, bytes: &[u8]) -> Result<(Value, &[u8]), CodeFault>
     Ok((Value::Bytes(blob), rest))
 }
 
-/// Reads the value whose code stands at the front of the bytes, and answers what follows it too.
+/// Reads the value whose code stands at the start of the bytes, and answers what follows it too.
 pub fn read_value(alloc: Global, bytes: &[u8]) -> Result<(Value, &[u8]), CodeFault>
     ensures { Reads result (value_at bytes.now) }
 {
@@ -130,7 +130,7 @@ pub fn read_value(alloc: Global, bytes: &[u8]) -> Result<(Value, &[u8]), CodeFau
     }
 }
 
-/// Reads the value whose code stands at the front of the bytes, and answers the length of its code too. Bytes may follow it.
+/// Reads the value whose code stands at the start of the bytes, and answers the length of its code too. Bytes may follow it.
 pub fn get_value(alloc: Global, bytes: &[u8]) -> Result<(Value, usize), CodeFault>
     ensures { Gets value_code HasValueCode bytes.now result }
 {

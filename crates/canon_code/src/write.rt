@@ -153,7 +153,7 @@ fn read_change(alloc: Global, bytes: &[u8]) -> Result<(RowChange, &[u8]), CodeFa
     }
 }
 
-/// Reads the write whose code stands at the front of the bytes, and answers what follows it too.
+/// Reads the write whose code stands at the start of the bytes, and answers what follows it too.
 pub fn read_write(alloc: Global, bytes: &[u8]) -> Result<(Placed, &[u8]), CodeFault>
     ensures { Reads result (write_at bytes.now) }
 {
@@ -171,7 +171,7 @@ pub fn read_write(alloc: Global, bytes: &[u8]) -> Result<(Placed, &[u8]), CodeFa
     Ok((Placed { pos, write }, rest))
 }
 
-/// Reads the write whose code stands at the front of the bytes, and answers the length of its code too. Bytes may follow it.
+/// Reads the write whose code stands at the start of the bytes, and answers the length of its code too. Bytes may follow it.
 pub fn get_write(alloc: Global, bytes: &[u8]) -> Result<(Placed, usize), CodeFault>
     ensures { Gets write_code HasWriteCode bytes.now result }
 {

@@ -74,7 +74,7 @@ module _ (app : App) (chain : List SealedBlock) (number : ℕ) where
   pub stand_by_position : (first : List Tx) → StandByPosition (committed_among app chain number first)
   stand_by_position first = (rise_through no_work first (record { rise = λ i j d before within. absurd (omega (arith, within)); upto = All-nil (λ done. done.pos ≤ 0) })).rise
 
-  -- ---- the outcome that is told of a transaction
+  -- ---- the outcome that is reported of a transaction
 
   through_append : (work : Work) (first rest : List Tx) → work_through app chain number work (first ++ rest) ≡ work_through app chain number (work_through app chain number work first) rest
   through_append work [] rest = refl

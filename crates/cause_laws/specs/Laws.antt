@@ -43,11 +43,11 @@ DangerIsLeast = (tables : List TableDef) (committed : List Committed) (reads : L
 abbrev pub committed_among : App → List SealedBlock → ℕ → List Tx → List Committed
 committed_among app chain number first = (work_through app chain number no_work first).committed
 
--- wherever the fold decides a transaction behind others of its block, what committed among these stands by position, and what it wrote by key
+-- wherever the fold decides a transaction after others of its block, what committed among these stands by position, and what it wrote by key
 abbrev pub PremisesAreMet : Type 0
 PremisesAreMet = (app : App) (chain : List SealedBlock) (number : ℕ) (first : List Tx) (tx : Tx) → StandByPosition (committed_among app chain number first) × StandByKey (run_at app chain tx).writes
 
--- an outcome of a run among those that committed before it: a write conflict is the least, and so is a danger, which is told only where
+-- an outcome of a run among those that committed before it: a write conflict is the least, and so is a danger, which is reported only where
 -- there is no conflict; and what committed has neither
 abbrev pub NamesTheLeast : List TableDef → List Committed → Ran → Outcome → Type 0
 NamesTheLeast tables committed ran (outcome.WriteConflict named) = IsLeastConflict committed ran.writes named
@@ -55,7 +55,7 @@ NamesTheLeast tables committed ran (outcome.Danger found) = HasNoConflict commit
 NamesTheLeast tables committed ran outcome.Committed = HasNoConflict committed ran.writes × HasNoDanger tables committed ran.reads ran.writes
 NamesTheLeast tables committed ran _ = Unit {0}
 
--- the outcome that is told of each transaction of a block, behind the first ones
+-- the outcome that is reported of each transaction of a block, after the first ones
 abbrev pub OutcomesNameTheLeast : Type 0
 OutcomesNameTheLeast = (app : App) (blocks : List Block) (block : Block) (first : List Tx) (tx : Tx) (rest : List Tx) → block.txs ≡ first ++ tx ∷ rest
     → IsSomeAnd (slice_get (seal app (fold app blocks) block).outcomes (length first))

@@ -81,7 +81,7 @@ sha_small bytes = digest_small (final_hash initial_hash_256 bytes) 8
 pub hash_are_digits : (bytes : List ℕ) → AreDigits (hash_digits bytes)
 hash_are_digits bytes = (omega (arith, length-encode_with lower_digits (sha256 bytes), length-sha256 bytes), encode_hex (sha256 bytes) (sha_small bytes))
 
--- a number and a hash behind it
+-- a number and a hash after it
 no_space-from : (p : ℕ → Bool) → ((b : ℕ) → p b ≡ true → not (is_space b) ≡ true) → (bytes : List ℕ) → list_all p bytes ≡ true → list_all (λ b. not (is_space b)) bytes ≡ true
 no_space-from p then_none [] all = refl
 no_space-from p then_none (b ∷ bs) all = let parts = and_parts (p b) (list_all p bs) all in and_from (not (is_space b)) _ (then_none b parts.0) (no_space-from p then_none bs parts.1)
@@ -107,7 +107,7 @@ walk_back at line rest taken fine short e =
 abbrev in_block : ℕ → ℕ → List ℕ → List Tx → List ℕ → Position
 in_block line count digits txs bytes = record { line = line; place = place.Within form.Chain count txs; digits = digits; bytes = bytes }
 
--- behind so many blocks
+-- after so many blocks
 abbrev behind_blocks : ℕ → ℕ → List ℕ → Position
 behind_blocks line count digits = record { line = line; place = place.Between form.Chain count; digits = digits; bytes = [] }
 

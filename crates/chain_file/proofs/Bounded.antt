@@ -18,7 +18,7 @@ use Rattle.chain_file.specs.Draft.{block_of, within_block, between_blocks, is_bl
 use Rattle.chain_file.proofs.Numbered.{Holds}
 use Rattle.rel_base.proofs.Bytes.{equal_bytes}
 
--- n bytes, each newline with them, were read behind the header: a block has at most 1,026 lines of 4,097 bytes
+-- n bytes, each newline with them, were read after the header: a block has at most 1,026 lines of 4,097 bytes
 abbrev Within : ℕ → List Block → Option Begun → Type 0
 Within n blocks None = (n ≤ length blocks * 4203522) × (length blocks ≤ 1000000)
 Within n blocks (Some begun) = (n ≤ length blocks * 4203522 + (length begun.txs + 1) * 4097) × (length blocks < 1000000) × (length begun.txs ≤ 1024)
@@ -81,7 +81,7 @@ line_within : (n : ℕ) (blocks : List Block) (begun : Option Begun) (line : Lis
 line_within n blocks None line h = begin_within n blocks line (nat_lt (length blocks) 1000000 && is_block_line (length blocks + 1) line) h.0 refl
 line_within n blocks (Some begun) line h = inside_within n blocks begun line (bytes_eq line (codes "end")) h refl
 
--- n bytes are those that a draft may have behind its header
+-- n bytes are those that a draft may have after its header
 abbrev IsFew : ℕ → Option (List Block) → Type 0
 IsFew n read = Holds (λ blocks. n ≤ 4203522000000) read
 

@@ -125,7 +125,7 @@ step_leaves at digits bytes line false stands = line_leaves at digits bytes line
 
 -- ---- the lines one after another
 
--- a file without a fault is the text of its blocks, behind a block whose hash has these digits
+-- a file without a fault is the text of its blocks, after a block whose hash has these digits
 abbrev Whole : List ℕ → List ℕ → List Block × Option ChainFault → Type 0
 Whole text digits (blocks, None) = text ≡ blocks_text digits blocks
 Whole text digits (blocks, Some found) = Unit {0}
@@ -165,7 +165,7 @@ told_whole at line parts (Err k) leaves more = tt
 told_whole at line parts (Ok taken) leaves more =
     after_whole (at.line + 1) at.digits (at.bytes ++ line_text line) taken.place taken.ended parts leaves more
 
--- the bytes behind the last newline: none
+-- the bytes after the last newline: none
 last_whole : (at : Section) (digits bytes rest : List ℕ) (cut : ChainFault) (none : Bool) → Stands at digits bytes → (length rest == 0) ≡ none
     → Whole (bytes ++ rest) digits ([], cond (is_between at && none) None (Some cut))
 last_whole place.Start digits bytes rest cut none stands is = tt

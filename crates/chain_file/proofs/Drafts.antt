@@ -32,7 +32,7 @@ use Rattle.tx_text.proofs.Glued.{parts_some}
 use Rattle.chain_file.proofs.Spelled.{draft_spelled}
 use Rattle.rel_base.proofs.Bytes.{bytes_same, equal_bytes}
 
--- the position of a draft file behind blocks
+-- the position of a draft file after blocks
 abbrev at_of : ℕ → List Block → List ℕ → List ℕ → Option Begun → Position
 at_of line blocks digits bytes None = record { line = line; place = place.Between form.Draft (length blocks); digits = digits; bytes = bytes }
 at_of line blocks digits bytes (Some begun) = record { line = line; place = place.Within form.Draft (length blocks) begun.txs; digits = digits; bytes = bytes }
@@ -41,7 +41,7 @@ abbrev NextIs : ℕ → Option Begun → Type 0
 NextIs count None = Unit {0}
 NextIs count (Some begun) = begun.number ≡ count + 1
 
--- both refuse a line, or both go on behind it
+-- both refuse a line, or both go on after it
 abbrev Matches : List Block → Option Reading → Result (Position × Option Block) ChainFault → Type 0
 Matches blocks None taken = (found : ChainFault) × (taken ≡ Err found)
 Matches blocks (Some reading) taken =
@@ -187,7 +187,7 @@ line_matches number blocks digits bytes line (Some begun) next =
     subst (λ (n : ℕ). Matches blocks (cond (bytes_eq line (codes "end")) (draft_file.end_block blocks n begun.txs) (draft_file.add_tx blocks n begun.txs line)) (take_line (at_of number blocks digits bytes (Some begun)) line))
     (sym next) (within_long blocks (at_of number blocks digits bytes (Some begun)) line begun.txs (is_long line) refl)
 
--- the blocks of a file without a fault, behind others
+-- the blocks of a file without a fault, after others
 abbrev whole_of : List Block → List Block × Option ChainFault → Option (List Block)
 whole_of before (more, None) = Some (before ++ more)
 whole_of before (more, Some found) = None

@@ -1,4 +1,4 @@
--- What is known of the hashes behind a line.
+-- What is known of the hashes after a line.
 use Rattle.std.proofs.Common.{◌≡◌, ◌+◌, ℕ, List, [], ◌∷◌, ◌++◌, Bool, true, false, cond, Option, Some, None, length, refl, sym, ◌∙◌, ap, subst}
 use Rattle.std.specs.Prelude.{nat_lt, ◌&&◌, Result, Ok, Err, codes}
 use Rattle.std.specs.Str.{bytes_eq}

@@ -1,4 +1,4 @@
--- No line stands too far from the front of its file.
+-- No line stands too far from the start of its file.
 use Rattle.std.proofs.Common.{◌≡◌, ◌≤◌, ◌<◌, ◌+◌, ◌*◌, ◌^◌, ℕ, List, [], ◌∷◌, ◌++◌, Bool, true, false, cond, Option, Some, None, length, refl, ◌∙◌, ap, subst, length-append, arith}
 use Rattle.std.specs.Prelude.{◌&&◌, nat_le, nat_lt, Result, Ok, Err, codes, decimal}
 use Rattle.std.specs.Str.{bytes_eq}
@@ -107,7 +107,7 @@ near_room line place.Start e = tt
 near_room line (place.Between f count) e = tt
 near_room line (place.Within f count txs) e = (within_facts f line count txs e).0
 
--- no line stands behind the last one that a file can have
+-- no line stands after the last one that a file can have
 pub near_few : (line : ℕ) (at : Section) → is_near line at ≡ true → line ≤ 1026000002
 near_few line place.Start e = omega (arith, leb-true line 1 e)
 near_few line (place.Between f count) e = let facts = between_facts f line count e in omega (arith, facts.0, facts.1)
@@ -144,7 +144,7 @@ going_more line count before txs more tx e few same =
     let longer : length more ≡ length txs + 1 = ap length same ∙ length-append txs (tx ∷ []) in
     going_from (line + 1) count (before + length more) facts.0 (omega (arith, few, longer)) (omega (arith, facts.2, longer))
 
--- behind the line that ends it
+-- after the line that ends it
 pub going_ended : (f : FileForm) (line count txs : ℕ) → is_within_near line count txs ≡ true → is_near (line + 1) (place.Between f (count + 1)) ≡ true
 going_ended f line count txs e =
     let facts = going_parts line count txs e in

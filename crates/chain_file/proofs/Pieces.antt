@@ -13,7 +13,7 @@ use Rattle.chain_file.specs.Chain.{Position, Walked, fault, told, take_line, end
 long_step : (at : Position) (line : List ℕ) → is_long line ≡ true → take_line at line ≡ Err (fault at kind.LineTooLong)
 long_step at line long = ap (λ test. told at line (cond test (Err kind.LineTooLong) (line_step at.place at.digits line))) long
 
--- what is meant goes on behind what was walked
+-- what is meant goes on after what was walked
 abbrev pub goes_on : Walked → List (List ℕ) → Walked
 goes_on (blocks, Err found) more = (blocks, Err found)
 goes_on (blocks, Ok known) more = with_blocks blocks (walk known.0 (onto known.1 more))

@@ -75,7 +75,7 @@ same_at : (l m : ℕ) (p q : Section) (d e bytes : List ℕ) → l ≡ m → p �
 same_at l m p q d e bytes lines places digits =
     ap (λ n. at_line n p d bytes) lines ∙ ap (λ r. at_line m r d bytes) places ∙ ap (λ f. at_line m q f bytes) digits
 
--- the block behind a line more
+-- the block after a line more
 pub record GoesOn (g next : Going) (tx : Tx) : Type 0 where
   pub form : next.form ≡ g.form
   pub count : next.count ≡ g.count

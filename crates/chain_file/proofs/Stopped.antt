@@ -1,4 +1,4 @@
--- Behind a fault more bytes change nothing.
+-- After a fault more bytes change nothing.
 use Rattle.std.proofs.Common.{◌≡◌, ℕ, List, ◌++◌, Some, ◌∙◌, ap}
 use Rattle.std.specs.Prelude.{Result, Ok, Err}
 use Rattle.proc_syntax.specs.declared.chain_fault.ChainFault.{ChainFault}

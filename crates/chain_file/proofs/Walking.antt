@@ -15,7 +15,7 @@ use Rattle.chain_file.proofs.Lasting.{fault_so_far, so_far_lasts}
 use Rattle.chain_file.proofs.Pieces.{goes_on, walk_line, walked_on}
 use Rattle.tx_text.proofs.Glued.{onto_parts, parts_some}
 
--- a line and the lines behind it
+-- a line and the lines after it
 pub walk_split : (now : Position) (rest line after : List ℕ) (taken : Result (Position × Option Block) ChainFault) → parts_of rest ≡ line ∷ parts_of after → take_line now line ≡ taken
     → walk now (parts_of rest) ≡ onward taken (λ next. walk next (parts_of after))
 walk_split now rest line after taken split told =
@@ -35,7 +35,7 @@ walk_on at now next bytes rest line after blocks more ended so_far split told sa
     so_far ∙ ap (with_blocks blocks) (walk_split now rest line after (Ok (next, ended)) split told)
     ∙ ap (λ all. (all, w.1)) (sym (append_assoc blocks (ended_blocks ended) w.0)) ∙ ap (λ all. with_blocks all w) (sym same)
 
--- behind a fault more bytes change nothing
+-- after a fault more bytes change nothing
 stop_goes_on : (w : Walked) (found : ChainFault) (more : List (List ℕ)) → w.1 ≡ Err found → goes_on w more ≡ w
 stop_goes_on (blocks, Err other) found more e = refl
 stop_goes_on (blocks, Ok known) found more e = absurd (cc)

@@ -15,6 +15,6 @@ same_spelled bytes begins none =
     let blocks : List Block = (chain bytes).0 in
     is ∙ chain_spelled begins.0 blocks (ap chain (sym is) ∙ ap (λ fault. (blocks, fault)) none)
 
--- behind the last block nothing follows
+-- after the last block nothing follows
 pub spells_all : (text digits : List ℕ) (blocks : List Block) → ((more : List Block) → text ++ blocks_text digits more ≡ chain_text (blocks ++ more)) → text ≡ chain_text blocks
 spells_all text digits blocks spells = sym (append-nil text) ∙ spells [] ∙ ap chain_text (append-nil blocks)

@@ -104,7 +104,7 @@ lasting (Some found) = cond (is_cut found.kind) None (Some found)
 abbrev pub walked : List ℕ → Walked
 walked bytes = walk front (parts_of bytes)
 
--- how many bytes stand behind the last newline, where no fault was met before
+-- how many bytes stand after the last newline, where no fault was met before
 abbrev pub open_length : Result (Position × List ℕ) ChainFault → ℕ
 open_length (Err found) = 0
 open_length (Ok (at, rest)) = length rest

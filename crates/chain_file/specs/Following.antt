@@ -39,7 +39,7 @@ Stands s h at = (s.line ≡ at.line) × (s.place ≡ at.place) × (bytes_in at.p
 abbrev pub StandsAt : Standing → Position → Type 0
 StandsAt s at = Stands s.spot s.hashes at
 
--- the bytes that the hash holds behind a line that leaves this, by whether it ended a block
+-- the bytes that the hash holds after a line that leaves this, by whether it ended a block
 abbrev pub hashed : Section → Option Block → List ℕ → List ℕ → List ℕ
 hashed next (Some block) bytes line = []
 hashed place.Start None bytes line = bytes
@@ -56,13 +56,13 @@ abbrev pub IsHashed : Hashes → Hashes → Section → Option Block → List �
 IsHashed old new next ended line =
     (digits bytes : List ℕ) → Knows (form_of next) old digits bytes → Knows (form_of next) new (digits_behind ended digits (bytes ++ line_text line)) (hashed next ended bytes line)
 
--- what the code says behind a line, unless memory ran out
+-- what the code says after a line, unless memory ran out
 abbrev pub TakesLine : Result (LinePoint × Option Block) LineStop → Hashes → Result (Position × Option Block) ChainFault → Type 0
 TakesLine (Ok next) h meant = (at : Position) × Stands next.0 h at × (meant ≡ Ok (at, next.1))
 TakesLine (Err stop.NoMemory) h meant = Unit {0}
 TakesLine (Err (stop.Fault found)) h meant = meant ≡ Err found
 
--- what the code keeps behind bytes
+-- what the code keeps after bytes
 abbrev pub KeepsChain : State → Result (Position × List ℕ) ChainFault → Type 0
 KeepsChain (state.Open s held) meant = (at : Position) × StandsAt s at × (parts_of held ≡ held ∷ []) × (meant ≡ Ok (at, held))
 KeepsChain (state.Stopped found) meant = meant ≡ Err found
@@ -80,7 +80,7 @@ fault_met (state.Stopped found) = Some found
 abbrev pub Reads : ReadBlocks → Walked → Type 0
 Reads read meant = (read.blocks ≡ meant.0) × KeepsChain read.state meant.1
 
--- a piece behind bytes gives the blocks that the bytes do not have without it, and the first fault, but that more bytes are wanting
+-- a piece after bytes gives the blocks that the bytes do not have without it, and the first fault, but that more bytes are wanting
 abbrev pub Answers : List ℕ → List ℕ → Fed → Type 0
 Answers bytes piece fed = ((chain (bytes ++ piece)).0 ≡ (chain bytes).0 ++ fed.blocks) × (fed.fault ≡ lasting (chain (bytes ++ piece)).1)
 

@@ -1,4 +1,4 @@
--- How far a line can stand from the front of its file.
+-- How far a line can stand from the start of its file.
 use Rattle.std.specs.Prelude.{ℕ, ◌+◌, ◌*◌, length, Bool, ◌&&◌, nat_le, nat_lt}
 use Rattle.chain_file.specs.declared.section.Section.{Section}
 use Rattle.chain_file.specs.declared.section.Section.TheVariants as place

@@ -20,12 +20,12 @@ txs_in place.Start = []
 txs_in (place.Between f count) = []
 txs_in (place.Within f count txs) = txs
 
--- before a line of a block that had these transactions before the piece, and these bytes so far, behind a block whose hash has
+-- before a line of a block that had these transactions before the piece, and these bytes so far, after a block whose hash has
 -- these digits
 abbrev pub going_at : List Tx → Going → List ℕ → List ℕ → Position
 going_at kept g digits bytes = record { line = g.line; place = place.Within g.form g.count (kept ++ g.txs); digits = digits; bytes = bytes }
 
--- behind the line that ends it, which is the last of these bytes
+-- after the line that ends it, which is the last of these bytes
 abbrev pub behind_end : Going → List ℕ → Position
 behind_end g bytes = record { line = g.line + 1; place = place.Between g.form (g.count + 1); digits = hash_digits bytes; bytes = [] }
 
@@ -47,7 +47,7 @@ Resumes kept (more.Ends number txs blocks s) meant =
     (blank : Block) × (rest : Walked) × (blocks ≡ blank ∷ rest.0) × KeepsChain s rest.1 × (meant ≡ with_blocks (ended_blocks (block_of number (kept ++ txs))) rest)
 Resumes kept (more.Stopped found) meant = meant ≡ ([], Err found)
 
--- the transactions before and those of the piece are few enough for a block, for which there is a place in front
+-- the transactions before and those of the piece are few enough for a block, for which there is a place before
 abbrev pub Fits : List Tx → More → Type 0
 Fits kept (more.Goes g held) = g.before ≡ length kept
 Fits kept (more.Ends number txs blocks s) = (length (kept ++ txs) ≤ 1024) × (0 < length blocks)

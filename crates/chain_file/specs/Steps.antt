@@ -43,7 +43,7 @@ abbrev pub is_hash_field : List ℕ → Bool
 is_hash_field [] = false
 is_hash_field (b ∷ bs) = is_space b && (length bs == 64) && list_all is_hex bs
 
--- behind the number nothing stands in a draft, and a hash in a chain
+-- after the number nothing stands in a draft, and a hash in a chain
 abbrev pub has_end : FileForm → List ℕ → Bool
 has_end form.Draft rest = length rest == 0
 has_end form.Chain rest = is_hash_field rest

@@ -37,7 +37,7 @@ impl Standing {
     }
 }
 
-/// Why nothing is known behind a line.
+/// Why nothing is known after a line.
 #[derive(Clone, Copy, Debug, PartialEq, Eq)]
 pub enum LineStop {
     /// Memory ran out.
@@ -57,7 +57,7 @@ fn hash_line(hashes: &mut Hashes, taken: &Taken, text: &[u8])
     }
 }
 
-/// Takes a line: what is known behind it, and the block that it ended.
+/// Takes a line: what is known after it, and the block that it ended.
 #[tactic(auto, using(crate::proofs::Near::near_step, crate::proofs::Near::near_low, crate::proofs::Near::near_room))]
 pub fn take_line(
     alloc: Global,

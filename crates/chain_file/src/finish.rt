@@ -18,7 +18,7 @@ use proc_syntax::{Block, Tx};
 use rel_base::{List, NoMemory};
 use std::alloc::Global;
 
-/// Takes out the transactions of the block that has begun, with more behind them. Where memory is wanting, all is as before.
+/// Takes out the transactions of the block that has begun, with more after them. Where memory is wanting, all is as before.
 fn take_txs(spot: &mut LinePoint, more: List<Tx>) -> Result<List<Tx>, NoMemory>
     ensures all { IfOk result (λ all. all ≡ txs_in spot.old.place ++ more) }
     ensures err { OnErr result (spot.new ≡ spot.old) }

@@ -36,7 +36,7 @@ impl Going {
         self.before + self.txs.len()
     }
 
-    /// Goes on behind a line more, which has this transaction.
+    /// Goes on after a line more, which has this transaction.
     #[tactic(auto, using(crate::proofs::Near::going_low, crate::proofs::Near::going_more))]
     pub fn add_tx(&mut self, tx: Tx, text: &[u8]) -> Result<(), NoMemory>
         requires { self.old.before + length self.old.txs < 1024 }

@@ -69,7 +69,7 @@ impl Hashes {
     }
 }
 
-/// Puts a line and its newline behind what the hash holds.
+/// Puts a line and its newline after what the hash holds.
 fn add_line(hash: &mut Sha256, line: &[u8])
     ensures { (bytes : List ℕ) → Holds256 hash.old bytes → Holds256 hash.new (bytes ++ line_text line.now) }
 {

@@ -56,7 +56,7 @@ pub fn files_are_numbered()
     ensures { FilesAreNumbered }
 {}
 
-/// Behind a fault, but that the bytes end too early, no more bytes change what a file gives.
+/// After a fault, but that the bytes end too early, no more bytes change what a file gives.
 pub fn faults_last()
     ensures { FaultsLast }
 {}

@@ -18,14 +18,14 @@ use std::alloc::Global;
 use tx_text::held::{copy_of, joined};
 use tx_text::{MOST_LINE_BYTES, split_line};
 
-/// What is known behind bytes: what stands before the line in which they end, and the bytes of that line; or the first fault.
+/// What is known after bytes: what stands before the line in which they end, and the bytes of that line; or the first fault.
 #[derive(Drop)]
 pub enum State {
     Open { standing: Standing, held: List<u8> },
     Stopped(ChainFault),
 }
 
-/// What bytes gave: the blocks that ended, and what is known behind them.
+/// What bytes gave: the blocks that ended, and what is known after them.
 #[derive(Drop)]
 pub struct ReadBlocks {
     pub blocks: List<Block>,
@@ -66,7 +66,7 @@ fn last_part(alloc: Global, standing: Standing, rest: &[u8]) -> Result<State, No
     Ok(State::Open { standing, held })
 }
 
-/// Reads lines, and what stands behind the last of them.
+/// Reads lines, and what stands after the last of them.
 pub fn read_lines(alloc: Global, standing: Standing, bytes: &[u8]) -> Result<ReadBlocks, NoMemory>
     ensures { (at : Position) → StandsAt standing at → IfOk result (λ read. Reads read (walk at (parts_of bytes.now))) }
 {
@@ -98,7 +98,7 @@ pub fn read_lines(alloc: Global, standing: Standing, bytes: &[u8]) -> Result<Rea
     })
 }
 
-/// Reads bytes that stand behind the last newline. Where memory is wanting, all is as before.
+/// Reads bytes that stand after the last newline. Where memory is wanting, all is as before.
 fn read_on(alloc: Global, standing: &mut Standing, bytes: &[u8]) -> Result<ReadBlocks, NoMemory>
     ensures reads { (at : Position) → StandsAt standing.old at → IfOk result (λ read. Reads read (walk at (parts_of bytes.now))) }
     ensures err { OnErr result (standing.new ≡ standing.old) }
@@ -183,7 +183,7 @@ impl Reader {
         }
     }
 
-    /// How many bytes stand behind the last newline, which the reader keeps: at most 4,096, and none behind a fault.
+    /// How many bytes stand after the last newline, which the reader keeps: at most 4,096, and none after a fault.
     #[tactic(auto, using(crate::proofs::Held::open_held, crate::proofs::Held::stopped_held))]
     pub fn held(&self) -> usize
         ensures held { (bytes : List ℕ) → WasFed self.now bytes → result ≡ open_length (walked bytes).1 }
@@ -219,7 +219,7 @@ impl Reader {
         }
     }
 
-    /// Ends the file: nothing where the bytes so far are a whole file, and else its first fault. Behind a fault a reader answers
+    /// Ends the file: nothing where the bytes so far are a whole file, and else its first fault. After a fault a reader answers
     /// that fault alone.
     pub fn end(&mut self) -> Result<(), ChainFault>
         ensures whole { (bytes : List ℕ) → WasFed self.old bytes → EndsAs result (chain bytes).1 }

@@ -31,12 +31,12 @@ pub enum Before {
 /// What the lines of a piece give that go on with a block.
 #[derive(Drop)]
 pub enum More {
-    /// The block goes on behind the piece, which ends in these bytes of a line.
+    /// The block goes on after the piece, which ends in these bytes of a line.
     Goes {
         going: Going,
         held: List<u8>,
     },
-    /// The block of this number ended, with these transactions of the piece. The blocks that follow it stand behind a place for it.
+    /// The block of this number ended, with these transactions of the piece. The blocks that follow it stand after a place for it.
     Ends {
         number: u64,
         txs: List<Tx>,
@@ -112,7 +112,7 @@ fn blank_block(alloc: Global, number: u64) -> Block {
     }
 }
 
-/// The blocks behind another.
+/// The blocks after another.
 fn behind(alloc: Global, first: Block, following: List<Block>) -> Result<List<Block>, NoMemory>
     ensures { IfOk result (λ blocks. blocks ≡ first ∷ following) }
 {

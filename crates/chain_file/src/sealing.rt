@@ -38,7 +38,7 @@ fn push_first(out: &mut Vec<u8>, number: u64, digits: &[u8]) -> Result<(), NoMem
     Ok(())
 }
 
-/// Writes the lines of a block at the end, behind a block whose hash has these digits.
+/// Writes the lines of a block at the end, after a block whose hash has these digits.
 fn push_block(out: &mut Vec<u8>, digits: &[u8], block: &Block) -> Result<(), NoMemory>
     ensures { OnOk result (out.new.items ≡ out.old.items ++ chained_text digits.now block.now) }
 {

@@ -18,7 +18,7 @@ pub enum FileForm {
 /// Where a line stands in a file.
 #[derive(Drop)]
 pub enum Section {
-    /// At the front, where the header stands.
+    /// At the start, where the header stands.
     Start,
     /// Between blocks, so many of which ended.
     Between {

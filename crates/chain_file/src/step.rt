@@ -99,7 +99,7 @@ fn is_hash_field(rest: &[u8]) -> bool
     }
 }
 
-/// Whether a `block` line of the form ends so behind its number.
+/// Whether a `block` line of the form ends so after its number.
 fn has_end(form: FileForm, rest: &[u8]) -> bool
     ensures { result ≡ has_end form rest.now }
 {
@@ -120,7 +120,7 @@ fn is_next(count: u64, text: &[u8]) -> bool
     text == buffer.format(count + 1).as_bytes()
 }
 
-/// Whether a `block` line of the form has these digits behind its number.
+/// Whether a `block` line of the form has these digits after its number.
 fn has_digits(form: FileForm, digits: &[u8], rest: &[u8]) -> bool
     ensures { result ≡ has_digits form digits.now rest.now }
 {

@@ -68,6 +68,6 @@ settings_within words settings e =
     let (c, items, spelled, line, same) = only_lines words settings e in
     subst AreWithin (sym same) (made_within c items (recursion_from_All IsSound items line.sound))
 
--- and those that a command and the words behind it come to
+-- and those that a command and the words after it come to
 pub settled_within : (c : Command) (words : List (List ℕ)) (settings : Settings) → settled (Some c) words ≡ Some settings → AreWithin settings
 settled_within c words settings e = settings_within (command_word c ∷ words) settings (ap (λ named. settled named words) (command_back c) ∙ e)

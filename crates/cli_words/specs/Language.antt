@@ -30,7 +30,7 @@ abbrev pub is_value : List ℕ → Bool
 is_value [] = false
 is_value (byte ∷ bytes) = not (byte == 45)
 
--- a number with nothing behind it
+-- a number with nothing after it
 abbrev pub alone : Option (ℕ × List ℕ) → Option ℕ
 alone None = None
 alone (Some (number, [])) = Some number
@@ -51,7 +51,7 @@ fits Nothing word = false
 fits Text word = is_value word
 fits (Number least most) word = is_within least most (whole_number word)
 
--- ---- the words behind the command
+-- ---- the words after the command
 
 -- a word that has to be an option
 abbrev pub begun : CommandOption → Takes → NextWord
@@ -80,7 +80,7 @@ abbrev pub value_in : Option CommandOption → List ℕ → List ℕ
 value_in None word = []
 value_in (Some x) word = word
 
--- what follows a word: nothing behind one that is neither; else what follows with an option that awaits its value, or behind one
+-- what follows a word: nothing after one that is neither; else what follows with an option that awaits its value, or after one
 abbrev pub by_step : {A : Type 0} → NextWord → A → (CommandOption → A) → (CommandOption → A) → A
 by_step Bad bad awaits ends = bad
 by_step (Awaits x) bad awaits ends = awaits x
@@ -163,7 +163,7 @@ made command.Provenance values = Provenance (text_or_none (values option.App)) (
 made command.Seal values = Seal (text_or_none (values option.Blocks))
 made command.Load values = Load (number_or 0 (values option.Number))
 
--- what a command and the words behind it come to
+-- what a command and the words after it come to
 abbrev pub settled : Option Command → List (List ℕ) → Option Settings
 settled None words = None
 settled (Some command) words = cond (is_read None words && is_line command (given words)) (Some (made command (given words))) None

@@ -12,7 +12,7 @@ pub struct Flags {
     pub digests: bool,
     /// `--json`: the report is one line of JSON.
     pub json: bool,
-    /// `--trace`: behind the report, what the actors of the node did.
+    /// `--trace`: after the report, what the actors of the node did.
     pub trace: bool,
 }
 

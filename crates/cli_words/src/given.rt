@@ -1,4 +1,4 @@
-//! What the words behind a command give its options.
+//! What the words after a command give its options.
 
 ghost use Rattle.std.specs.Prelude.{◌≡◌, length, Option, option_copied};
 ghost use Rattle.cli_words.specs.Language.{first, given, is_read, step, texts};

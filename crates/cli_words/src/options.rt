@@ -14,7 +14,7 @@ pub enum CommandOption {
     Blocks,
     /// `--schedule`, the file of a schedule.
     Schedule,
-    /// `--arrivals`, the files of what arrives, by the front of their names.
+    /// `--arrivals`, the files of what arrives, by the prefix of their names.
     Arrivals,
     /// `--query`, a query about versions.
     Query,

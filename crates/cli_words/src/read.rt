@@ -167,7 +167,7 @@ fn to_settings(alloc: Global, command: Command, words: &[&str]) -> Result<Settin
     }
 }
 
-// What a command and the words behind it come to.
+// What a command and the words after it come to.
 fn settle(alloc: Global, command: Command, words: &[&str]) -> Result<Settings, WordsFault>
     ensures ok { IfOk result (λ settings. settled (Some command) (texts words.now) ≡ Some settings) }
     ensures usage { IsErrOf result WordsFault.Usage ↔ (settled (Some command) (texts words.now) ≡ None) }

@@ -13,7 +13,7 @@ pub enum Settings {
         app: Word,
         /// The name of the file of blocks.
         blocks: Word,
-        /// The front of the names of the files of what arrives, if there are any.
+        /// The prefix of the names of the files of what arrives, if there are any.
         arrivals: Option<Word>,
         /// How many nodes run the blocks, 1 to 8.
         nodes: u32,
@@ -30,7 +30,7 @@ pub enum Settings {
         blocks: Word,
         /// The name of the schedule's file.
         schedule: Word,
-        /// The front of the name of the file of what arrives, if there is one.
+        /// The prefix of the name of the file of what arrives, if there is one.
         arrivals: Option<Word>,
         /// What the report shows besides.
         flags: Flags,

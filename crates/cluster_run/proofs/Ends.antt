@@ -55,6 +55,6 @@ module _ {ghosts : Ghosts Core App Entry} (pass : Pass Core App Entry ghosts) (z
     }
     closed_node (Err refused) numbered is = tt
 
--- what is told of blocks is told of those that they are
+-- what is reported of blocks is reported of those that they are
 pub node_of_same : {M : Type 0} (base app : App) (given blocks : List Block) (r : Result NodeResult M) → base ≡ app → given ≡ blocks → IfOk r (IsNodeOf base given) → IfOk r (IsNodeOf app blocks)
 node_of_same base app given blocks r same are is = subst (λ (a : App). IfOk r (IsNodeOf a blocks)) same (subst (λ (list : List Block). IfOk r (IsNodeOf base list)) are is)

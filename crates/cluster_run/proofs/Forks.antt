@@ -96,7 +96,7 @@ module _ {ghosts : Ghosts Core App Entry} where
         none = quiet_none (pass_base other) (seen other) (pass_number other) legal (own ∙ new.none_mine);
       }
 
-  -- ---- a join, and a look behind it
+  -- ---- a join, and a look after it
 
   module _ (old mid new : Pass Core App Entry ghosts) (joined : IsSameHolder old mid) (looked : IsSamePass mid new) (has : HasNone old) (longer : IsPrefix (seen old) (seen mid)) (mine_same : mine mid ≡ mine old) (look : IsLook mid new) where
     pub both_same : IsSameHolder old new

@@ -9,7 +9,7 @@ use Rattle.proc_syntax.specs.declared.tree.App.{App}
 use Rattle.serial_laws.specs.InOrder.{EachInOrder}
 
 -- But for the journal it is the fold of the blocks. The journal is one that steps can make, its deliveries are these blocks in order, and it comes to the
--- results that are told. Each block has an order in which its committed transactions run again one by one.
+-- results that are reported. Each block has an order in which its committed transactions run again one by one.
 pub record IsNodeOf (app : App) (blocks : List Block) (node : NodeResult) : Type 0 where
   pub folds : record node { journal = [] } ≡ node_result app blocks
   pub legal : IsLegal app node.journal

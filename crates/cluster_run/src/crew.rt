@@ -8,7 +8,7 @@ use node_core::Work;
 use proc_syntax::{Block, Tx};
 use std::sync::Wait;
 
-/// The actors of a node: the processor, which is actor 0, executors from 1 on, and behind them one that makes the arrivals. Each comes to
+/// The actors of a node: the processor, which is actor 0, executors from 1 on, and after them one that makes the arrivals. Each comes to
 /// the same gate. Executors that are idle hear one bell, and the processor, while an executor holds the job that is due, another.
 #[derive(Drop)]
 pub struct Crew<'a, G: Gate> {

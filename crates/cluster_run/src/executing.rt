@@ -17,7 +17,7 @@ use std::sync::atomic::{AtomicBool, Ordering};
 // After so many arrivals the bell is rung: each ring wakes all idle executors.
 const ARRIVALS_A_RING: u32 = 32;
 
-// The first job that can be claimed is run, and who waits for its end is told. Answers whether there was one.
+// The first job that can be claimed is run, and who waits for its end is reported. Answers whether there was one.
 fn run_first<V: Versions, G: Gate, R: Wait>(
     rt: &R,
     node: &SharedNode<V>,

@@ -1,4 +1,4 @@
--- What is told of the first late read is told of the late read of the definition.
+-- What is reported of the first late read is reported of the late read of the definition.
 use Rattle.std.proofs.Common.{List, None, Option, Some, [], ap, map, refl, ◌+◌, ◌∙◌, ◌≡◌, ◌∷◌, ℕ}
 use Rattle.std.specs.Option.{option_map, option_or}
 use Rattle.conflict_rules.specs.Late.{Overtaken, overtaken, overtaken_at, overtaken_from}

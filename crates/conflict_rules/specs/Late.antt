@@ -1,4 +1,4 @@
--- What is told of a late read.
+-- What is reported of a late read.
 use Rattle.std.specs.Option.{option_map, option_or}
 use Rattle.std.specs.Prelude.{List, None, Option, [], ◌+◌, ◌∷◌, ℕ}
 use Rattle.conflict_rules.specs.declared.overtaken.LateRef.{LateRef}

@@ -6,7 +6,7 @@ use Rattle.edge_traits.specs.Sink.{appended, WroteFront}
 use Rattle.std.proofs.lemmas.List.{take_min, take-append-le, length-take-le, length-drop, take_rest, append-nil}
 use Rattle.std.proofs.Math.Seq.{take-add, take-append-add, take-length}
 
--- A front of a file grows by the piece that stands behind it.
+-- A prefix of a file grows by the piece that stands after it.
 pub front_grows : (file old piece : List ℕ) → piece ≡ take (length piece) (drop (length old) file) → old ≡ take (length old) file
     → old ++ piece ≡ take (length (old ++ piece)) file
 front_grows file old piece p f =
@@ -24,7 +24,7 @@ told_grows (Some files) name old buffer count le piece = λ front.
     let is : take count buffer ≡ take (length (take count buffer)) (drop (length old) (files name)) = piece.bytes ∙ ap (λ k. take k (drop (length old) (files name))) (sym size) in
     front_grows (files name) old (take count buffer) is front
 
--- A written front grows by what is written next.
+-- A written prefix grows by what is written next.
 pub appended_more : (before : Option (List ℕ)) (bytes : List ℕ) (done count : ℕ)
     → appended (appended before (take done bytes)) (take count (drop done bytes)) ≡ appended before (take (done + count) bytes)
 appended_more None bytes done count = refl
@@ -52,22 +52,22 @@ pub whole_whole : (before now next : Option (List ℕ)) (first second : List ℕ
 whole_whole None now next first second is then = then ∙ ap (λ w. appended w second) is
 whole_whole (Some written) now next first second is then = then ∙ ap (λ w. appended w second) is ∙ ap Some (append_assoc written first second)
 
--- Nothing written is a front of any text.
+-- Nothing written is a prefix of any text.
 pub none_front : (before now : Option (List ℕ)) (bytes : List ℕ) → now ≡ before → WroteFront before now bytes
 none_front before now bytes same = record { count = 0; written = same ∙ sym (nothing_written before) }
 
--- A whole text is a front of itself.
+-- A whole text is a prefix of itself.
 pub whole_is_front : (before now : Option (List ℕ)) (bytes : List ℕ) → now ≡ appended before bytes → WroteFront before now bytes
 whole_is_front before now bytes is = record { count = length bytes; written = is ∙ ap (appended before) (sym (take-length bytes)) }
 
--- A front of the first text is one of both.
+-- A prefix of the first text is one of both.
 pub front_first : (before now : Option (List ℕ)) (first second : List ℕ) → WroteFront before now first → WroteFront before now (first ++ second)
 front_first before now first second front = record {
   count = min front.count (length first);
   written = front.written ∙ ap (appended before) (sym (take-append-le (min front.count (length first)) first second (omega arith) ∙ take_min front.count first));
 }
 
--- The first text whole, and then a front of the second.
+-- The first text whole, and then a prefix of the second.
 pub whole_front : (before now next : Option (List ℕ)) (first second : List ℕ) → now ≡ appended before first → WroteFront now next second
     → WroteFront before next (first ++ second)
 whole_front before now next first second is front = record {

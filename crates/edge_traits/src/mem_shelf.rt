@@ -58,7 +58,7 @@ pub(crate) fn at_most(most: Option<usize>, size: usize) -> usize
     }
 }
 
-/// A shelf in memory, which tells its files and fails where it is told to.
+/// A shelf in memory, which tells its files and fails where it is set to.
 ///
 /// Calls with room in their buffer are counted from 1. Such a call fails exactly where its number is listed or there is no
 /// file of its name, and each other one gives as many bytes as the buffer, the file and the bound of a slow shelf allow. One

@@ -10,7 +10,7 @@ use rel_base::{List, NoMemory};
 use std::alloc::Global;
 use std::marker::Model;
 
-/// A sink in memory, which tells what it took and fails where it is told to.
+/// A sink in memory, which tells what it took and fails where it is set to.
 ///
 /// Its room is kept ready from the start, so writing takes no memory. Calls with bytes are counted from 1. Such a call fails
 /// exactly where its number is listed or no room is left, and each other one takes as many bytes as there is room for, within
@@ -53,7 +53,7 @@ impl MemSink {
     }
 
     /// A sink as that of `new`, of which one call takes at most `most` bytes, as real output may. The bound is at least 1,
-    /// since a call takes some byte or fails. The error is want of memory for the room.
+    /// since a call takes some byte or fails. The error is out of memory for the room.
     pub fn slow(
         alloc: Global,
         room: usize,

@@ -28,7 +28,7 @@ pub trait Shelf {
     /// files, in this order, and no others are asked for.
     ghost may_read: { Self → Leave };
 
-    /// Puts bytes of the file `name` from the byte `at` on (counted from 0) into the front of `buf`, and answers how many.
+    /// Puts bytes of the file `name` from the byte `at` on (counted from 0) into the start of `buf`, and answers how many.
     /// For a buffer with room, `Ok(0)` is the end of the file. A buffer without room gets `Ok(0)`.
     fn read_at(&mut self, name: &str, at: u64, buf: &mut [u8]) -> Result<usize, ShelfFailed>
         requires allowed { may_read self.old name.now at (length buf.old) }

@@ -32,7 +32,7 @@ fn open_file<R: Files<File = File>>(
 /// Real files, by their paths from the folder in which the program runs. Contracts see the number of failed reads, of all names
 /// together, and nothing of what the files hold.
 ///
-/// A missing file is a failure, and so is want of memory. The file that was read last stays open, so reading it in pieces
+/// A missing file is a failure, and so is out of memory. The file that was read last stays open, so reading it in pieces
 /// opens it once.
 #[derive(Drop)]
 pub struct DirShelf<'a, R: Files<File = File>> {

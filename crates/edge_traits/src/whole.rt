@@ -43,7 +43,7 @@ pub fn make_buffer(alloc: Global) -> Result<Vec<u8>, AllocError>
     vec![in alloc; 0; PIECE]
 }
 
-// Reads the next piece of a file, of which `bytes` are the front, through a buffer, and answers the piece's length.
+// Reads the next piece of a file, of which `bytes` are the prefix, through a buffer, and answers the piece's length.
 #[tactic(auto, using(crate::proofs::Fronts::told_grows))]
 fn add_piece<S: Shelf>(
     shelf: &mut S,
@@ -74,7 +74,7 @@ fn add_piece<S: Shelf>(
 }
 
 /// Reads a file to its end, if it has at most `limit` bytes. Each call to the shelf asks for 65,536 bytes, or for those that
-/// are left of the first `limit + 1` where they are fewer, and no byte behind these is asked for.
+/// are left of the first `limit + 1` where they are fewer, and no byte after these is asked for.
 ///
 /// Over a shelf that tells its files, `Ok` is the bytes of the file and `TooLong` comes exactly where they are more than
 /// `limit`. The counts of failed reads are as they were unless the answer is `Failed`, so nothing is tried again. Since the
@@ -108,7 +108,7 @@ pub fn read_whole<S: Shelf>(
     Err(FetchFault::TooLong)
 }
 
-// Writes some of the bytes behind the first `done`, and answers how many of all are written then.
+// Writes some of the bytes after the first `done`, and answers how many of all are written then.
 #[tactic(auto, using(crate::proofs::Fronts::goes_on, crate::proofs::Fronts::stays_within))]
 fn write_more<W: Sink>(out: &mut W, bytes: &[u8], done: usize) -> Result<usize, SinkFailed>
     requires { done < length bytes.now }
@@ -124,7 +124,7 @@ fn write_more<W: Sink>(out: &mut W, bytes: &[u8], done: usize) -> Result<usize, 
     Ok(done + count)
 }
 
-/// Writes all of the bytes. A call that fails has written a front of them; one that does not fail leaves the count of failed
+/// Writes all of the bytes. A call that fails has written a prefix of them; one that does not fail leaves the count of failed
 /// writes as it was, so nothing is tried again.
 pub fn write_whole<W: Sink>(out: &mut W, bytes: &[u8]) -> Result<(), SinkFailed>
     ensures ok { OnOk result (W.written out.new ≡ appended (W.written out.old) bytes.now) }

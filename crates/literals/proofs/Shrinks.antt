@@ -1,4 +1,4 @@
--- What follows a literal is no longer than the bytes that it stands in front of.
+-- What follows a literal is no longer than the bytes that it stands before.
 use Rattle.std.proofs.Common.{◌≤◌, ◌+◌, ◌*◌, ℕ, List, [], ◌∷◌, Bool, true, false, cond, Option, Some, None, length, drop, take, arith, length-drop}
 use Rattle.std.specs.Prelude.{◌==◌, ◌&&◌, nat_le}
 use Rattle.std.specs.Option.{option_and_then}

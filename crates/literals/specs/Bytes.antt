@@ -9,7 +9,7 @@ use Rattle.literals.specs.Text.{quote, with_byte}
 abbrev pub hex_value : ℕ → Option ℕ
 hex_value b = cond (is_ascii_digit b) (Some (b - 48)) (cond (nat_le 97 b && nat_le b 102) (Some (b - 87)) None)
 
--- the byte of two digits in front of what was found
+-- the byte of two digits before what was found
 abbrev pub with_pair : Option ℕ → Option ℕ → Option (List ℕ × List ℕ) → Option (List ℕ × List ℕ)
 with_pair None low found = None
 with_pair (Some high) None found = None
@@ -29,7 +29,7 @@ where_short found = cond (nat_le (length found.0) 255) (Some found) None
 abbrev pub letter_x : ℕ
 letter_x = 120
 
--- the bytes that the front of the bytes spells, as `x"00ff"`, and what follows it
+-- the bytes that the prefix of the bytes spells, as `x"00ff"`, and what follows it
 abbrev pub bytes_at : List ℕ → Option (List ℕ × List ℕ)
 bytes_at [] = None
 bytes_at (a ∷ []) = None

@@ -14,7 +14,7 @@ TextsComeBack = (text rest : List ℕ) → is_text text ≡ true → text_at (te
 abbrev pub BytesComeBack : Type 0
 BytesComeBack = (bytes rest : List ℕ) → AllByRecursion (λ b. b < 256) bytes → length bytes ≤ 255 → bytes_at (bytes_literal bytes ++ rest) ≡ Some (bytes, rest)
 
--- no digit stands in front
+-- no digit stands first
 abbrev pub starts_no_digit : List ℕ → Bool
 starts_no_digit [] = true
 starts_no_digit (b ∷ bs) = not (is_ascii_digit b)

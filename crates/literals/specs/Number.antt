@@ -15,7 +15,7 @@ is_canonical [] = false
 is_canonical (d ∷ []) = true
 is_canonical (d ∷ e ∷ ds) = not (d == 48)
 
--- how many digits stand at the front of the bytes
+-- how many digits stand at the start of the bytes
 abbrev pub digits_len : List ℕ → ℕ
 digits_len bytes = prefix_len is_ascii_digit bytes
 
@@ -23,7 +23,7 @@ digits_len bytes = prefix_len is_ascii_digit bytes
 abbrev pub number_of : List ℕ → List ℕ → Option (ℕ × List ℕ)
 number_of digits rest = cond (is_canonical digits) (Some (number_after 0 digits, rest)) None
 
--- the number at the front of the bytes, and what follows its last digit
+-- the number at the start of the bytes, and what follows its last digit
 abbrev pub number_at : List ℕ → Option (ℕ × List ℕ)
 number_at bytes = number_of (take (digits_len bytes) bytes) (drop (digits_len bytes) bytes)
 
@@ -31,6 +31,6 @@ number_at bytes = number_of (take (digits_len bytes) bytes) (drop (digits_len by
 abbrev pub where_u64 : ℕ × List ℕ → Option (ℕ × List ℕ)
 where_u64 found = cond (nat_lt found.0 (2 ^ 64)) (Some found) None
 
--- the number below 2 ^ 64 at the front of the bytes
+-- the number below 2 ^ 64 at the start of the bytes
 abbrev pub u64_at : List ℕ → Option (ℕ × List ℕ)
 u64_at bytes = option_and_then where_u64 (number_at bytes)

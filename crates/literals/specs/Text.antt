@@ -16,7 +16,7 @@ backslash = 92
 abbrev pub is_escaped : ℕ → Bool
 is_escaped b = b == quote || b == backslash
 
--- one more byte in front of what was found
+-- one more byte before what was found
 abbrev pub with_byte : ℕ → Option (List ℕ × List ℕ) → Option (List ℕ × List ℕ)
 with_byte b None = None
 with_byte b (Some found) = Some (b ∷ found.0, found.1)
@@ -36,7 +36,7 @@ abbrev mutual
 abbrev pub where_text : List ℕ × List ℕ → Option (List ℕ × List ℕ)
 where_text found = cond (is_text found.0) (Some found) None
 
--- the text in quotes at the front of the bytes, and what follows it
+-- the text in quotes at the start of the bytes, and what follows it
 abbrev pub text_at : List ℕ → Option (List ℕ × List ℕ)
 text_at [] = None
 text_at (b ∷ bs) = cond (b == quote) (option_and_then where_text (quoted bs)) None

@@ -80,7 +80,7 @@ fn blob_of(alloc: Global, bytes: &[u8]) -> Result<Blob, LiteralFault>
     }
 }
 
-/// Reads the byte string at the front of the bytes, as `x"00ff"`, and answers what follows it too.
+/// Reads the byte string at the start of the bytes, as `x"00ff"`, and answers what follows it too.
 pub fn read_bytes(alloc: Global, bytes: &[u8]) -> Result<(Blob, &[u8]), LiteralFault>
     ensures { Reads result (bytes_at bytes.now) }
 {

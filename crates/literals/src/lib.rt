@@ -1,4 +1,4 @@
-//! How values are spelled: numbers, texts and byte strings, read from the front of some bytes and written at their end.
+//! How values are spelled: numbers, texts and byte strings, read from the start of some bytes and written at their end.
 #![tactic(auto)]
 
 pub mod bytes;

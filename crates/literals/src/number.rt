@@ -9,7 +9,7 @@ ghost use Rattle.literals.specs.Number.{number_after, is_canonical, digits_len, 
 use itoa::Buffer;
 use rel_base::NoMemory;
 
-/// How many digits stand at the front of the bytes.
+/// How many digits stand at the start of the bytes.
 pub fn digits_len(bytes: &[u8]) -> usize
     ensures value { result ≡ digits_len bytes.now }
     ensures bound { result ≤ length bytes.now }
@@ -53,7 +53,7 @@ pub fn is_canonical(digits: &[u8]) -> bool
     }
 }
 
-/// Reads the number below 2^64 at the front of the bytes, and answers what follows its last digit too.
+/// Reads the number below 2^64 at the start of the bytes, and answers what follows its last digit too.
 pub fn read_number(bytes: &[u8]) -> Option<(u64, &[u8])>
     ensures { found_number result ≡ u64_at bytes.now }
 {

@@ -1,6 +1,6 @@
 //! What a reader between quotes meets.
 
-/// What stands at the front of bytes between quotes.
+/// What stands at the start of bytes between quotes.
 pub enum Part<'a> {
     /// The closing quote, and what follows it.
     Close(&'a [u8]),

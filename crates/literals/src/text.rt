@@ -50,7 +50,7 @@ fn unquote(alloc: Global, bytes: &[u8]) -> Result<(Vec<u8>, &[u8]), LiteralFault
     }
 }
 
-/// Reads the text in quotes at the front of the bytes, and answers what follows it too.
+/// Reads the text in quotes at the start of the bytes, and answers what follows it too.
 pub fn read_text(alloc: Global, bytes: &[u8]) -> Result<(Str, &[u8]), LiteralFault>
     ensures { Reads result (text_at bytes.now) }
 {
@@ -73,7 +73,7 @@ fn escaped_at(bytes: &[u8]) -> usize
     bytes.len()
 }
 
-/// The bytes before the closing quote and those behind it, where no backslash stands before it.
+/// The bytes before the closing quote and those after it, where no backslash stands before it.
 #[tactic(auto, using(crate::proofs::Plain::plain_found))]
 fn plain_front(bytes: &[u8]) -> Option<(&[u8], &[u8])>
     ensures { IfSome result (λ found. quoted bytes.now ≡ Some (found.0.now, found.1.now)) }

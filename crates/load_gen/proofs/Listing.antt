@@ -15,7 +15,7 @@ pub no_txs : (tx : ℕ → Tx) (first : ℕ) → [] ≡ txs_from tx first 0
 unfolding txs_from
 no_txs tx first = refl
 
--- one more behind those so far
+-- one more after those so far
 pub more_txs : (tx : ℕ → Tx) (first count place next : ℕ) (txs after : List Tx) (one : Tx) → after ≡ txs ++ one ∷ [] → txs ≡ txs_from tx first count → one ≡ tx place → first + count ≡ place → count + 1 ≡ next
     → after ≡ txs_from tx first next
 unfolding txs_from
@@ -29,7 +29,7 @@ length_txs tx first count = length-map-range_with_len tx first count
 
 -- ---- blocks
 
--- one more behind those so far
+-- one more after those so far
 pub more_blocks : (load count number next : ℕ) (blocks after : List Block) (one : Block) → after ≡ blocks ++ one ∷ [] → blocks ≡ first_block ∷ map (later_block load) (range_with_len 2 count) → one ≡ later_block load number
     → 2 + count ≡ number → count + 1 ≡ next → after ≡ first_block ∷ map (later_block load) (range_with_len 2 next)
 more_blocks load count number next blocks after one pushed are is stands counts =

@@ -1,4 +1,4 @@
--- Letters with a number behind them are texts and ids.
+-- Letters with a number after them are texts and ids.
 use Rattle.std.proofs.Common.{Bool, List, [], arith, false, length, refl, true, ◌+◌, ◌++◌, ◌<◌, ◌^◌, ◌||◌, ◌∙◌, ◌≡◌, ◌≤◌, ◌∷◌, ℕ}
 use Rattle.rel_base.proofs.Bits.{both_true, or_left}
 use Rattle.rel_base.specs.Text.{has_id_form, has_no_control, is_id_byte, is_lower_case}

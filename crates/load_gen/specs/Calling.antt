@@ -1,4 +1,4 @@
--- The calls of drawn transactions: a procedure by a draw below ten, and its arguments by the draws behind it, from left to right.
+-- The calls of drawn transactions: a procedure by a draw below ten, and its arguments by the draws after it, from left to right.
 use Rattle.load_gen.specs.Drawing.{draw}
 use Rattle.load_gen.specs.declared.calls.CallKind.TheVariants.{Add, Both, Pay, Remove, Sweep}
 use Rattle.load_gen.specs.declared.calls.CallKind.{CallKind}

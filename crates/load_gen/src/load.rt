@@ -22,7 +22,7 @@ pub struct Load {
     pub arrivals: List<List<Tx>>,
 }
 
-/// The load of a number: the same for the same number, and the only refusal is want of memory.
+/// The load of a number: the same for the same number, and the only refusal is out of memory.
 pub fn generate(alloc: Global, number: u64) -> Result<Load, NoMemory>
     ensures app { IfOk result (λ load. load.app ≡ app_text) }
     ensures blocks { IfOk result (λ load. load.blocks ≡ load_blocks number) }

@@ -73,7 +73,7 @@ none_changed : (change : JobRow → JobRow) (rows : List JobRow) → changed_fro
 none_changed change [] = refl
 none_changed change (row ∷ rows) = ap (λ rest. row ∷ rest) (none_changed change rows)
 
--- behind the newest of the id before a place no job changes
+-- after the newest of the id before a place no job changes
 none_between : (id : List ℕ) (rows : List JobRow) (place : ℕ) → changed_from (drop_among (id ∷ [])) (newest id (take place (ids_of rows))) rows ≡ changed_from (drop_among (id ∷ [])) place rows
 none_between id rows zero = refl
 none_between id [] (suc place) = refl

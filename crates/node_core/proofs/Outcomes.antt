@@ -143,7 +143,7 @@ module _ (tables : List TableDef) (sealed : List SealedBlock) (work : Option Wor
   abbrev blocks : List BlockResult
   blocks = results_of tables sealed
 
-  -- what is told at the place of an id
+  -- what is reported at the place of an id
   abbrev told_of_place : Option Place → Option Told
   told_of_place found = option_and_then (told_at blocks work) found
 

@@ -51,7 +51,7 @@ quiet_split (suc n) (row ∷ rows) within =
     let next : suc n + leading_quiet (drop n rows) ≡ suc (leading_quiet rows) = omega (arith, rest) in
     next ∙ sym (ap (λ b. cond b 0 (suc (leading_quiet rows))) here.0)
 
--- they stay so where others come behind them
+-- they stay so where others come after them
 quiet_more : (n : ℕ) (rows more : List JobRow) → n ≤ leading_quiet rows → n ≤ leading_quiet (rows ++ more)
 quiet_more zero rows more within = omega arith
 quiet_more (suc n) [] more within = absurd (omega (arith, within))
@@ -59,7 +59,7 @@ quiet_more (suc n) (row ∷ rows) more within =
     let here = quiet_here row rows n within in
     quiet_next row (rows ++ more) n here.0 (quiet_more n rows more here.1)
 
--- and where one behind them changes
+-- and where one after them changes
 quiet_before : (n : ℕ) (rows : List JobRow) (place : ℕ) (now : Stage) → n ≤ leading_quiet rows → n ≤ place → n ≤ leading_quiet (put_at rows place now)
 quiet_before zero rows place now within before = omega arith
 quiet_before (suc n) [] place now within before = absurd (omega (arith, within))
@@ -118,7 +118,7 @@ above_more height zero rows more within above = tt
 above_more height (suc n) [] more within above = absurd (omega (arith, within))
 above_more height (suc n) (row ∷ rows) more within above = (above.0, above_more height n rows more (omega (arith, within)) above.1)
 
--- one behind them changes
+-- one after them changes
 above_before : (height n : ℕ) (rows : List JobRow) (place : ℕ) (now : Stage) → n ≤ place → WaitAbove height (take n rows) → WaitAbove height (take n (put_at rows place now))
 above_before height zero rows place now before above = tt
 above_before height (suc n) [] place now before above = tt

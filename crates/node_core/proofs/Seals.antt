@@ -48,7 +48,7 @@ use Rattle.schedule_laws.specs.Facts.{EachJob, JobFits}
 
 -- ---- rows
 
--- the row of a job that is not dropped is one where nothing is told of the next block
+-- the row of a job that is not dropped is one where nothing is reported of the next block
 keeps_stage : (tables : List TableDef) (told : List (List ℕ)) (now : Stage) (job : Job) (known : Bool) → IsStageOf tables told now job → (list_any (bytes_eq job.tx.id) told ≡ true → known ≡ true)
     → (is_open now && known) ≡ false → IsStageOf tables [] now job
 keeps_stage tables told stage.Waiting job known is settles stays_so = is
@@ -57,13 +57,13 @@ keeps_stage tables told (stage.Done recorded) job known is settles stays_so = is
 keeps_stage tables told stage.Taken job known is settles stays_so = absurd (false≢true (sym stays_so ∙ settles is.1))
 keeps_stage tables told stage.Dropped job known is settles stays_so = is
 
--- nothing stands at a place behind a list's end
+-- nothing stands at a place after a list's end
 past_end : (txs : List Tx) (n : ℕ) → slice_get txs n ≡ None → length txs ≤ n
 past_end [] n none = omega arith
 past_end (tx ∷ txs) zero none = absurd (none-some tx (sym none))
 past_end (tx ∷ txs) (suc n) none = let rest : length txs ≤ n = past_end txs n none in omega (arith, rest)
 
--- what holds of each job holds of each behind the first
+-- what holds of each job holds of each after the first
 each_behind : (P : Job → Type 0) (job : Job) (jobs : List Job) → EachJob P (job ∷ jobs) → EachJob P jobs
 each_behind P job jobs each zero other there = absurd (none-some other there)
 each_behind P job jobs each (suc place) other there = each (suc (suc place)) other there
@@ -246,7 +246,7 @@ module _ (kept : Kept) (node : IsNode kept) (working : Working) (here : kept.wor
   rows_dropped (row ∷ rows) [] are each = absurd are
   rows_dropped (row ∷ rows) (job ∷ jobs) are each = (λ i. row_dropped row job are.0 (each 1 job refl) i ∷ rows_dropped rows jobs are.1 (each_behind (JobFits kept.app (world_in kept).sealed) job jobs each) i)
 
-  -- the ids of a block that is decided are told
+  -- the ids of a block that is decided are reported
   ids_all : due (shown_work working) ≡ None → map (λ (tx : Tx). tx.id) working.block.value.txs ≡ told_ids
   ids_all all = sym (((facts kept node).work_fits (shown_work working) (inside kept node working here)).told
       ∙ ap (map (λ (tx : Tx). tx.id)) (take_all (decided (shown_work working)) working.block.value.txs (past_end working.block.value.txs (decided (shown_work working)) all)))

@@ -33,7 +33,7 @@ pub table_same : (rows now : List JobRow) (held : ℕ) (bounds : WaitBounds) (in
 table_same rows now held bounds index new was is same =
     subst (λ all. IsTable all held bounds new) (sym is) (record { count = was.count; waits = was.waits; by_id = same (ids_of rows) was.by_id })
 
--- jobs come behind
+-- jobs come after
 pub table_more : (rows before now : List JobRow) (held : ℕ) (bounds : WaitBounds) (index mid new : JobIndex) (txs : List (Shared Tx)) → IsTable rows held bounds index → before ≡ rows
     → now ≡ before ++ map new_row txs → SameJobs index mid → (Indexes mid (ids_of before) → Indexes new (ids_of now))
     → IsTable now held bounds new

@@ -46,7 +46,7 @@ for_has_id tx row differs =
 
 -- ---- the first job of a transaction
 
--- no job behind the newest of its id is that of a transaction
+-- no job after the newest of its id is that of a transaction
 pub up_to_newest : (tx : Tx) (number : ℕ) (rows : List JobRow) → position_from (row_is_for tx) number (take (newest tx.id (ids_of rows)) rows) ≡ position_from (row_is_for tx) number rows
 up_to_newest tx number [] = refl
 up_to_newest tx number (row ∷ rows) = by (bytes_eq tx.id row.tx.value.id) refl (newest tx.id (ids_of rows)) (up_to_newest tx (number + 1) rows)

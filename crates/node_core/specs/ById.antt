@@ -28,7 +28,7 @@ abbrev pub newest : List ℕ → List (List ℕ) → ℕ
 newest id [] = 0
 newest id (first ∷ ids) = behind_first (bytes_eq id first) (newest id ids)
 
--- for each id behind some others, the number of the last one before it that is equal to it, or 0
+-- for each id after some others, the number of the last one before it that is equal to it, or 0
 abbrev pub olders : List (List ℕ) → List (List ℕ) → List ℕ
 olders front [] = []
 olders front (id ∷ ids) = newest id front ∷ olders (front ++ id ∷ []) ids

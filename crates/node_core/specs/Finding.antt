@@ -20,7 +20,7 @@ abbrev pub outcomes_at : Option BlockResult → Option Working → List Told
 outcomes_at None work = outcomes_of work
 outcomes_at (Some block) work = block.outcomes
 
--- what is told at a place
+-- what is reported at a place
 abbrev pub told_at : List BlockResult → Option Working → Place → Option Told
 told_at blocks work place = item_at (outcomes_at (item_at blocks place.block) work) place.pos
 

@@ -17,7 +17,7 @@ use Rattle.std.specs.Option.{is_some, option_map}
 use Rattle.std.specs.Prelude.{List, None, Option, Some, cond, length, ◌&&◌, ◌+◌, ◌≡◌, ◌≤◌, ℕ}
 use Rattle.std.specs.Str.{bytes_eq}
 
--- why no block is sealed, behind so many that are: none is in work, or a transaction of it is not decided, of which the first is named
+-- why no block is sealed, after so many that are: none is in work, or a transaction of it is not decided, of which the first is named
 abbrev pub not_sealed : ℕ → Option Working → Option Sealed
 not_sealed height None = Some (sealed.NoBlock height)
 not_sealed height (Some working) = option_map (λ (tx : Tx). sealed.NotAll (decided (shown_work working) + 1)) (due (shown_work working))

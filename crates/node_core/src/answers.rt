@@ -64,7 +64,7 @@ pub enum Decided {
     NotReady { pos: u32, holder: Option<u32> },
     /// All transactions of the block of this number are decided.
     AllDecided { number: u64 },
-    /// No block is in work, behind so many that are sealed.
+    /// No block is in work, after so many that are sealed.
     NoBlock { sealed: u64 },
 }
 
@@ -75,7 +75,7 @@ pub enum Sealed {
     Digest { number: u64, digest: [u8; 32] },
     /// The transaction at this position is the first that is not decided.
     NotAll { pos: u32 },
-    /// No block is in work, behind so many that are sealed.
+    /// No block is in work, after so many that are sealed.
     NoBlock { sealed: u64 },
 }
 

@@ -21,7 +21,7 @@ fn item_at<T>(items: &[T], position: u64) -> Option<&T>
     }
 }
 
-// What is told at a place of a sealed block, or else of the block in work.
+// What is reported at a place of a sealed block, or else of the block in work.
 fn told_at<'a>(
     blocks: &'a [BlockResult],
     work: &'a Option<Working>,

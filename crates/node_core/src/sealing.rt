@@ -19,7 +19,7 @@ use node_model::{Entry, Event};
 use rel_base::NoMemory;
 use row_sets::Versions;
 
-// Why no block is sealed, behind so many that are: none is in work, or a transaction of it is not decided, of which the first is named.
+// Why no block is sealed, after so many that are: none is in work, or a transaction of it is not decided, of which the first is named.
 fn not_sealed(sealed: u64, work: &Option<Working>) -> Option<Sealed>
     ensures { result ≡ not_sealed sealed work.now }
 {

@@ -58,11 +58,11 @@ outcome_code (outcome.Fault fault) = 7 ∷ fault_code fault
 outcome_code (outcome.WriteConflict clash) = 8 ∷ clash_code clash
 outcome_code (outcome.Danger danger) = 9 ∷ danger_code danger
 
--- a transaction: its id behind its length, and its outcome
+-- a transaction: its id after its length, and its outcome
 abbrev pub told_code : Told → List ℕ
 told_code told = short_code told.id ++ outcome_code told.outcome
 
--- the result of a block: its number, its outcomes, its serial order and its writes, each list behind its count
+-- the result of a block: its number, its outcomes, its serial order and its writes, each list after its count
 abbrev pub block_code : BlockResult → List ℕ
 block_code block =
     be_code w64 block.number ++ counted small_code told_code block.outcomes ++ counted small_code small_code block.order

@@ -72,7 +72,7 @@ fold app blocks = fold_from app [] blocks
 abbrev pub no_digest : List ℕ
 no_digest = replicate 32 0
 
--- what is told of a block, with a digest
+-- what is reported of a block, with a digest
 abbrev pub result_with : List TableDef → SealedBlock → List ℕ → BlockResult
 result_with tables block digest = record {
   number = block.number;

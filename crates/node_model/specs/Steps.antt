@@ -64,7 +64,7 @@ pub data Answer : Type 0 where
   Decided : ℕ → Answer
   NotReady : ℕ → Option ℕ → Answer
   AllDecided : ℕ → Answer
-  -- of a commit or a seal: no block is in work, behind so many that are sealed
+  -- of a commit or a seal: no block is in work, after so many that are sealed
   NoBlock : ℕ → Answer
   -- of a seal: the first position that is not decided; the number and the digest of the sealed block
   NotAll : ℕ → Answer

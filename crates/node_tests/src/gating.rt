@@ -15,7 +15,7 @@ const ENDED: u32 = READS + 1;
 // How often one that is held lets others run before it gives up.
 const PATIENCE: u32 = 10_000_000;
 
-/// Holds the payments `p1` and `p2` behind each of their reads until the other has made as many, and the processor before block 2 until both
+/// Holds the payments `p1` and `p2` after each of their reads until the other has made as many, and the processor before block 2 until both
 /// have come to their ends.
 #[derive(Drop)]
 pub struct SideBySide {

@@ -46,7 +46,7 @@ fn insert(alloc: Global) -> Result<Block, Fail> {
     Ok(block(1, txs)?)
 }
 
-// An insert step by step: one pass delivers, commits and seals, the other runs it. Answers whether its outcome is told.
+// An insert step by step: one pass delivers, commits and seals, the other runs it. Answers whether its outcome is reported.
 fn step_by_step<R: Wait>(
     rt: &R,
     alloc: Global,
@@ -74,7 +74,7 @@ fn step_by_step<R: Wait>(
     }
 }
 
-// What two passes of a node tell of an insert, and whether its outcome is told.
+// What two passes of a node tell of an insert, and whether its outcome is reported.
 fn insert_by_two<R: Wait>(rt: &R, alloc: Global) -> Result<(NodeResult, bool), Fail> {
     let app = accounts(alloc)?;
     let block = insert(alloc)?;
@@ -102,7 +102,7 @@ fn an_insert_by_two_passes(rt: HostRuntime) -> Result<(), Fail> {
     Ok(())
 }
 
-// Whether the read of a call that one pass brings is told to another, which takes its job.
+// Whether the read of a call that one pass brings is reported to another, which takes its job.
 fn look_at_read<R: Wait>(
     rt: &R,
     node: &SharedNode<IndexVersions>,
@@ -145,7 +145,7 @@ fn calls(alloc: Global, count: i64) -> Result<List<Tx>, Fail> {
     Ok(txs)
 }
 
-// Blocks of payments between two accounts, behind one that adds them.
+// Blocks of payments between two accounts, after one that adds them.
 fn payments(alloc: Global, count: u64) -> Result<List<Block>, Fail> {
     let mut blocks = List::new(alloc);
     let mut accounts = List::new(alloc);

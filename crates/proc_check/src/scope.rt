@@ -173,7 +173,7 @@ impl Scope {
         }
     }
 
-    /// Leaves the names in scope that were there first, as many as are told.
+    /// Leaves the names in scope that were there first, as many as are given.
     pub fn leave(&mut self, count: usize)
         ensures { self.new ≡ take count self.old }
     {

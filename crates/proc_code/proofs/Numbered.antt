@@ -169,7 +169,7 @@ numbered_more names new old after numbered none updates = λ name.
 unnumbered : (names : Names) (name : List ℕ) → is_some (number_if names name) ≡ false → has_name names name ≡ false
 unnumbered names name is = elim (has_name names name) as (λ b. is_some (cond b (Some (number_of_name names name)) None) ≡ false → b ≡ false) [ true ↦ λ is. cc | false ↦ λ is. refl ] is
 
--- a name was put behind the others, and into the map under their number
+-- a name was put after the others, and into the map under their number
 pub added : (names pushed : Names) (new key item : List ℕ) (number : ℕ) (old after : BTreeMap (List ℕ) ℕ) → AreNumbersOf names old → is_some (get (slice_cmp nat_cmp) old new) ≡ false
     → key ≡ new → item ≡ new → number ≡ length names → pushed ≡ names ++ item ∷ [] → Updates (slice_cmp nat_cmp) old after key (Some number) → AreNumbersOf pushed after
 added names pushed new key item number old after numbered absent key_is item_is number_is pushed_is updates =

@@ -24,7 +24,7 @@ abbrev pub lent : Result (Bor Value) Stop → Result Value Stop
 lent (Ok v) = Ok v.now
 lent (Err why) = Err why
 
--- what was computed is what is meant, but for want of memory
+-- what was computed is what is meant, but where memory runs out
 abbrev pub Weighs : Result Worth Halt → Result Value Stop → Type 0
 Weighs (Ok w) meant = meant ≡ Ok (weight w)
 Weighs (Err halt.NoMemory) meant = Unit {0}

@@ -106,7 +106,7 @@ fn code_of_app(
     })
 }
 
-/// The code of an application, whose tables are declared and fewer than 2^32. The only refusal is want of memory.
+/// The code of an application, whose tables are declared and fewer than 2^32. The only refusal is out of memory.
 pub fn resolve(alloc: Global, app: &App, tables: &List<TableDef>) -> Result<AppCode, NoMemory>
     requires declared { tables.now ≡ tables_of app.now }
     requires few { length tables.now < 2 ^ 32 }

@@ -18,7 +18,7 @@ abbrev pub left : {A : Type 0} → Read A → List Token
 left (Ok x) = x.1
 left (Err rest) = rest
 
--- the same with more tokens behind
+-- the same with more tokens after
 abbrev pub extend : {A : Type 0} → Read A → List Token → Read A
 extend (Ok x) ys = Ok (x.0, x.1 ++ ys)
 extend (Err rest) ys = Err (rest ++ ys)

@@ -120,7 +120,7 @@ piece_shorter b bs =
     either_piece (length bs) (b == quote) (literal_piece lexeme.Text (text_at (b ∷ bs))) _ (λ _. most_literal (length bs) lexeme.Text _ (most_text b bs))
     (most_sign b bs (sign_in signs (b ∷ bs))))))))
 
--- ---- what is left behind a piece
+-- ---- what is left after a piece
 
 pub piece_most : (bytes : List ℕ) → length (piece_at bytes).1 ≤ length bytes
 piece_most [] = omega arith
@@ -145,7 +145,7 @@ tokens_enough (suc n) (suc m) place [] h k = refl
 tokens_enough (suc n) (suc m) place (b ∷ bs) h k =
     ap (put (piece_at (b ∷ bs)).0 place) (tokens_enough n m _ (piece_at (b ∷ bs)).1 (omega (arith, piece_shorter b bs, h)) (omega (arith, piece_shorter b bs, k)))
 
--- the token of a piece, if it has one, and the tokens behind it
+-- the token of a piece, if it has one, and the tokens after it
 tokens_step : (place : Position) (bytes : List ℕ) → tokens_in (suc (length bytes)) place bytes
     ≡ put (piece_at bytes).0 place (tokens_in (suc (length (piece_at bytes).1)) (moved (piece_at bytes).0 (length bytes - length (piece_at bytes).1) place) (piece_at bytes).1)
 tokens_step place [] = refl
@@ -170,7 +170,7 @@ moved_col (piece.Token l) n place h = omega arith
 pub newline_some : (bytes rest : List ℕ) (p : Piece) → piece_at bytes ≡ (p, rest) → p ≡ piece.Newline → 0 < length bytes - length rest
 newline_some bytes rest p e n = omega (arith, found_less bytes rest p e (ap ends n))
 
--- behind a piece that does not end the text, the tokens are those of the rest, and its place has as much room
+-- after a piece that does not end the text, the tokens are those of the rest, and its place has as much room
 pub record GoesOn (new all : List Token) (next : Position) (rest : List ℕ) (room : ℕ) : Type 0 where
   pub read : new ++ tokens_in (suc (length rest)) next rest ≡ all
   pub line : next.line + length rest ≤ room

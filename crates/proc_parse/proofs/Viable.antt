@@ -4,7 +4,7 @@ use Rattle.proc_parse.specs.declared.token.Token.{Token}
 use Rattle.proc_parse.specs.declared.token.Lexeme.{Lexeme}
 use Rattle.proc_parse.specs.Reading.{Read, Reader, on_read, ◌>>=◌, done, refuse, IsShorter, Shortens}
 
--- a phrase at the front, up to a token, whatever follows that
+-- a phrase at the start, up to a token, whatever follows that
 pub record Accepts {A : Type 0} (q : Reader A) (front : List Token) (x : A) (h : Token) : Type 0 where
   pub reads : (ys : List Token) → q (front ++ (h ∷ ys)) ≡ Ok (x, h ∷ ys)
 

@@ -319,13 +319,13 @@ module _ {A : Type 0} (test : Lexeme → Bool) (p q : Reader A) (short : Shorten
   links : (items : List A) → Links inner (many_more test p items) (many_more test q items) stop None
   links items = record { phrase = λ x. many_phrase (items ++ x ∷ []); heads = λ s k. under s.lexeme k; none = λ x ts y e l k. under l k }
 
-  -- what is behind a phrase has fewer tokens
+  -- what is after a phrase has fewer tokens
   many_behind : (items : List A) (n : ℕ) (ts : List Token) → length ts ≤ suc n → ((items : List A) (ts : List Token) → length ts ≤ n → Case (many_all test q items) stop ts (many_all test p items ts))
       → (r : Read A) → IsShorter ts r → Behind q (many_more test p items) (many_more test q items) inner stop None (links items) r
   many_behind items n ts h rec (Ok x) s = rec (items ++ x.0 ∷ []) x.1 (omega (arith, s, h))
   many_behind items n ts h rec (Err rest) s = tt
 
-  -- a phrase takes a token, and what is behind it gives none back
+  -- a phrase takes a token, and what is after it gives none back
   none_empty : (items : List A) (ts : List Token) (r : Read A) → IsShorter ts r → (x : List A) → on_read r (many_more test p items) ≡ Ok (x, ts) → ⊥
   none_empty items ts (Ok y) s x e =
       omega (arith, s, subst (λ (r : Read (List A)). IsWithin y.1 r) e ((keeps_many_from test p short (length y.1) (items ++ y.0 ∷ [])).within y.1))

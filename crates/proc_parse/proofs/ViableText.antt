@@ -1,4 +1,4 @@
--- Where a text is not an application, the tokens before the first that nothing allows are the front of one.
+-- Where a text is not an application, the tokens before the first that nothing allows are the prefix of one.
 use Rattle.std.proofs.Common.{◌≡◌, ℕ, List, [], ◌∷◌, ◌++◌, Bool, true, false, cond, Some, None, Ok, Err, refl, sym, ap, ◌∙◌, append_assoc}
 use Rattle.proc_syntax.specs.declared.tree.TableText.{TableText}
 use Rattle.proc_syntax.specs.declared.tree.ProcDef.{ProcDef}

@@ -82,7 +82,7 @@ abbrev pub chain_from : (Lexeme → Option Op) → Reader Expr → ℕ → Expr 
 chain_from ops operand zero left = without_op ops left
 chain_from ops operand (suc more) left = with_op ops (λ o. operand >>= λ right. chain_from ops operand more (expr.Two o left right)) left
 
--- behind an operator
+-- after an operator
 abbrev pub chain_after : (Lexeme → Option Op) → Reader Expr → ℕ → Expr → Op → Reader Expr
 chain_after ops operand more left o = operand >>= λ right. chain_from ops operand more (expr.Two o left right)
 

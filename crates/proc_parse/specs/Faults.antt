@@ -32,14 +32,14 @@ pub record IsRefused (ts : List Token) (line col : ℕ) : Type 0 where
   pub has_col : token.col ≡ col
   pub blocked : (any : List Token) → application (front ++ (token ∷ any)) ≡ Err (token ∷ any)
 
--- tokens are the front of an application, but that its blocks may be one deeper: so where a block is too deep, the brace that opens it is the first
+-- tokens are the prefix of an application, but that its blocks may be one deeper: so where a block is too deep, the brace that opens it is the first
 -- token that nothing allows, and not the word before it
 pub record IsViable (front : List Token) : Type 0 where
   pub more : List Token
   pub app : App
   pub read : deeper_application (front ++ more) ≡ Ok (app, [])
 
--- a token of these stands at the place, behind such a front
+-- a token of these stands at the place, after such a prefix
 pub record IsBehindViable (ts : List Token) (line col : ℕ) : Type 0 where
   pub front : List Token
   pub token : Token

@@ -36,7 +36,7 @@ name_of _ line = None
 abbrev pub named : Reader Named
 named = one (λ token. name_of token.lexeme token.line)
 
--- a word, and a name behind it
+-- a word, and a name after it
 abbrev pub named_behind : Word → Reader Named
 named_behind w = the_word w >> named
 

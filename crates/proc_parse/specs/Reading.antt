@@ -1,4 +1,4 @@
--- What it is to read a phrase at the front of some tokens, and the ways to put readers together.
+-- What it is to read a phrase at the start of some tokens, and the ways to put readers together.
 use Rattle.std.specs.Prelude.{◌≡◌, ◌<◌, ◌≤◌, List, [], ◌∷◌, length, Bool, false, cond, Option, Some, None, Result, Ok, Err}
 use denote.Bor.{Bor}
 use Rattle.proc_parse.specs.declared.token.Token.{Token}

@@ -19,7 +19,7 @@ use Rattle.proc_parse.specs.declared.lexer.Piece.TheVariants as piece
 use Rattle.proc_parse.specs.declared.lexer.Position.{Position}
 use Rattle.proc_parse.specs.Words.{spelling, words, mark, signs}
 
--- what stands at the front of some bytes, and the bytes after it
+-- what stands at the start of some bytes, and the bytes after it
 abbrev pub Found : Type 0
 Found = Piece × List ℕ
 
@@ -30,7 +30,7 @@ abbrev pub word_in : List Word → List ℕ → Option Word
 word_in [] bytes = None
 word_in (w ∷ ws) bytes = cond (pointwise nat_eq (spelling w) bytes) (Some w) (word_in ws bytes)
 
--- how many letters, digits and `_` stand at the front
+-- how many letters, digits and `_` stand at the start
 abbrev pub run_len : List ℕ → ℕ
 run_len bytes = prefix_len is_name_byte bytes
 
@@ -109,13 +109,13 @@ piece_at (b ∷ bs) =
     cond (b == quote) (literal_piece lexeme.Text (text_at (b ∷ bs)))
     (sign_piece (b ∷ bs)))))))
 
--- the place behind a piece of so many bytes
+-- the place after a piece of so many bytes
 abbrev pub moved : Piece → ℕ → Position → Position
 moved piece.Newline n place = record { line = place.line + 1; col = 1 }
 moved piece.Blank n place = record { line = place.line; col = place.col + n }
 moved (piece.Token l) n place = record { line = place.line; col = place.col + n }
 
--- nothing follows the end of the text, and nothing is read behind bytes that are no token
+-- nothing follows the end of the text, and nothing is read after bytes that are no token
 abbrev pub is_last : Lexeme → Bool
 is_last lexeme.End = true
 is_last lexeme.Bad = true
@@ -125,7 +125,7 @@ abbrev pub ends : Piece → Bool
 ends (piece.Token l) = is_last l
 ends _ = false
 
--- a token in front of those behind it
+-- a token before those after it
 abbrev pub put : Piece → Position → List Token → List Token
 put piece.Newline place behind = behind
 put piece.Blank place behind = behind
@@ -148,6 +148,6 @@ abbrev pub Finds : Result (Piece × Bor (List ℕ)) NoMemory → Found → Type 
 Finds (Ok found) meant = meant ≡ (found.0, found.1.now)
 Finds (Err e) meant = Unit {0}
 
--- the tokens behind the last one that was read
+-- the tokens after the last one that was read
 abbrev pub unless_last : Bool → List Token → List Token
 unless_last last behind = cond last [] behind

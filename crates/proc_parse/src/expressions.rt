@@ -62,7 +62,7 @@ fn op_of(level: Level, lexeme: &Lexeme) -> Option<Op>
     }
 }
 
-/// The operator of a chain at the front, and what follows it.
+/// The operator of a chain at the start, and what follows it.
 fn chain_op(level: Level, tokens: &[Token]) -> Option<(Op, &[Token])>
     ensures { found_op result ≡ op_at (op_of level) tokens.now }
 {
@@ -75,7 +75,7 @@ fn chain_op(level: Level, tokens: &[Token]) -> Option<(Op, &[Token])>
     }
 }
 
-/// The comparison at the front, and what follows it.
+/// The comparison at the start, and what follows it.
 fn comparison_at(tokens: &[Token]) -> Option<(Op, &[Token])>
     ensures { found_op result ≡ op_at comparison_op tokens.now }
 {

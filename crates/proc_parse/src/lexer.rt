@@ -18,7 +18,7 @@ use literals::{LiteralFault, read_bytes, read_number, read_text};
 use rel_base::{List, NoMemory};
 use std::alloc::Global;
 
-/// What stands at the front of some bytes.
+/// What stands at the start of some bytes.
 #[derive(Drop)]
 pub enum Piece {
     /// Spaces or a comment.
@@ -35,7 +35,7 @@ pub struct Position {
     pub col: u32,
 }
 
-/// A reserved word or a name at the front.
+/// A reserved word or a name at the start.
 fn run_piece(alloc: Global, bytes: &[u8]) -> Result<(Piece, &[u8]), NoMemory>
     ensures { Finds result (run_piece bytes.now) }
 {
@@ -44,7 +44,7 @@ fn run_piece(alloc: Global, bytes: &[u8]) -> Result<(Piece, &[u8]), NoMemory>
     Ok((Piece::Token(lexeme), rest))
 }
 
-/// A byte string at the front.
+/// A byte string at the start.
 fn bytes_piece(alloc: Global, bytes: &[u8]) -> Result<(Piece, &[u8]), NoMemory>
     ensures { Finds result (literal_piece Lexeme.Bytes (bytes_at bytes.now)) }
 {
@@ -55,7 +55,7 @@ fn bytes_piece(alloc: Global, bytes: &[u8]) -> Result<(Piece, &[u8]), NoMemory>
     }
 }
 
-/// A text at the front.
+/// A text at the start.
 fn text_piece(alloc: Global, bytes: &[u8]) -> Result<(Piece, &[u8]), NoMemory>
     ensures { Finds result (literal_piece Lexeme.Text (text_at bytes.now)) }
 {
@@ -95,7 +95,7 @@ fn int_of(number: u64) -> Lexeme
     }
 }
 
-/// A number at the front.
+/// A number at the start.
 fn int_piece(bytes: &[u8]) -> (Piece, &[u8])
     ensures { (result.0, result.1.now) ≡ int_piece (u64_at bytes.now) }
 {
@@ -133,7 +133,7 @@ fn after_sign(bytes: &[u8], sign: Sign) -> &[u8]
     &bytes[sign.mark().len()..]
 }
 
-/// A sign at the front.
+/// A sign at the start.
 fn sign_piece(bytes: &[u8]) -> (Piece, &[u8])
     ensures { (result.0, result.1.now) ≡ sign_piece bytes.now }
 {
@@ -143,7 +143,7 @@ fn sign_piece(bytes: &[u8]) -> (Piece, &[u8])
     }
 }
 
-/// How many bytes of a comment stand at the front.
+/// How many bytes of a comment stand at the start.
 fn comment_len(bytes: &[u8]) -> usize
     ensures value { result ≡ prefix_len is_comment bytes.now }
     ensures bound { result ≤ length bytes.now }
@@ -156,14 +156,14 @@ fn comment_len(bytes: &[u8]) -> usize
     bytes.len()
 }
 
-/// What stands behind the bytes of a comment.
+/// What stands after the bytes of a comment.
 fn after_comment(bytes: &[u8]) -> &[u8]
     ensures { result.now ≡ drop (prefix_len is_comment bytes.now) bytes.now }
 {
     &bytes[comment_len(bytes)..]
 }
 
-/// What stands at the front of some bytes, and the bytes after it.
+/// What stands at the start of some bytes, and the bytes after it.
 fn next_piece(alloc: Global, bytes: &[u8]) -> Result<(Piece, &[u8]), NoMemory>
     ensures { Finds result (piece_at bytes.now) }
 {
@@ -179,7 +179,7 @@ fn next_piece(alloc: Global, bytes: &[u8]) -> Result<(Piece, &[u8]), NoMemory>
     }
 }
 
-/// The place behind a piece of so many bytes.
+/// The place after a piece of so many bytes.
 fn moved(piece: &Piece, len: usize, place: Position) -> Position
     requires line { place.line + len < 2 ^ 32 }
     requires col { place.col + len < 2 ^ 32 }
@@ -198,7 +198,7 @@ fn moved(piece: &Piece, len: usize, place: Position) -> Position
     }
 }
 
-/// Whether nothing is read behind this.
+/// Whether nothing is read after this.
 fn is_last(lexeme: &Lexeme) -> bool
     ensures { result ≡ is_last lexeme.now }
 {

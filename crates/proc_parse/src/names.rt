@@ -34,7 +34,7 @@ impl Phrase for Named {
     ghost shortens = { shortens_named };
 }
 
-/// Reads a word, and a name behind it.
+/// Reads a word, and a name after it.
 pub fn named_behind<'a>(alloc: Global, tokens: &'a [Token], behind: Word) -> Parsed<'a, Named>
     ensures { Gives result (named_behind behind tokens.now) }
 {

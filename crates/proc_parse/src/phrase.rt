@@ -1,4 +1,4 @@
-//! Phrases of the grammar, read at the front of some tokens.
+//! Phrases of the grammar, read at the start of some tokens.
 
 ghost use Rattle.std.specs.Prelude.{◌≡◌, List};
 ghost use Rattle.std.specs.Option.{option_copied};
@@ -28,14 +28,14 @@ impl<'a> From<NoMemory> for Stop<'a> {
     }
 }
 
-/// What was read at the front of some tokens and what follows it, or why nothing was read.
+/// What was read at the start of some tokens and what follows it, or why nothing was read.
 pub type Parsed<'a, T> = Result<(T, &'a [Token]), Stop<'a>>;
 
 /// What a rule of the grammar reads.
 pub trait Phrase: Sized + Drop {
     ghost rule: { Reader Self };
 
-    /// Reads a phrase at the front of the tokens, and answers what follows it too.
+    /// Reads a phrase at the start of the tokens, and answers what follows it too.
     fn read<'a>(alloc: Global, tokens: &'a [Token]) -> Parsed<'a, Self>
         ensures { Gives result (rule tokens.now) };
 

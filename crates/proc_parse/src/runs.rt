@@ -62,7 +62,7 @@ fn is_name_byte(byte: u8) -> bool
     (byte >= b'a' && byte <= b'z') || (byte >= b'0' && byte <= b'9') || byte == b'_'
 }
 
-/// How many letters, digits and `_` stand at the front.
+/// How many letters, digits and `_` stand at the start.
 pub fn run_len(bytes: &[u8]) -> usize
     ensures value { result ≡ run_len bytes.now }
     ensures bound { result ≤ length bytes.now }

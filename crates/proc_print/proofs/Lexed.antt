@@ -16,7 +16,7 @@ use Rattle.proc_parse.proofs.Pieces.{piece_shorter}
 use Rattle.proc_print.proofs.Spoken.{Spoken, silent}
 use Rattle.proc_print.specs.Laws.{lexemes}
 
--- a lexeme in front of those behind it
+-- a lexeme before those after it
 abbrev pub plain : Piece → List Lexeme → List Lexeme
 plain piece.Newline behind = behind
 plain piece.Blank behind = behind

@@ -100,7 +100,7 @@ span_open name table column =
 
 -- ---- statements
 
--- behind each margin of blanks
+-- after each margin of blanks
 abbrev IsSaidAt : (List ℕ → List ℕ) → Spoken → Type 0
 IsSaidAt text say = (margin : List ℕ) → Closed margin silent → Closed (text margin) say
 

@@ -1,4 +1,4 @@
--- The tokens of a tree, in front of those that follow it.
+-- The tokens of a tree, before those that follow it.
 use Rattle.std.specs.Prelude.{cond, List, [], ◌∷◌, Option, Some, None, map}
 use Rattle.rel_base.specs.declared.value.Kind.{Kind}
 use Rattle.rel_base.specs.declared.value.Kind.TheVariants as kind
@@ -23,7 +23,7 @@ use Rattle.proc_parse.specs.declared.token.Word.TheVariants as word
 use Rattle.proc_parse.specs.declared.token.Sign.{Sign}
 use Rattle.proc_parse.specs.declared.token.Sign.TheVariants as sign
 
--- tokens in front of others
+-- tokens before others
 abbrev pub Spoken : Type 0
 Spoken = List Lexeme → List Lexeme
 

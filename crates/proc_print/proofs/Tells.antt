@@ -21,7 +21,7 @@ use Rattle.proc_parse.specs.Expressions.{op_before, op_at, if_op, with_op, chain
 use Rattle.proc_print.proofs.Spoken.{Spoken, silent, say_sign, say_more, say_listed, say_all, op_lexeme, say_expr}
 use Rattle.proc_print.proofs.SpokenTrees.{said_two}
 
--- the tokens were those of the tree, behind what was said before
+-- the tokens were those of the tree, after what was said before
 abbrev pub Told : {A : Type 0} → Spoken → (A → Spoken) → List Token → Read A → Type 0
 Told heard say ts (Ok x) = heard (lexemes ts) ≡ say x.0 (lexemes x.1)
 Told heard say ts (Err rest) = Unit {0}

@@ -70,7 +70,7 @@ expr_text = fold-Expr (List ℕ) expr_step
 
 -- ---- statements
 
--- a statement on a line, behind a margin
+-- a statement on a line, after a margin
 abbrev pub line_text : List ℕ → (List ℕ → List ℕ) → List ℕ
 line_text margin stmt = margin ++ stmt margin ++ codes "\n"
 
@@ -83,7 +83,7 @@ abbrev pub else_text : Option (List (List ℕ → List ℕ)) → List ℕ → Li
 else_text None margin = []
 else_text (Some stmts) margin = codes " else " ++ block_text stmts margin
 
--- an end of a span behind its word, where it is given
+-- an end of a span after its word, where it is given
 abbrev pub end_text : List ℕ → Option Expr → List ℕ
 end_text word None = []
 end_text word (Some e) = word ++ expr_text e
@@ -119,7 +119,7 @@ span_text name table column = codes "for " ++ name.name ++ codes " in " ++ table
 unfoldable pub ends_text : Option Expr → Option Expr → List ℕ
 ends_text low high = end_text (codes " from ") low ++ end_text (codes " to ") high ++ codes " "
 
--- a statement whose blocks close behind a margin, from the texts of the statements in them
+-- a statement whose blocks close after a margin, from the texts of the statements in them
 abbrev pub stmt_step : Stmt-F (List ℕ → List ℕ) → List ℕ → List ℕ
 stmt_step (stmt.Let name e) margin = codes "let " ++ name.name ++ codes " = " ++ expr_text e ++ codes ";"
 stmt_step (stmt.Assign name e) margin = name.name ++ codes " = " ++ expr_text e ++ codes ";"

@@ -47,7 +47,7 @@ fn push_keyed(out: &mut Vec<u8>, table: &Named, key: &[Expr]) -> Result<(), NoMe
     push_in_parens(out, key)
 }
 
-/// Writes an end of a span at the end, behind its word, where it is given.
+/// Writes an end of a span at the end, after its word, where it is given.
 fn push_end(out: &mut Vec<u8>, word: &[u8], end: &Option<Expr>) -> Result<(), NoMemory>
     ensures { OnOk result (out.new.items ≡ out.old.items ++ end_text word.now end.now) }
 {
@@ -176,7 +176,7 @@ fn deeper(alloc: Global, margin: &[u8]) -> Result<Vec<u8>, NoMemory>
     Ok(made)
 }
 
-/// Writes the statements of a block at the end, each on a line behind the margin.
+/// Writes the statements of a block at the end, each on a line after the margin.
 #[cycle(lines)]
 fn push_lines(
     alloc: Global,
@@ -194,7 +194,7 @@ fn push_lines(
     Ok(())
 }
 
-/// Writes a block at the end, of which the last brace stands behind the margin.
+/// Writes a block at the end, of which the last brace stands after the margin.
 #[cycle(lines)]
 pub fn push_block(
     alloc: Global,
@@ -225,7 +225,7 @@ fn push_else(
     push_block(alloc, out, margin, stmts)
 }
 
-/// Writes a statement at the end, of which the blocks close behind the margin.
+/// Writes a statement at the end, of which the blocks close after the margin.
 #[cycle(lines)]
 fn push_stmt(alloc: Global, out: &mut Vec<u8>, margin: &[u8], stmt: &Stmt) -> Result<(), NoMemory>
     ensures { OnOk result (out.new.items ≡ out.old.items ++ stmt_text stmt.now margin.now) }

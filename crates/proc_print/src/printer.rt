@@ -11,7 +11,7 @@ use proc_syntax::{App, ColumnText, Named, ProcDef, TableText};
 use rel_base::{Kind, List, NoMemory};
 use std::alloc::Global;
 
-/// A kind behind a space.
+/// A kind after a space.
 fn kind_text(kind: Kind) -> &'static str
     ensures { result.now ≡ kind_text kind }
 {

@@ -56,7 +56,7 @@ given_none (phase.Answered at made what) h = cc
 given_none phase.Good h = refl
 given_none (phase.Stopped why) h = refl
 
--- what is told of a read that fits fits
+-- what is reported of a read that fits fits
 pub want_fits : (declared : List TableDef) (now : Phase) → PhaseFits declared now → WantFits declared (want_of now)
 want_fits declared phase.Running h = tt
 want_fits declared (phase.Ask at read what) h = h
@@ -71,7 +71,7 @@ module _ (app : App) (tx : Tx) (time : ℤ) (number : ℕ) where
   abbrev left : Tables → Phase → List Spot → Run → Progress
   left S now path going = remains declared (code_of app).columns S (body_at (code_of app) number) now path (state going)
 
-  -- what was told may be told again
+  -- what was reported may be reported again
   pub sound_told : (now : Phase) (path : List Spot) (going : Run) (told : Bool) → IsSound app tx time number now path going false → waits now ≡ true → IsSound app tx time number now path going told
   sound_told now path going told s w = record { follows = s.follows; found = s.found; steps = s.steps; fits = s.fits; order = s.order; room = s.room; waiting = λ t. w }
 

@@ -26,7 +26,7 @@ use Rattle.proc_run.specs.declared.state.Want.TheVariants as want
 use Rattle.proc_run.specs.Path.{body_at}
 use Rattle.proc_run.specs.Remains.{state, remains, waits, PhaseFits, StandInOrder}
 
--- what a machine runs, the reads that were answered so far, with their rows, the read that is asked, and whether it told that the run ended
+-- what a machine runs, the reads that were answered so far, with their rows, the read that is asked, and whether it reported that the run ended
 pub record MachineView : Type 0 where
   pub app : App
   pub tx : Tx
@@ -81,7 +81,7 @@ abbrev pub IsNextWant : Want → List TableDef → Tables → List Made → List
 IsNextWant (want.Rows read) declared tables fed all = (more : List Made) × (all ≡ fed ++ record { read = read; rows = rows_in declared read tables } ∷ more)
 IsNextWant want.Ended declared tables fed all = all ≡ fed
 
--- a read that is told fits its table
+-- a read that is reported fits its table
 abbrev pub WantFits : List TableDef → Want → Type 0
 WantFits declared (want.Rows read) = ReadFitsIn declared read
 WantFits declared want.Ended = Unit {0}

@@ -144,13 +144,13 @@ StandInOrder declared read rows = IfSome (slice_get declared (read_table read)) 
 abbrev pub KeepsFound : Read → List Seen → Written → Written → Type 0
 KeepsFound read rows old new = (declared : List TableDef) (tables : Tables) → rows ≡ rows_in declared read tables → AreFound declared tables old → AreFound declared tables new
 
--- a step that was made is the one that is meant, but for want of memory
+-- a step that was made is the one that is meant, but where memory runs out
 abbrev pub Ends : Result (Unit {0}) Halt → State → Progress → Type 0
 Ends (Ok done) reached meant = meant ≡ Going reached
 Ends (Err halt.NoMemory) reached meant = Unit {0}
 Ends (Err (halt.Stop why)) reached meant = meant ≡ Stopped reached why
 
--- what goes on after a step is what is meant, but for want of memory
+-- what goes on after a step is what is meant, but where memory runs out
 abbrev pub Comes : Result (Unit {0}) Halt → Progress → State → Progress → Type 0
 Comes (Ok done) going reached meant = going ≡ meant
 Comes (Err halt.NoMemory) going reached meant = Unit {0}

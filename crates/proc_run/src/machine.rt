@@ -31,7 +31,7 @@ pub struct Machine {
     spots: Vec<Spot>,
     run: Run,
     phase: Phase,
-    /// Whether the read for whose rows it waits, or its end, was told.
+    /// Whether the read for whose rows it waits, or its end, was reported.
     told: bool,
 }
 

@@ -1,4 +1,4 @@
--- The versions that are chosen, told one after the other.
+-- The versions that are chosen, reported one after the other.
 use Rattle.std.proofs.Common.{◌≡◌, ◌∙◌, List, [], ◌∷◌, ◌++◌, ℕ, All, ap, subst, sym, append_assoc, map, cond, true, false, refl, Ok, Err, slice_get}
 use Rattle.std.proofs.lemmas.List.Elements.{All-tail}
 use Rattle.node_model.specs.declared.result.BlockResult.{BlockResult}
@@ -21,7 +21,7 @@ module _ (blocks : List BlockResult) (choice : Choice) where
   chosen-cons version others =
       elim (is_chosen blocks choice version.made version.ended) as (λ b. cond b (version ∷ chosen blocks choice others) (chosen blocks choice others) ≡ cond b (version ∷ []) [] ++ chosen blocks choice others) [ true ↦ refl | false ↦ refl ]
 
-  -- one version more: the others are told, and what is made with what is chosen of these is the whole
+  -- one version more: the others are reported, and what is made with what is chosen of these is the whole
   pub choose_more : (table : ℕ) (left : List Lifespan) (span : Lifespan) (rest : List Lifespan) (made new whole : List Version) → left ≡ span ∷ rest → All (IsTold blocks) left
       → new ≡ made ++ chosen blocks choice (version_of blocks table span ∷ []) → made ++ chosen blocks choice (map (version_of blocks table) left) ≡ whole
       → All (IsTold blocks) rest × (new ++ chosen blocks choice (map (version_of blocks table) rest) ≡ whole)

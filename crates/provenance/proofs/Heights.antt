@@ -5,7 +5,7 @@ use Rattle.provenance.specs.Answer.{is_visible, was_visible}
 use Rattle.rel_base.specs.declared.access.Place.{Place}
 use Rattle.std.proofs.lemmas.Bool.Decides.{nat_tests}
 
--- one more height at the front of a range
+-- one more height at the start of a range
 live_more : (made from n : ℕ) → (nat_le made from && true || nat_le made (from + 1 + n)) ≡ nat_le made (from + suc n)
 live_more made from n = grind (arith, nat_tests)
 

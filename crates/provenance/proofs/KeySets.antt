@@ -86,7 +86,7 @@ keys-with_refs refs (stamped ∷ later) =
 -- ---- a set with more keys put in
 
 module _ {Y : Type 0} (f : ℕ × List Value → List Y) where
-  -- a key at which nothing is told
+  -- a key at which nothing is reported
   flat-put : (ref : ℕ × List Value) (entries : List ((ℕ × List Value) × Unit {0})) → f ref ≡ [] → flat_map f (map (λ e. e.0) (put ref_cmp ref (tt {0}) entries)) ≡ flat_map f (map (λ e. e.0) entries)
   flat-put ref [] none = ap (λ ys. ys ++ []) none
   flat-put ref (e ∷ es) none =
@@ -108,7 +108,7 @@ same_refs refs ref there = finite.same_map ref_cmp-total ref_cmp-exact (finite.i
       | false ↦ λ _. refl
     ] refl)
 
--- nothing is told of a write's key where it is not there
+-- nothing is reported of a write's key where it is not there
 abbrev IsSilent : {Y : Type 0} → (ℕ × List Value → List Y) → Refs → Stamped → Type 0
 IsSilent f refs stamped = finite.get refs (ref_of stamped) ≡ None → f (ref_of stamped) ≡ []
 
@@ -167,7 +167,7 @@ all_with test writes = finite.same_map ref_cmp-total ref_cmp-exact (refs_of writ
 keys-empty : finite.keys (finite.empty {X = Unit {0}} {R = ref_cmp}) ≡ []
 keys-empty = ap (map (λ e. e.0)) (nil_from_length (finite.entries finite.empty) (sym (finite.len-entries finite.empty) ∙ finite.len-empty ref_cmp (Unit {0})))
 
--- where nothing is told of keys on which no write passes, what is told of the keys of all writes is told of the keys of those that pass
+-- where nothing is reported of keys on which no write passes, what is reported of the keys of all writes is reported of the keys of those that pass
 pub told_by_some : {Y : Type 0} (f : ℕ × List Value → List Y) (test : Stamped → Bool) (writes : List Stamped)
     → All (λ x. has_ref (filter test writes) (ref_of x) ≡ false → f (ref_of x) ≡ []) writes → flat_map f (keys_of writes) ≡ flat_map f (put_keys [] (filter test writes))
 told_by_some f test writes none =

@@ -27,7 +27,7 @@ none_pass test [] none = refl
 none_pass test (x ∷ xs) none =
     ap (λ b. cond b (x ∷ filter test xs) (filter test xs)) (All-head (λ y. test y ≡ false) x xs none) ∙ none_pass test xs (All-tail (λ y. test y ≡ false) x xs none)
 
--- what passes of what is told of the items that pass
+-- what passes of what is reported of the items that pass
 filter-flat_map : {X Y : Type 0} (chosen : Y → Bool) (f : X → List Y) (test : X → Bool) (xs : List X)
     → filter chosen (flat_map f (filter test xs)) ≡ flat_map (λ x. filter chosen (cond (test x) (f x) [])) xs
 filter-flat_map chosen f test [] = refl
@@ -107,7 +107,7 @@ module _ (blocks : List BlockResult) (id : List ℕ) where
       pulled true ref = refl
       pulled false ref = refl
 
-  -- once no key is left, what was told is all of it
+  -- once no key is left, what was reported is all of it
   pub written_end : (tables : List TableDef) (told : List Version) (left : List (ℕ × List Value)) → left ≡ []
       → told ++ flat_map (written_on tables blocks id) left ≡ flat_map (written_on tables blocks id) (put_keys [] (filter (is_writer blocks id) (history_of blocks))) → told ≡ of_id tables blocks id
   written_end tables told left none all =

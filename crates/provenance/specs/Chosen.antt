@@ -1,4 +1,4 @@
--- Which versions of a key or a table are chosen, as they are told one by one; and the keys that a transaction wrote.
+-- Which versions of a key or a table are chosen, as they are reported one by one; and the keys that a transaction wrote.
 use Rattle.node_model.specs.declared.result.BlockResult.{BlockResult}
 use Rattle.node_model.specs.declared.version.Version.{Version}
 use Rattle.provenance.specs.Answer.{is_place_of, is_written_by, was_visible}

@@ -14,7 +14,7 @@ pub enum Query {
     Written { id: Id },
 }
 
-/// Why a query has no answer. But for want of memory, the first of these that applies.
+/// Why a query has no answer. But where memory runs out, the first of these that applies.
 #[derive(Clone, Copy, Debug, PartialEq, Eq)]
 pub enum QueryFault {
     /// Memory ran out.

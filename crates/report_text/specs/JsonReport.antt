@@ -31,7 +31,7 @@ abbrev pub items_from : {Thing : Type 0} → (ℕ → Thing → Data) → ℕ �
 items_from value place [] = no_items
 items_from value place (thing ∷ things) = item (value place thing) (items_from value (place + 1) things)
 
--- a member that is shown only where it is asked for, and those behind it
+-- a member that is shown only where it is asked for, and those after it
 abbrev pub member_if : Bool → List ℕ → Data → Members → Members
 member_if asked key value others = cond asked (member key value others) others
 

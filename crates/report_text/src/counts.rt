@@ -190,7 +190,7 @@ fn push_tail(out: &mut Text, block: Option<&BlockResult>) -> Result<(), NoMemory
 
 /// The summary of the load of a number, by the results of its blocks: the number, how many blocks there are, how many of their
 /// transactions committed and how many were aborted for each kind of cause, the digest of the last block, and `done`. The only error is
-/// want of memory.
+/// out of memory.
 pub fn summary(alloc: Global, number: u64, blocks: &List<BlockResult>) -> Result<List<u8>, NoMemory>
     ensures { IfOk result (λ bytes. bytes ≡ summary_text number blocks.now) }
 {

@@ -45,7 +45,7 @@ pub fn push_end(out: &mut Text, stop: Option<&ChainFault>) -> Result<(), NoMemor
     }
 }
 
-/// The line `stopped LINE KIND`, for an answer that has no report. The only error is want of memory.
+/// The line `stopped LINE KIND`, for an answer that has no report. The only error is out of memory.
 pub fn stopped_line(alloc: Global, fault: &ChainFault) -> Result<List<u8>, NoMemory>
     ensures { IfOk result (λ bytes. bytes ≡ stopped_line fault.now) }
 {

@@ -10,7 +10,7 @@ use node_model::{Entry, Event, NodeResult};
 use proc_syntax::Tx;
 use rel_base::NoMemory;
 
-/// The word of a change, and a number behind it.
+/// The word of a change, and a number after it.
 fn push_numbered(out: &mut Text, word: &str, number: u64) -> Result<(), NoMemory>
     ensures { OnOk result (out.new ≡ out.old ++ (word.now ++ decimal number)) }
 {

@@ -1,7 +1,7 @@
 //! What a report shows.
 
-/// The form of a report, and what it shows only where it is asked for. The lines of a block stand behind its transactions, in the order
-/// of these fields; the journals stand behind the report.
+/// The form of a report, and what it shows only where it is asked for. The lines of a block stand after its transactions, in the order
+/// of these fields; the journals stand after the report.
 #[derive(Clone, Copy, Debug, PartialEq, Eq)]
 pub struct Look {
     /// The line `order`, and in it, each after a space, the positions of the block's committed transactions, from 1, in their
@@ -11,6 +11,6 @@ pub struct Look {
     pub digests: bool,
     /// One line of JSON in place of the lines of text, but for the journals.
     pub json: bool,
-    /// For each node the line `journal` with its number, and behind it a line for each entry of its journal: the actor and what it did.
+    /// For each node the line `journal` with its number, and after it a line for each entry of its journal: the actor and what it did.
     pub trace: bool,
 }

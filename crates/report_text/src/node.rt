@@ -100,11 +100,11 @@ fn report_lines(
 
 /// The report of the nodes. As text it has for each node in turn its blocks with the outcome of every transaction and the lines that
 /// the look asks for, its tables with their rows, and its height; after the last node the line `done`, or `stopped LINE KIND` where the
-/// block file stopped at a fault. As JSON it is one line that says the same. Behind either stand the journals, if the look asks for them.
+/// block file stopped at a fault. As JSON it is one line that says the same. After either stand the journals, if the look asks for them.
 /// Every line ends with a newline.
 ///
 /// A table is shown by its name in the declarations; a number that none of them has is shown as an empty name. The only
-/// error is want of memory.
+/// error is out of memory.
 pub fn report(
     alloc: Global,
     tables: &List<TableDef>,

@@ -34,7 +34,7 @@ table_fits defs def table history declared fits =
     All-weaker (λ (s : Stamped). IsSomeAnd (slice_get defs s.1.write.table) (λ d. WriteFits d s.1.write)) (λ s. s.1.write.table ≡ table → WriteFits def s.1.write)
     (λ s fit same. subst (λ found. IsSomeAnd found (λ d. WriteFits d s.1.write)) (ap (slice_get defs) same ∙ declared) fit) history fits
 
--- a history that fits, and writes that fit behind it
+-- a history that fits, and writes that fit after it
 pub fits_next : (defs : List TableDef) (place : Place) (history : List Stamped) (writes : List Write) → HistoryFits defs history → All (WriteFitsIn defs) writes → HistoryFits defs (history ++ stamped_at place writes)
 fits_next defs place history writes fits more =
     let Fit : Stamped → Type 0 = λ stamped. WriteFitsIn defs stamped.1.write in

@@ -47,7 +47,7 @@ pick_back (pick.Nth place) low =
     ∙ ap (option_map (λ place. pick.Nth place)) (number_back place low)
 pick_back pick.Due low = refl
 
--- what is read behind the actor
+-- what is read after the actor
 abbrev picks : List ℕ → ℕ → Option Step
 picks bytes actor = option_map (λ picked. step.Claim actor picked) (option_and_then pick_of (after (codes " ") (past_word bytes)))
 

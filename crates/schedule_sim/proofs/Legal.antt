@@ -160,7 +160,7 @@ module _ (app : App) (w : World) where
     by None is e = refl
     by (Some work) is e = absurd (none-some event e)
 
--- ---- the fronts of a list
+-- ---- the prefixes of a list
 
 next_front : (front rest : List Block) (block : Block) → slice_get (front ++ rest) (length front) ≡ Some block → IsPrefix (front ++ block ∷ []) (front ++ rest)
 next_front [] [] block here = absurd (none-some block here)

@@ -25,7 +25,7 @@ stops fault.NoMemory n rest line after some meant so_far split told = tt
 stops (fault.BadLine wrong) n rest line after some meant so_far split told =
     sym so_far ∙ ap whole (read_fault schedule_form n rest line after some split told.0) ∙ ap (λ k. Err k) (sym told.1)
 
--- the lines behind the header
+-- the lines after the header
 pub behind_header : (text header rest : List ℕ) → parts_of text ≡ header ∷ parts_of rest → header ≡ codes "schedule 1" → whole (reads 2 rest) ≡ schedule_of text
 behind_header text header rest split same =
     sym (ap (λ parts. whole (walk schedule_form 1 parts)) split

@@ -1,4 +1,4 @@
--- What is told of a schedule that seals all blocks.
+-- What is reported of a schedule that seals all blocks.
 use Rattle.std.proofs.Common.{Bool, Err, List, Ok, Result, [], ap, cond, false, length, refl, subst, sym, true, ◌==◌, ◌∙◌, ◌≡◌, ℕ}
 use Rattle.std.proofs.lemmas.Bool.{eqb-true, false≢true}
 use Rattle.node_core.specs.Core.{Core, world_of}
@@ -37,7 +37,7 @@ pub short_told : (core : Core) (blocks : List Block) (sealed : ℕ) → (length 
 short_told core blocks sealed not_all is =
     ap (λ b. cond {A = Result NodeResult ℕ} b (Ok (result_told core.app (state_of core))) (Err (length (world_of core).sealed))) not_all ∙ ap (λ n. Err n) (sym is)
 
--- ---- what follows from what is told
+-- ---- what follows from what is reported
 
 abbrev is_told : Result NodeResult ℕ → Bool
 is_told (Ok made) = true

@@ -64,7 +64,7 @@ pick_if bytes false e = nth_said bytes (number_of bytes) (number_said bytes)
 pick_said : (bytes : List ℕ) → Says pick_text IsPick bytes (pick_of bytes)
 pick_said bytes = pick_if bytes (bytes_eq bytes (codes "due")) refl
 
--- a word, and what stands behind the space
+-- a word, and what stands after the space
 split : (bytes rest : List ℕ) → past_word bytes ≡ 32 ∷ rest → bytes ≡ word bytes ++ (32 ∷ rest)
 split bytes rest e = sym (take-append-drop (position_or_len is_space bytes) bytes) ∙ ap (λ back. word bytes ++ back) e
 

@@ -13,7 +13,7 @@ use Rattle.std.specs.Prelude.{List, None, Option, Some, length, slice_get, true,
 abbrev pub hand_of : List (Option InHand) → ℕ → Option InHand
 hand_of hands actor = option_and_then (λ hand. hand) (slice_get hands actor)
 
--- the last read of a work found its id settled: it wants that read still, and would be told so again
+-- the last read of a work found its id settled: it wants that read still, and would get that answer again
 pub record WasGone (node : Core) (work : InHand) : Type 0 where
   pub settled : is_settled work.told.tx.id (world_of node).sealed ≡ true
   pub may : MayAsk node work.actor (ToRead work.job)

@@ -73,7 +73,7 @@ to_finish app w actor = option_and_then (λ number. cond (is_at_end app w (job_a
 abbrev pub to_release : World → ℕ → Option Ask
 to_release w actor = option_map ToRelease (held_by actor w)
 
--- the block behind the sealed ones; where that is in work already, its delivery changes nothing
+-- the block after the sealed ones; where that is in work already, its delivery changes nothing
 abbrev pub to_deliver : List Block → World → Option Ask
 to_deliver blocks w = option_map (λ block. ToDeliver (shared block)) (slice_get blocks (length w.sealed))
 
@@ -105,7 +105,7 @@ after_lines given w (line ∷ lines) = after_lines given (after_line given w lin
 abbrev pub scheduled : Given → List Step → World
 scheduled given lines = after_lines given empty lines
 
--- ---- what is told of it
+-- ---- what is reported of it
 
 -- the results of the sealed blocks, the tables after the last of them, and the journal
 abbrev pub result_told : App → World → NodeResult

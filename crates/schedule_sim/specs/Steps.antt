@@ -25,12 +25,12 @@ actor_of bytes = option_and_then as_actor (number_of bytes)
 abbrev pub pick_of : List ℕ → Option Pick
 pick_of bytes = cond (bytes_eq bytes (codes "due")) (Some pick.Due) (option_map (λ place. pick.Nth place) (number_of bytes))
 
--- an actor, and behind a space what it claims
+-- an actor, and after a space what it claims
 abbrev pub claim_of : List ℕ → Option Step
 claim_of bytes =
     option_and_then (λ actor. option_map (λ picked. step.Claim actor picked) (option_and_then pick_of (after (codes " ") (past_word bytes)))) (actor_of (word bytes))
 
--- a step with arguments, by its word and what stands behind the space
+-- a step with arguments, by its word and what stands after the space
 abbrev pub step_with : List ℕ → List ℕ → Option Step
 step_with name rest =
     cond (bytes_eq name (codes "arrive")) (option_map (λ number. step.Arrive number) (number_of rest))

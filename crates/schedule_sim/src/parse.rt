@@ -36,7 +36,7 @@ impl From<NoMemory> for ScheduleFault {
 /// The number of steps that a schedule may have.
 pub const MOST_STEPS: u64 = 1_000_000;
 
-/// The step of a line behind the first.
+/// The step of a line after the first.
 fn take_step(line: u64, text: &[u8]) -> Result<Step, ScheduleFault>
     requires { 1 < line }
     ensures taken { GivesStep result line (items_at schedule_form line text.now) }

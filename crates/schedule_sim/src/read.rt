@@ -53,7 +53,7 @@ fn claim_of(bytes: &[u8]) -> Option<Step>
     Some(Step::Claim { actor, pick })
 }
 
-/// A step with arguments, by its word and what stands behind the space.
+/// A step with arguments, by its word and what stands after the space.
 fn step_with(name: &[u8], rest: &[u8]) -> Option<Step>
     ensures { result ≡ step_with name.now rest.now }
 {

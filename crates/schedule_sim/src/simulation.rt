@@ -57,7 +57,7 @@ fn arrival(arrivals: &[Tx], number: u64) -> Option<&Tx>
     }
 }
 
-/// The block behind so many.
+/// The block after so many.
 fn block_behind(blocks: &[Block], sealed: u64) -> Option<&Block>
     ensures { option_copied result ≡ slice_get blocks.now sealed }
 {
@@ -100,7 +100,7 @@ impl<V: Versions> SimulatedNode<V> {
         }
     }
 
-    // The block behind the sealed ones is delivered.
+    // The block after the sealed ones is delivered.
     fn deliver(&mut self, blocks: &[Block]) -> Result<(), NoMemory>
         requires hands { AreInHands self.old.node self.old.hands }
         ensures takes { OnOk result (Takes self.old.node 0 (to_deliver blocks.now (state_of self.old.node)) self.new.node) }

@@ -42,7 +42,7 @@ meet_push tables before [] next meet safe = (subst (λ l. danger tables l next.r
 meet_push tables before (first ∷ rest) next meet safe =
     (meet.0, meet_push tables (before ++ first ∷ []) rest next meet.1 (subst (λ l. danger tables l next.reads next.writes ≡ None) (sym (append_assoc before (first ∷ []) rest)) safe))
 
--- the transaction behind some stands at the position after them
+-- the transaction after some stands at the position after them
 next_at : (front rest : List Tx) (tx : Tx) → tx_at (front ++ tx ∷ rest) (length front + 1) ≡ Some tx
 next_at front rest tx = subst (λ pos. tx_at (front ++ tx ∷ rest) pos ≡ Some tx) next (at_length front)
   where

@@ -1,4 +1,4 @@
--- The results that are told of a chain, and the orders in them.
+-- The results that are reported of a chain, and the orders in them.
 use Rattle.std.proofs.Common.{List, None, Some, [], ap, append_assoc, arith, length, map, refl, subst, suc, sym, zero, ◌++◌, ◌+◌, ◌∙◌, ◌≡◌, ◌∷◌, ℕ}
 use Rattle.node_model.specs.Edges.{edge}
 use Rattle.node_model.specs.Fold.{block_result, fold, fold_from, no_digest, results_from, results_of, seal}
@@ -54,7 +54,7 @@ fold_length app chain (block ∷ rest) =
     let one = length-append chain (seal app chain block ∷ []) in
     omega (arith, rest_is, one)
 
--- the result that is told of a block has its serial order
+-- the result that is reported of a block has its serial order
 told_at : (tables : List TableDef) (previous : List ℕ) (before : List SealedBlock) (block : SealedBlock) (after : List SealedBlock)
     → IsSomeAnd (slice_get (results_from tables previous (before ++ block ∷ after)) (length before)) (λ told. told.order ≡ serial_order tables block.committed)
 told_at tables previous [] block after = refl
@@ -71,7 +71,7 @@ numbered_at number (first ∷ before) block after are =
     let next = rest.1 in
     ((are.0, rest.0), omega (arith, next))
 
--- the result that is told of the next block, whatever is told behind it
+-- the result that is reported of the next block, whatever is reported after it
 pub runs_at : (app : App) (blocks : List Block) (block : Block) (more : List SealedBlock) → IsNext blocks block
     → IsSomeAnd (slice_get (results_of (tables_of app) (fold app blocks ++ seal app (fold app blocks) block ∷ more)) (length blocks)) (λ told. RunInOrder app blocks block told.order)
 runs_at app blocks block more next =

@@ -26,7 +26,7 @@ pub record RunInOrder (app : App) (blocks : List Block) (block : Block) (positio
   pub recorded : All (λ done. IsRecorded (committed_run app (fold app blocks) block done) done) (seal app (fold app blocks) block).committed
   pub good : first_fault app ≡ None → All (λ done. (committed_run app (fold app blocks) block done).ending ≡ Good) (seal app (fold app blocks) block).committed
 
--- the results that are told of a chain of blocks have, for each block, an order in which its committed transactions run again
+-- the results that are reported of a chain of blocks have, for each block, an order in which its committed transactions run again
 abbrev pub EachInOrder : App → List Block → List BlockResult → Type 0
 EachInOrder app blocks results = (before : List Block) (block : Block) (after : List Block) → blocks ≡ before ++ block ∷ after
     → IsSomeAnd (slice_get results (length before)) (λ told. RunInOrder app before block told.order)

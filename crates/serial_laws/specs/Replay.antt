@@ -30,7 +30,7 @@ run_on app chain tables (Some tx) = run app tx (time_at tx.height chain) tables
 abbrev pub stamps : ℕ → ℕ → List Write → List Stamped
 stamps number pos writes = map (λ write. (number, record { pos = pos; write = write })) writes
 
--- one run more in front
+-- one run more before
 abbrev pub after_run : Ran → Replayed → Replayed
 after_run ran rest = record { runs = ran ∷ rest.runs; tables = rest.tables }
 

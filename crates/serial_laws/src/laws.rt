@@ -78,7 +78,7 @@ pub fn the_order_runs()
     ensures { TheOrderRuns }
 {}
 
-/// So of each block of a chain the results that are told have an order in which its committed transactions run again.
+/// So of each block of a chain the results that are reported have an order in which its committed transactions run again.
 pub fn results_run()
     ensures { ResultsRun }
 {}

@@ -153,7 +153,7 @@ module _ {Base Entry : Type 0} (actor : Entry → ℕ) where
   count_snoc [] new = omega arith
   count_snoc (x ∷ xs) new = let r = count_snoc xs new in omega arith
 
-  -- a pass that was told nothing has the whole story, where it has it, as what it has seen
+  -- a pass that was given nothing has the whole story, where it has it, as what it has seen
   pub has_whole : (story : List Entry) (view : View Base Entry) → view.told ≡ [] → IsPrefix view.seen story → ((view.seen ≡ story) ⊎ (view.told ≡ story)) → view.seen ≡ story
   has_whole story view untold front = ⊎_elim (λ (e : view.seen ≡ story). e) (λ (e : view.told ≡ story). let nil : story ≡ [] = sym e ∙ untold in prefix_of_nil view.seen (subst (IsPrefix view.seen) nil front) ∙ sym nil)
 

@@ -34,7 +34,7 @@ pub record Lives {Base Entry : Type 0} (actor : Entry → ℕ) (base : Base) (st
   pub all_mine : entries_of actor number story ≡ view.mine
   pub all_seen : entries_of actor number view.seen ≡ view.mine
 
--- what holds of each pass: what it has seen, and what it was told, are beginnings of the story
+-- what holds of each pass: what it has seen, and what it was given, are beginnings of the story
 pub record Fits {Base Entry : Type 0} (actor : Entry → ℕ) (base : Base) (story : List Entry) (stage : Stage) (holder number : ℕ) (view : View Base Entry) : Type 0 where
   pub turn : KnowsTurn story stage holder number view view.stage
   pub front : IsPrefix view.seen story
@@ -49,7 +49,7 @@ module _ {Base Entry : Type 0} (holder : ℕ) (views : List (View Base Entry)) w
   HasHolder Ready = (view : View Base Entry) × (get_elem? views holder ≡ some view) × (view.stage ≡ Ready)
   HasHolder Out = (view : View Base Entry) × (get_elem? views holder ≡ some view) × (view.stage ≡ Out)
 
--- some pass that was not joined has seen the whole story, or was told it by a pass that it has just joined
+-- some pass that was not joined has seen the whole story, or was given it by a pass that it has just joined
 pub record Whole {Base Entry : Type 0} (story : List Entry) (views : List (View Base Entry)) : Type 0 where
   pub place : ℕ
   pub view : View Base Entry

@@ -47,7 +47,7 @@ pub record Leaving {Value Base Entry : Type 0} (before after : Knows Value Base 
 abbrev pub Marking : {Value Base Entry : Type 0} → Knows Value Base Entry → Knows Value Base Entry → Type 0
 Marking before after = after ≡ before
 
--- kind 6: the pass has seen the whole story, which continues what it had seen and was told, and in which its own entries are those that it made
+-- kind 6: the pass has seen the whole story, which continues what it had seen and was given, and in which its own entries are those that it made
 pub record ReadingLength {Value Base Entry : Type 0} (actor : Entry → ℕ) (before : Knows Value Base Entry) (found : ℕ) (after : Knows Value Base Entry) : Type 0 where
   pub story : List Entry
   pub slots : after.1 ≡ before.1

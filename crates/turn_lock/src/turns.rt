@@ -74,7 +74,7 @@ impl<S: Storied> TurnLock<S> {
         Ok((TurnLock { table }, pass))
     }
 
-    // Looks until the turn is free, at most as often as it is told: how many looks are left. Another pass may have the turn
+    // Looks until the turn is free, at most as often as it is given: how many looks are left. Another pass may have the turn
     // by then, so it promises nothing.
     fn look_out(&self, looks: u32) -> u32 {
         for left in (0..looks).rev() {

@@ -25,7 +25,7 @@ use Rattle.tx_text.specs.Fields.{is_space, after, word, past_word, id_at, name_a
 use Rattle.tx_text.specs.Values.{plain_int, minus_int, int_of, minus, value_at, value_of, alone, value_text, IsValue}
 use Rattle.tx_text.specs.Lines.{first_and_more, args_within, args_of, call_of, height_and_call, tx_form, tx_of, arg_text, tx_text, IsTx}
 
--- a front that is there
+-- a prefix that is there
 pub front_digit : (ds : List ℕ) → 0 < length ds → all_ascii_digits ds ≡ true → (d : ℕ) × (rest : List ℕ) × (ds ≡ d ∷ rest) × (is_ascii_digit d ≡ true)
 front_digit [] some all = absurd (omega (arith, some))
 front_digit (d ∷ ds) some all = (d, ds, refl, (and_parts (is_ascii_digit d) (all_ascii_digits ds) all).0)

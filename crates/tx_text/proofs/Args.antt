@@ -35,7 +35,7 @@ args_step front (b ∷ bs) v rest found =
     ∙ ap (λ values. option_map (λ values. v ∷ values) values) (args_bounds (length bs) (length rest) rest (omega (arith, shorter)) (omega arith)) in
     with_one front v (args_of rest) ∙ ap (with_args front) (sym whole)
 
--- where no argument stands in front of some bytes, these are none
+-- where no argument stands before some bytes, these are none
 pub args_none : (b : ℕ) (bs : List ℕ) → arg_at (b ∷ bs) ≡ None → args_of (b ∷ bs) ≡ None
 args_none b bs found = args_cons b bs ∙ ap (λ one. first_and_more one (args_within (length bs))) found
 

@@ -1,4 +1,4 @@
--- A piece of an arrival file behind others.
+-- A piece of an arrival file after others.
 use Rattle.std.proofs.Common.{◌≡◌, ◌≤◌, ◌<◌, ◌+◌, ℕ, List, [], ◌∷◌, ◌++◌, Bool, true, false, cond, Option, Some, None, length, take, drop, get_or, append_assoc, refl, sym, ◌∙◌, ap, subst, arith}
 use Rattle.std.specs.Prelude.{Result, Ok, Err, nat_lt}
 use Rattle.std.specs.List.{flat_map}
@@ -58,7 +58,7 @@ few_held s line held bytes is keeps =
 
 -- ---- a whole file in pieces
 
--- the pieces before one, that piece, and those behind it
+-- the pieces before one, that piece, and those after it
 pub seam : (pieces : List (List ℕ)) (i : ℕ) (piece : List ℕ) → i < length pieces → get_or pieces i piece ≡ piece
     → flat_map (λ piece. piece) pieces ≡ (flat_map (λ piece. piece) (take i pieces) ++ piece) ++ flat_map (λ piece. piece) (drop (i + 1) pieces)
 seam pieces i piece within here =

@@ -23,7 +23,7 @@ module _ {A : Type 0} (form : Form A) where
   with_both some more (Err line) = refl
   with_both some more (Ok far) = ap (λ items. Ok (record { line = far.line; items = items; rest = far.rest })) (sym (append_assoc some more far.items))
 
-  -- what is meant goes on behind what was walked
+  -- what is meant goes on after what was walked
   abbrev goes_on : Result (Far A) ℕ → List (List ℕ) → Result (Far A) ℕ
   goes_on (Err line) more = Err line
   goes_on (Ok far) more = with_items far.items (walk form far.line (onto far.rest more))
@@ -61,14 +61,14 @@ module _ {A : Type 0} (form : Form A) where
   pub far_on : (bytes more : List ℕ) (far : Far A) → walked form bytes ≡ Ok far → walked form (bytes ++ more) ≡ with_items far.items (walk form far.line (onto far.rest (parts_of more)))
   far_on bytes more far e = walked_on bytes more ∙ ap (λ read. goes_on read (parts_of more)) e
 
-  -- and behind a fault they change nothing
+  -- and after a fault they change nothing
   pub fault_stays : (bytes more : List ℕ) (line : ℕ) → walked form bytes ≡ Err line → walked form (bytes ++ more) ≡ Err line
   fault_stays bytes more line e = walked_on bytes more ∙ ap (λ read. goes_on read (parts_of more)) e
 
   pub fault_lasts : (bytes more : List ℕ) (line : ℕ) → walked form bytes ≡ Err line → listed form (bytes ++ more) ≡ Err line
   fault_lasts bytes more line e = ap whole (fault_stays bytes more line e)
 
-  -- a line and the lines behind it
+  -- a line and the lines after it
   walk_split : (n : ℕ) (rest line after : List ℕ) → parts_of rest ≡ line ∷ parts_of after → walk form n (parts_of rest) ≡ onward n (items_at form n line) (walk form (n + 1) (parts_of after))
   walk_split n rest line after split = ap (walk form n) split ∙ walk_line n line (parts_of after) (parts_some after)
 

@@ -11,7 +11,7 @@ use Rattle.tx_text.specs.Listing.{Form, Far, no_item, one_item, items_at, with_i
 use Rattle.tx_text.proofs.Listed.{fault_lasts}
 
 module _ {A : Type 0} (form : Form A) where
-  -- a line that is taken is short, and is not behind the last
+  -- a line that is taken is short, and is not after the last
   abbrev IsTaken : ℕ → List ℕ → Option (List A) → Type 0
   IsTaken n line None = Unit {0}
   IsTaken n line (Some items) = (length line ≤ 4096) × (n ≤ 1000001)

@@ -1,4 +1,4 @@
--- What follows a value is no longer than the bytes that it stands in front of, so any bound on the number of arguments from there on serves.
+-- What follows a value is no longer than the bytes that it stands before, so any bound on the number of arguments from there on serves.
 use Rattle.std.proofs.Common.{◌≡◌, ◌≤◌, ℕ, zero, suc, List, [], ◌∷◌, Bool, true, false, cond, Option, Some, None, length, drop, take, refl, ap, sym, ◌∙◌, arith, length-drop}
 use Rattle.std.specs.Prelude.{ℤ, ◌==◌, ◌||◌, codes}
 use Rattle.std.specs.Option.{option_and_then, option_map, option_or}

@@ -64,7 +64,7 @@ int_takes : (bs : List ℕ) → Spelled signed_decimal bs (int_at bs)
 int_takes [] = tt
 int_takes (b ∷ bs) = int_begins b bs (b == minus) refl
 
--- what follows some bytes that stand in front
+-- what follows some bytes that stand first
 abbrev pub IsInFront : List ℕ → List ℕ → Option (List ℕ) → Type 0
 IsInFront front bytes None = Unit {0}
 IsInFront front bytes (Some rest) = bytes ≡ front ++ rest

@@ -28,7 +28,7 @@ HoldsOn (Ok _) line old new piece = (new ≡ old ++ piece) × (is_long (old ++ p
 HoldsOn (Err fault.NoMemory) line old new piece = Unit {0}
 HoldsOn (Err (fault.Bad wrong)) line old new piece = (wrong ≡ line) × (is_long (old ++ piece) ≡ true)
 
--- what the reader keeps behind bytes: how far they go, but for their transactions; or their fault
+-- what the reader keeps after bytes: how far they go, but for their transactions; or their fault
 abbrev pub KeepsArrivals : State → Result (Far Tx) ℕ → Type 0
 KeepsArrivals (state.Open line held) meant = (txs : List Tx) × (meant ≡ Ok (record { line = line; items = txs; rest = held }))
 KeepsArrivals (state.Stopped line) meant = meant ≡ Err line
@@ -51,7 +51,7 @@ abbrev pub so_far : Result (Far Tx) ℕ → List Tx
 so_far (Err line) = []
 so_far (Ok far) = far.items
 
--- a piece behind bytes gives the transactions of the lines that end in it, where no line has a fault yet, and else the first that has
+-- a piece after bytes gives the transactions of the lines that end in it, where no line has a fault yet, and else the first that has
 abbrev pub Answers : List ℕ → List ℕ → Result (List Tx) ArrivalFault → Type 0
 Answers bytes piece (Ok txs) = IsOk (arrived (bytes ++ piece)) × (so_far (arrived (bytes ++ piece)) ≡ so_far (arrived bytes) ++ txs)
 Answers bytes piece (Err fault.NoMemory) = Unit {0}
@@ -68,7 +68,7 @@ abbrev pub EndsAs : Result (Unit {0}) ℕ → Result (List Tx) ℕ → Type 0
 EndsAs (Ok _) meant = IsOk meant
 EndsAs (Err line) meant = meant ≡ Err line
 
--- how many bytes stand behind the last newline, where no fault was met before
+-- how many bytes stand after the last newline, where no fault was met before
 abbrev pub open_length : Result (Far Tx) ℕ → ℕ
 open_length (Err line) = 0
 open_length (Ok far) = length far.rest

@@ -11,7 +11,7 @@ use Rattle.rel_base.specs.Text.{has_id_form, has_name_form}
 abbrev pub is_space : ℕ → Bool
 is_space b = b == 32
 
--- what follows some bytes, where these stand in front
+-- what follows some bytes, where these stand first
 abbrev pub after : List ℕ → List ℕ → Option (List ℕ)
 after front bytes = cond (bytes_eq (take (length front) bytes) front) (Some (drop (length front) bytes)) None
 

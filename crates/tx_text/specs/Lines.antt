@@ -9,7 +9,7 @@ use Rattle.literals.specs.Number.{u64_at}
 use Rattle.tx_text.specs.Fields.{is_space, after, id_at, name_at}
 use Rattle.tx_text.specs.Values.{value_at, value_text, IsValue}
 
--- the argument at the front of the bytes, after a space
+-- the argument at the start of the bytes, after a space
 abbrev pub arg_at : List ℕ → Option (Value × List ℕ)
 arg_at [] = None
 arg_at (b ∷ bs) = cond (is_space b) (value_at bs) None

@@ -42,7 +42,7 @@ onward number (Some items) more = with_items items more
 abbrev pub ending : {A : Type 0} → ℕ → List ℕ → Result (Far A) ℕ
 ending number rest = cond (is_long rest) (Err number) (Ok (record { line = number; items = []; rest = rest }))
 
--- the lines from one of this number on, and the bytes behind the last newline: how far they go, or the number of the first line with a fault
+-- the lines from one of this number on, and the bytes after the last newline: how far they go, or the number of the first line with a fault
 abbrev pub walk : {A : Type 0} → Form A → ℕ → List (List ℕ) → Result (Far A) ℕ
 walk form number [] = ending number []
 walk form number (rest ∷ []) = ending number rest

@@ -40,7 +40,7 @@ flag b rest = (b, rest)
 abbrev pub bool_at : List ℕ → Option (Bool × List ℕ)
 bool_at bytes = option_or (option_map (flag true) (after (codes "true") bytes)) (option_map (flag false) (after (codes "false") bytes))
 
--- the value at the front of the bytes, and what follows it; the first byte says its kind
+-- the value at the start of the bytes, and what follows it; the first byte says its kind
 abbrev pub value_at : List ℕ → Option (Value × List ℕ)
 value_at [] = None
 value_at (b ∷ bs) =

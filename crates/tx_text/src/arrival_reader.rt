@@ -15,7 +15,7 @@ use proc_syntax::Tx;
 use rel_base::List;
 use std::alloc::Global;
 
-/// What is known behind bytes: the number of the line in which they end, from 1, and the bytes of that line; or the line of the
+/// What is known after bytes: the number of the line in which they end, from 1, and the bytes of that line; or the line of the
 /// first fault.
 #[derive(Drop)]
 enum State {
@@ -83,7 +83,7 @@ impl ArrivalReader {
         }
     }
 
-    /// How many bytes stand behind the last newline, which the reader keeps: at most 4,096, and none behind a fault.
+    /// How many bytes stand after the last newline, which the reader keeps: at most 4,096, and none after a fault.
     pub fn held(&self) -> usize
         ensures held { (bytes : List ℕ) → WasFed self.now bytes → result ≡ open_length (arrived bytes) }
         ensures most { (bytes : List ℕ) → WasFed self.now bytes → result ≤ 4096 }
@@ -98,7 +98,7 @@ impl ArrivalReader {
     /// Takes the next piece of the file, and answers the transactions of the lines that end in it, in order.
     ///
     /// `Bad` names the first line that has a fault. It comes with the piece in which that line's newline stands, or the
-    /// 4,097th byte of a line that is too long; and with each piece behind a fault. Where memory runs out, the reader is as
+    /// 4,097th byte of a line that is too long; and with each piece after a fault. Where memory runs out, the reader is as
     /// before.
     pub fn feed(&mut self, piece: &[u8]) -> Result<List<Tx>, ArrivalFault>
         ensures follows { (bytes : List ℕ) → WasFed self.old bytes → FollowsOn self.new (bytes ++ piece.now) result }
@@ -120,7 +120,7 @@ impl ArrivalReader {
         }
     }
 
-    /// Ends the file: nothing where the bytes so far are a whole file, and else the first line with a fault. Behind a fault a
+    /// Ends the file: nothing where the bytes so far are a whole file, and else the first line with a fault. After a fault a
     /// reader answers that line alone.
     pub fn end(&mut self) -> Result<(), u64>
         ensures whole { (bytes : List ℕ) → WasFed self.old bytes → EndsAs result (arrivals bytes) }

@@ -56,7 +56,7 @@ fn take_header(text: &[u8]) -> Result<Option<Tx>, ArrivalFault>
     Ok(None)
 }
 
-/// A line behind the first.
+/// A line after the first.
 fn take_tx(alloc: Global, line: u64, text: &[u8]) -> Result<Option<Tx>, ArrivalFault>
     ensures taken { GivesLine result line (one_item arrivals_form line text.now) }
     ensures low { OnOk result (line ≤ 1000001) }
@@ -112,7 +112,7 @@ fn take_rest(
     Ok(ReadArrivals { txs, line, held })
 }
 
-/// Reads lines behind those of some transactions, the first by its number.
+/// Reads lines after those of some transactions, the first by its number.
 fn read_lines(
     alloc: Global,
     before: List<Tx>,
@@ -133,7 +133,7 @@ fn read_lines(
     take_rest(alloc, txs, line, rest)
 }
 
-/// Reads the end of a line that began with the bytes held, and the lines behind it.
+/// Reads the end of a line that began with the bytes held, and the lines after it.
 pub fn read_on(
     alloc: Global,
     line: u64,

@@ -11,7 +11,7 @@ use literals::LiteralFault;
 use rel_base::{Id, Name, NameFault};
 use std::alloc::Global;
 
-/// What follows some bytes, where these stand in front.
+/// What follows some bytes, where these stand first.
 pub fn strip<'a>(front: &[u8], bytes: &'a [u8]) -> Option<&'a [u8]>
     ensures { found_text result ≡ after front.now bytes.now }
 {

@@ -12,7 +12,7 @@ pub fn copy_of(alloc: Global, bytes: &[u8]) -> Result<List<u8>, NoMemory>
     Ok(List::from_vec(Vec::from_slice(alloc, bytes)?))
 }
 
-/// Bytes behind others.
+/// Bytes after others.
 pub fn joined(alloc: Global, front: &[u8], back: &[u8]) -> Result<Vec<u8>, NoMemory>
     ensures { IfOk result (λ both. both.items ≡ front.now ++ back.now) }
 {

@@ -38,7 +38,7 @@ pub fn arrivals_are_bounded()
     ensures { ArrivalsAreBounded }
 {}
 
-/// Behind a fault, but that the bytes end too early, no more bytes change what an arrival file gives.
+/// After a fault, but that the bytes end too early, no more bytes change what an arrival file gives.
 pub fn arrival_faults_last()
     ensures { ArrivalFaultsLast }
 {}

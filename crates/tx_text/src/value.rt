@@ -17,7 +17,7 @@ use literals::{LiteralFault, push_bytes, push_int, push_text, read_bytes, read_n
 use rel_base::{Blob, List, NoMemory, Str, Value};
 use std::alloc::Global;
 
-/// Reads the number below 2^64 at the front of the bytes.
+/// Reads the number below 2^64 at the start of the bytes.
 pub fn read_u64(bytes: &[u8]) -> Result<(u64, &[u8]), LiteralFault>
     ensures number { Reads result (u64_at bytes.now) }
     ensures judged { IsErrOf result LiteralFault.NoMemory → ⊥ }
@@ -66,7 +66,7 @@ fn read_plain(bytes: &[u8]) -> Result<(i64, &[u8]), LiteralFault>
     Ok((int, rest))
 }
 
-/// Reads the int at the front of the bytes.
+/// Reads the int at the start of the bytes.
 fn read_int(bytes: &[u8]) -> Result<(i64, &[u8]), LiteralFault>
     ensures { Reads result (int_at bytes.now) }
 {
@@ -88,7 +88,7 @@ fn read_bool(bytes: &[u8]) -> Result<(bool, &[u8]), LiteralFault>
     }
 }
 
-/// Reads the text in quotes at the front of the bytes.
+/// Reads the text in quotes at the start of the bytes.
 fn text_value(alloc: Global, bytes: &[u8]) -> Result<(Value, &[u8]), LiteralFault>
     ensures { Reads result (as_kind kinds.Text (text_at bytes.now)) }
 {
@@ -96,7 +96,7 @@ fn text_value(alloc: Global, bytes: &[u8]) -> Result<(Value, &[u8]), LiteralFaul
     Ok((Value::Text(text), rest))
 }
 
-/// Reads the byte string at the front of the bytes.
+/// Reads the byte string at the start of the bytes.
 fn bytes_value(alloc: Global, bytes: &[u8]) -> Result<(Value, &[u8]), LiteralFault>
     ensures { Reads result (as_kind kinds.Bytes (bytes_at bytes.now)) }
 {
@@ -104,7 +104,7 @@ fn bytes_value(alloc: Global, bytes: &[u8]) -> Result<(Value, &[u8]), LiteralFau
     Ok((Value::Bytes(blob), rest))
 }
 
-/// Reads the bool at the front of the bytes.
+/// Reads the bool at the start of the bytes.
 fn bool_value(bytes: &[u8]) -> Result<(Value, &[u8]), LiteralFault>
     ensures { Reads result (as_kind kinds.Bool (bool_at bytes.now)) }
 {
@@ -112,7 +112,7 @@ fn bool_value(bytes: &[u8]) -> Result<(Value, &[u8]), LiteralFault>
     Ok((Value::Bool(flag), rest))
 }
 
-/// Reads the int at the front of the bytes.
+/// Reads the int at the start of the bytes.
 fn int_value(bytes: &[u8]) -> Result<(Value, &[u8]), LiteralFault>
     ensures { Reads result (as_kind kinds.Int (int_at bytes.now)) }
 {
@@ -120,7 +120,7 @@ fn int_value(bytes: &[u8]) -> Result<(Value, &[u8]), LiteralFault>
     Ok((Value::Int(int), rest))
 }
 
-/// Reads the value at the front of the bytes, and answers what follows it too.
+/// Reads the value at the start of the bytes, and answers what follows it too.
 pub fn value_in_front(alloc: Global, bytes: &[u8]) -> Result<(Value, &[u8]), LiteralFault>
     ensures { Reads result (value_at bytes.now) }
 {

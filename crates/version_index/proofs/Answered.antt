@@ -115,7 +115,7 @@ least_of_read defs def read after upto history found declared ordered first =
     agree : (s : Stamped) → is_hit_between def read after upto s ≡ (hits_in defs read s.1.write && (nat_lt after s.0 && nat_le s.0 upto))
     agree s = ap (λ b. b && (nat_lt after s.0 && nat_le s.0 upto)) (sym (ap (λ found. where_declared found (λ d. hits_write d read s.1.write)) declared))
 
--- what is told of a write is what the definition says
+-- what is reported of a write is what the definition says
 told_by : (defs : List TableDef) (def : TableDef) (read : Read) (stamped : Stamped) → slice_get defs (read_table read) ≡ Some def → hit_told def read stamped ≡ hit_by defs read stamped
 told_by defs def read stamped declared =
     ap (λ found. record { place = record { block = stamped.0; pos = stamped.1.pos }; key = stamped.1.write.key; stale = where_declared found (λ d. covers_some d read stamped.1.write.before) }) (sym declared)

@@ -1,4 +1,4 @@
--- What an index tells of a history, it tells of one with more writes behind.
+-- What an index tells of a history, it tells of one with more writes after.
 use Rattle.std.proofs.Common.{◌≡◌, ◌∙◌, ℕ, suc, zero, ◌<◌, ◌≤◌, List, [], ◌∷◌, ◌++◌, is_some, refl, ap, sym, arith, length, slice_get, take}
 use Rattle.std.proofs.lemmas.List.{take-append-le}
 use Rattle.std.proofs.lemmas.List.Elements.{All-weaker}

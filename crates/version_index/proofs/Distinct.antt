@@ -22,11 +22,11 @@ use Rattle.version_index.specs.Span.{distinct, is_again, keys_in}
 use Rattle.version_index.proofs.KeyRows.{among_keys}
 use Rattle.version_index.proofs.Keys.{key_itself, same_key}
 
--- a key does not stand behind another
+-- a key does not stand after another
 abbrev pub Le : List Value → List Value → Type 0
 Le a b = is_gt (key_cmp a b) ≡ false
 
--- no key stands behind a later one
+-- no key stands after a later one
 abbrev pub Rises : List (List Value) → Type 0
 Rises [] = ⊤
 Rises (key ∷ keys) = All (Le key) keys × Rises keys
@@ -51,7 +51,7 @@ module _ {C : Type 0} (cmp : C → C → Ordering) (key_of : C → List Value) (
 
 -- ---- each once
 
--- the keys stand behind one
+-- the keys stand after one
 abbrev Behind : List Value → List (List Value) → Type 0
 Behind low keys = AllByRecursion (λ key. key_cmp low key ≡ Less) keys
 
@@ -59,7 +59,7 @@ behind_less : (low key : List Value) (keys : List (List Value)) → key_cmp low 
 behind_less low key [] less behind = tt
 behind_less low key (k ∷ keys) less behind = (key_cmp-total.trans low key k less behind.0, behind_less low key keys less behind.1)
 
--- what is neither behind nor one with a key stands before it
+-- what is neither after nor one with a key stands before it
 is_less : (o : Ordering) → is_gt o ≡ false → is_eq o ≡ false → o ≡ Less
 is_less Less up apart = refl
 is_less Equal up apart = absurd (no_both true refl apart)

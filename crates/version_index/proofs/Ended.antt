@@ -97,7 +97,7 @@ module _ (ref : ℕ × List Value) where
 
   -- ---- a walk back along the writes on the key
 
-  -- a part of the history from its start, with the last write on the key in it; its versions, and those that were made behind it, are
+  -- a part of the history from its start, with the last write on the key in it; its versions, and those that were made after it, are
   -- those of the history
   abbrev pub VersionWalk : List Stamped → Option ℕ → Option Place → List Lifespan → Type 0
   VersionWalk history place ended made = (part : ℕ) × IsLast (is_on ref) (take part history) place × (ended_later (take part history) ended ++ reverse made ≡ lifespans (is_on ref) history)

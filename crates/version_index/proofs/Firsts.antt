@@ -31,7 +31,7 @@ module _ {X : Type 0} (on late : X → Bool) (within : (x : X) → on x ≡ fals
   fails_here xs number (Some other) last fails before = first_of_part number other xs before
 
   -- a part of the list from its start, with the last item of it that is on; the first that is late there, or else the one that was found
-  -- behind it, is so in the list
+  -- after it, is so in the list
   abbrev pub LateWalk : List X → Option ℕ → Option ℕ → Type 0
   LateWalk xs place first = (part : ℕ) × IsLast on (take part xs) place × ((found : Option ℕ) → IsFirst late (take part xs) found → IsFirst late xs (option_or found first))
 

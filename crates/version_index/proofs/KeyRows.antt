@@ -95,7 +95,7 @@ module _ (def : TableDef) (read : Read) (tables : Tables) where
   same_table : (table == table) ≡ true
   same_table = (Decides-eqb table table).1 refl
 
-  -- a key that is among those of the entries: its row where the read covers it, and what is behind is found at the key too
+  -- a key that is among those of the entries: its row where the read covers it, and what is after is found at the key too
   found_here : (q : ℕ × List Value) (key : List Value) (found : Option Seen) (rest : List ((ℕ × List Value) × Seen)) → q ≡ (table, key) → eq_by_cmp ref_cmp q (table, key) ≡ true
       → (read_at q found ≡ None → find ref_cmp q rest ≡ None) → find ref_cmp q (entry_of key found ++ rest) ≡ read_at q found
   found_here q key None rest same tied behind = behind refl

@@ -107,7 +107,7 @@ blocks_before (x ∷ xs) zero stamped ordered there = All-nil (λ other. other.0
 blocks_before (x ∷ xs) (suc number) stamped ordered there =
     All-cons (λ other. other.0 ≤ stamped.0) x (take number xs) (All-contains (Precedes x) xs stamped ordered.0 (contains_got xs number stamped there)).0 (blocks_before xs number stamped ordered.1 there)
 
--- a write is in no later block than one behind it
+-- a write is in no later block than one after it
 pub blocks_rise : (xs : List Stamped) (one other : ℕ) (a b : Stamped) → InOrder xs → slice_get xs one ≡ Some a → slice_get xs other ≡ Some b → one ≤ other → a.0 ≤ b.0
 blocks_rise [] one other a b ordered here there up = cc
 blocks_rise (x ∷ xs) zero zero a b ordered here there up = let same = ap (λ s. s.0) (unwrapped x a here) in let equal = ap (λ s. s.0) (unwrapped x b there) in omega (arith, same, equal)

@@ -93,7 +93,7 @@ by_numbers touched low high value number between inside = go (lookup (is_at (val
       inside,
     )
 
--- the numbers of an entry between two ends that stands behind others are those of the noted writes that touched its value
+-- the numbers of an entry between two ends that stands after others are those of the noted writes that touched its value
 pub numbers_pass : (table : ℕ) (history : List Stamped) (noted : ℕ) (chains : Chains) (column : ColumnIndex) → IsColumn table history noted chains column → (p : Value × Vec ℕ Global → Bool) (done rest left all : List (Value × Vec ℕ Global)) (e : Value × Vec ℕ Global)
     → IsStrictlySortedBy value_cmp (keys_of column.touched.entries) → done ++ left ≡ all → all ≡ filter p column.touched.entries → left ≡ e ∷ rest → ArePassing noted e.1.items
 numbers_pass table history noted chains column is p done rest left all e rise whole kept next =

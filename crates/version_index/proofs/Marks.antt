@@ -25,7 +25,7 @@ module _ {X : Type 0} where
   abbrev pub SetAt : List (Value × X) → List (Value × X) → Value → Option X → Type 0
   SetAt old new value now = (q : Value) → lookup (is_at (value_cmp q)) new ≡ cond (is_at (value_cmp value) q) now (lookup (is_at (value_cmp q)) old)
 
-  -- what is told of the new map at a value, by what is told of the old one
+  -- what is reported of the new map at a value, by what is reported of the old one
   pub told_at : {Y : Type 0} (f : Option X → Y) (old new : List (Value × X)) (value : Value) (now : Option X) → SetAt old new value now → (v : Value)
       → f (lookup (is_at (value_cmp v)) new) ≡ cond (value_eq v value) (f now) (f (lookup (is_at (value_cmp v)) old))
   told_at f old new value now sets v = ap f (sets v ∙ ap (λ b. cond b now (lookup (is_at (value_cmp v)) old)) (turned value v)) ∙ inside (value_eq v value)

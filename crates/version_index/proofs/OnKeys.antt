@@ -38,7 +38,7 @@ passing_none : (end : ℕ) → passing (λ number. false) end ≡ []
 passing_none zero = refl
 passing_none (suc end) = append-nil (passing (λ number. false) end) ∙ passing_none end
 
--- behind the lists there are no numbers
+-- after the lists there are no numbers
 past_lists : (lists : List (List ℕ)) (slot : ℕ) → length lists ≤ slot → list_or_none (slice_get lists slot) ≡ []
 past_lists [] slot past = refl
 past_lists (numbers ∷ lists) zero past = absurd (omega (arith, past))

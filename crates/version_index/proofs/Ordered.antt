@@ -18,7 +18,7 @@ use Rattle.version_index.specs.Log.{InOrder, Precedes}
 less_cmp : (a b : ℕ) → a < b → nat_cmp a b ≡ Less
 less_cmp a b below = let less : nat_lt a b ≡ true = grind (arith, nat_tests) in ap (λ c. cond c Less (cond (a == b) Equal Greater)) less
 
--- a table and key that is another's or below it, is below those that rise behind that one
+-- a table and key that is another's or below it, is below those that rise after that one
 pub less_all : (a : Write) (low : ℕ × List Value) (writes : List Write) → (low ≡ write_ref a) ⊎ (ref_cmp (write_ref a) low ≡ Less) → IsTrue (follows low writes) → All (λ b. ref_cmp (write_ref a) (write_ref b) ≡ Less) writes
 less_all a low [] from rises = All-nil (λ b. ref_cmp (write_ref a) (write_ref b) ≡ Less)
 less_all a low (b ∷ rest) from rises =
@@ -76,7 +76,7 @@ module _ (place : Place) where
   order_at_place [] rises = tt
   order_at_place (write ∷ rest) rises = (follow_all write rest rises, order_of_follows (write_ref write) rest rises)
 
-  -- a history in order, and the writes of a later place behind it
+  -- a history in order, and the writes of a later place after it
   pub order_next : (history : List Stamped) (writes : List Write) → InOrder history → All (IsBefore place) history → IsTrue (are_rising writes) → InOrder (history ++ stamped_at place writes)
   order_next [] writes ordered before rises = order_at_place writes rises
   order_next (stamped ∷ rest) writes ordered before rises = (

@@ -26,7 +26,7 @@ take_next [] number x there = cc
 take_next (y ∷ ys) zero x there = ap (λ z. z ∷ []) (unwrapped y x there)
 take_next (y ∷ ys) (suc number) x there = ap (λ zs. y ∷ zs) (take_next ys number x there)
 
--- the last of some numbers with one behind them
+-- the last of some numbers with one after them
 pub last_end : (numbers : List ℕ) (number : ℕ) → last_in (numbers ++ number ∷ []) ≡ Some number
 last_end [] number = refl
 last_end (n ∷ []) number = refl

@@ -17,7 +17,7 @@ below_or (suc a) (suc b) = go (below_or a b)
     go (inl below) = inl (omega (arith, below))
     go (inr up) = inr (omega (arith, up))
 
--- what is told of an item that may be there
+-- what is reported of an item that may be there
 pub some_weaker : {X : Type 0} (P Q : X → Type 0) (found : Option X) → ((x : X) → P x → Q x) → IsSomeAnd found P → IsSomeAnd found Q
 some_weaker P Q None weaker is = is
 some_weaker P Q (Some x) weaker is = weaker x is

@@ -100,7 +100,7 @@ module _ {K X : Type 0} (cmp : K → K → Ordering) (total : IsTotalOrder cmp) 
       (All-weaker (λ f. (cmp e.0 f.0 ≡ Less) × (lookup (is_at (cmp f.0)) es ≡ Some f.1)) Own
       (λ f is. ap (λ o. cond (is_eq o) (Some e.1) (lookup (is_at (cmp f.0)) es)) (total.antisymm f.0 e.0 ∙ ap ordering_reverse is.0) ∙ is.1) es both)
 
-  -- so is one of those between two ends that stands behind others
+  -- so is one of those between two ends that stands after others
   pub found_next : (es : List (K × X)) (p : K × X → Bool) (done rest left all : List (K × X)) (e : K × X) → IsStrictlySortedBy cmp (keys_of es) → done ++ left ≡ all → all ≡ filter p es → left ≡ e ∷ rest
       → lookup (is_at (cmp e.0)) es ≡ Some e.1
   found_next es p done rest left all e rise whole kept is =

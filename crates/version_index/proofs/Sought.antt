@@ -14,7 +14,7 @@ use Rattle.version_index.specs.Candidates.{only_value}
 use Rattle.version_index.specs.Rows.{IsValueOf, value_of}
 use Rattle.version_index.proofs.Wanted.{ends_of}
 
--- a value is another where it stands neither before it nor behind it
+-- a value is another where it stands neither before it nor after it
 pub neither_side : (value one : Value) → value_eq value one ≡ (is_le (value_cmp one value) && is_le (value_cmp value one))
 neither_side value one = go (value_cmp value one) ∙ ap (λ o. is_le o && is_le (value_cmp value one)) (sym (value_cmp-total.antisymm one value))
   where

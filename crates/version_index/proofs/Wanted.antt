@@ -42,7 +42,7 @@ value_itself value = ap is_eq (tied_itself value_cmp-total value)
 
 -- ---- a span of one value
 
--- a value that stands behind no other and before no other is that other
+-- a value that stands after no other and before no other is that other
 pub pinned : (a b : Value) → is_le (value_cmp a b) ≡ true → is_le (value_cmp b a) ≡ true → value_eq a b ≡ true
 pinned a b one other = go (value_cmp a b) refl one
   where

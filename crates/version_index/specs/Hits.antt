@@ -43,6 +43,6 @@ abbrev pub IsOnKeyBetween : TableView → Bound (List Value) → Bound (List Val
 IsOnKeyBetween view low high number =
     (view.noted ≤ number) ⊎ (IsNumberBetween view.index.now.chains view.index.now.chains.living.entries low high number ⊎ IsNumberBetween view.index.now.chains view.index.now.chains.ended.entries low high number)
 
--- what is told of a hit is told of the first write that the read hits, where there is one
+-- what is reported of a hit is reported of the first write that the read hits, where there is one
 abbrev pub TellsFirst : Watch → List Stamped → Option Hit → Type 0
 TellsFirst watch history hit = (number : Option ℕ) × IsFirst (is_watched watch) history number × (hit ≡ option_map (hit_told watch.def.now watch.read.now) (write_of history number))

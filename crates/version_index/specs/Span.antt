@@ -62,7 +62,7 @@ abbrev pub is_again : Option (List Value) → List Value → Bool
 is_again None key = false
 is_again (Some last) key = key_eq last key
 
--- the keys without those that stand again behind themselves; one may be before them
+-- the keys without those that stand again after themselves; one may be before them
 abbrev pub distinct : Option (List Value) → List (List Value) → List (List Value)
 distinct last [] = []
 distinct last (key ∷ keys) = cond (is_again last key) (distinct last keys) (key ∷ distinct (Some key) keys)

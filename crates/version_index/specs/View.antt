@@ -42,7 +42,7 @@ abbrev pub IsBack : List ℕ → Option Back → Type 0
 IsBack numbers None = numbers ≡ []
 IsBack numbers (Some back) = numbers ≡ back.left.now ++ back.number ∷ []
 
--- what a read of a declared table is told of a write that it hits
+-- what is reported of a write that a read of a declared table hits
 abbrev pub hit_told : TableDef → Read → Stamped → Hit
 hit_told def read stamped = record {
   place = record { block = stamped.0; pos = stamped.1.pos };

@@ -118,7 +118,7 @@ pub fn last_up_to(
     last_uncounted::<Brand>(view, key, slot, height, Blank::new(1))
 }
 
-/// A number where a test passed, and else what was found behind it.
+/// A number where a test passed, and else what was found after it.
 pub fn first_of(passes: bool, number: usize, first: Option<usize>) -> Option<usize>
     ensures { result ≡ cond passes (Some number) first }
 {

@@ -81,7 +81,7 @@ fn place_of_number(entries: &[LogEntry], number: Option<usize>) -> Option<Place>
 }
 
 /// Goes back by one write: adds the version that it left, where it is of a table, and notes it as the next one on its key. The
-/// map names the first write on each key of the table among those behind it.
+/// map names the first write on each key of the table among those after it.
 fn add_before(
     alloc: Global,
     versions: &mut Vec<Lifespan>,

@@ -110,7 +110,7 @@ fn hit_at(view: &TableView<'_>, watch: &Watch<'_>) -> Option<usize>
     }
 }
 
-/// What is told of a write that a read hits.
+/// What is reported of a write that a read hits.
 fn hit_ref<'a>(def: &TableDef, read: &Read, entry: &'a LogEntry) -> HitRef<'a>
     requires read_fits { ReadFits def.now read.now }
     requires write_fits { WriteFits def.now entry.now.placed.write }

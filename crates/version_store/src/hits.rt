@@ -47,7 +47,7 @@ fn lesser_of(log: &[LogEntry], number: usize, other: Option<usize>) -> usize
     }
 }
 
-/// The number of the least hit from a number on, by that of the least one behind it.
+/// The number of the least hit from a number on, by that of the least one after it.
 fn least_with(
     log: &[LogEntry],
     watch: &Watch<'_>,
@@ -84,7 +84,7 @@ fn least_at(log: &[LogEntry], watch: &Watch<'_>) -> Option<usize>
     least
 }
 
-/// What is told of a write that a read hits.
+/// What is reported of a write that a read hits.
 fn hit_ref<'a>(defs: &[TableDef], read: &Read, entry: &'a LogEntry) -> HitRef<'a>
     requires read_fits { ReadFitsIn defs.now read.now }
     requires on_table { entry.now.placed.write.table ≡ read_table read.now }

@@ -43,7 +43,7 @@ fn add_row(
     }
 }
 
-/// Adds the version that the write of a number left, where it passes and left a row. The first write on its key behind it ended it.
+/// Adds the version that the write of a number left, where it passes and left a row. The first write on its key after it ended it.
 fn add_version(
     alloc: Global,
     versions: &mut List<Lifespan>,

@@ -3,7 +3,7 @@ use Rattle.edge_traits.specs.Causes.{Keeps}
 use Rattle.tx_text.specs.Listing.{longest_listing}
 use Rattle.bcdb.proofs.schedule.read_through.Given as goal
 
--- the text is a front of the file, and no read has failed
+-- the text is a prefix of the file, and no read has failed
 abbrev pub invariant-loop-shelf : goal.invariant-loop-shelf
 invariant-loop-shelf g l = (length l.text.items ≤ longest_listing + 65536)
     × (length l.buffer ≡ 65536)

@@ -2,7 +2,7 @@ use Rattle.std.proofs.Common.{length, ◌-◌, ◌+◌, ◌≡◌, ◌≤◌, �
 use Rattle.edge_traits.specs.Causes.{Keeps}
 use Rattle.edge_traits.proofs.whole.read_whole.Given as goal
 
--- the bytes are a front of the file, and no read has failed
+-- the bytes are a prefix of the file, and no read has failed
 abbrev pub invariant-loop-bytes : goal.invariant-loop-bytes
 invariant-loop-bytes g l = (length l.bytes.items ≤ l.limit + 1)
     × (length l.buffer.items ≡ 65536)

@@ -33,7 +33,7 @@ loop-low-preserved-then-entry_at-height g c =
       paid.1,
     )
 
--- the middle one is not, and so are those behind it
+-- the middle one is not, and so are those after it
 pub loop-low-preserved : goal.loop-low-preserved
 loop-low-preserved g c =
     let inv = c.loop-low.invariant in

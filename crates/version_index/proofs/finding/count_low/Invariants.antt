@@ -5,7 +5,7 @@ use Rattle.version_index.specs.Found.{is_low}
 use Rattle.version_index.specs.Numbers.{passes_at}
 use Rattle.version_index.proofs.finding.count_low.Given as goal
 
--- what is before the part that is left is low, what is behind it is not, and the steps so far paid for halving it
+-- what is before the part that is left is low, what is after it is not, and the steps so far paid for halving it
 abbrev pub invariant-loop-low : goal.invariant-loop-low
 invariant-loop-low g l =
     (l.low ≤ l.high) × (l.high ≤ length (numbers_at (lists_of l.chains) l.slot))

@@ -4,7 +4,7 @@ use Rattle.version_index.specs.Chain.{is_seen}
 use Rattle.version_index.proofs.Points.{fails_drop, last_points}
 use Rattle.version_index.proofs.finding.seen_in_tail.Goals as goal
 
--- none behind it is seen
+-- none after it is seen
 pub returns-then-is_seen_at-clause-last : goal.returns-then-is_seen_at-clause-last
 returns-then-is_seen_at-clause-last g c =
     let test = is_seen (c.args.view.now.table, c.args.key.now) c.args.height in

@@ -32,7 +32,7 @@ loop-number-preserved c =
     λ j low before. below_more (λ (k : ℕ). c.args.start ≤ k → passes_at test (history_of c.args.entries.now) k ≡ false) c.loop-number.number (λ k below up. c.loop-number.invariant k up below)
     (λ up. ap (passes test) there ∙ sym c.is_hit.ensures ∙ c.if-is_hit.false) j before low
 
--- behind the log there is no write
+-- after the log there is no write
 pub returns : goal.returns
 returns c = λ j low. either j low (below_or j c.loop-number.number)
   where

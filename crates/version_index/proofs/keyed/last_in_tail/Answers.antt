@@ -6,7 +6,7 @@ use Rattle.version_index.proofs.Logged.{get_history}
 use Rattle.version_index.proofs.Points.{below_or, fails_drop, last_points, take_at}
 use Rattle.version_index.proofs.keyed.last_in_tail.Goals as goal
 
--- none behind it is on the key
+-- none after it is on the key
 pub returns-then-is_on_key-clause-last : goal.returns-then-is_on_key-clause-last
 returns-then-is_on_key-clause-last c =
     let test = is_on (c.args.view.now.table, c.args.key.now) in

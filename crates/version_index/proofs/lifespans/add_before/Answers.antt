@@ -26,7 +26,7 @@ returns-then-entry-table-clause-firsts c =
     firsts_skip c.args.table history c.args.number (stamped_of c.entry_at-entry.result.now) there c.args.next.now c.if-entry-table.true
     (subst (λ n. AreFirsts c.args.table n history c.args.next.now) next c.requires.firsts)
 
--- the version of the write comes before those behind it
+-- the version of the write comes before those after it
 pub returns-clause-versions : goal.returns-clause-versions
 returns-clause-versions c =
     let next : c.args.number + 1 ≡ suc c.args.number = omega arith in

@@ -7,7 +7,7 @@ use Rattle.node_model.specs.Steps.{Shared}
 use Rattle.proc_syntax.specs.declared.call.Tx.{Tx}
 use Rattle.node_core.proofs.jobs.Jobs.add_all.Goals as goal
 
--- want of memory leaves an index of the same jobs
+-- running out of memory leaves an index of the same jobs
 pub invariant_of-self-in_err-hold_all : goal.invariant_of-self-in_err-hold_all
 invariant_of-self-in_err-hold_all c =
     let older : c.hold_all.new.index.older.items ≡ c.reserve-2.new.self.older.items = search rules in

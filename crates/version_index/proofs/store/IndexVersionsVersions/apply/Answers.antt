@@ -7,7 +7,7 @@ use Rattle.row_sets.specs.Log.{history_of, stamped_of}
 use Rattle.version_index.proofs.Keeping.{kept_next}
 use Rattle.version_index.proofs.store.IndexVersionsVersions.apply.Goals as goal
 
--- the writes fit, and stand behind those of the history
+-- the writes fit, and stand after those of the history
 pub invariant_of-self : goal.invariant_of-self
 invariant_of-self c =
     let old = c.self.inside.log.items in
