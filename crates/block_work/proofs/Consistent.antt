@@ -6,7 +6,7 @@ use Rattle.std.proofs.lemmas.List.{length-append, map-append}
 use Rattle.std.specs.List.{AllByRecursion}
 use Rattle.std.specs.Prelude.{AllPairs, IsTrue}
 use Rattle.block_digest.specs.Codable.{HasFewKey}
-use Rattle.block_directory.specs.Marking.{IsDirectoryOf}
+use Rattle.conflict_rules.specs.Marking.{IsDirectoryOf}
 use Rattle.block_work.specs.Block.{CanCommitWith, IsConsistent, KeepsEdges, StandInOrder}
 use Rattle.block_work.specs.Causes.{AreOwnEdges}
 use Rattle.block_work.specs.declared.block.BlockInWork.{BlockInWork}

@@ -1,6 +1,6 @@
 -- What a block in work is, and what it keeps of its committed transactions.
 use Rattle.block_digest.specs.Codable.{HasFewKey}
-use Rattle.block_directory.specs.Marking.{HasRoomFor, IsDirectoryOf}
+use Rattle.conflict_rules.specs.Marking.{HasRoomFor, IsDirectoryOf}
 use Rattle.block_work.specs.Causes.{AreOwnEdges, RunFits}
 use Rattle.block_work.specs.declared.block.BlockInWork.{BlockInWork}
 use Rattle.node_model.specs.Edges.{edge_at}

@@ -8,7 +8,7 @@ ghost use Rattle.node_model.specs.declared.outcome.Outcome.TheVariants as outcom
 ghost use Rattle.proc_syntax.specs.declared.run.Ran.{Ran};
 ghost use Rattle.rel_base.specs.declared.schema.TableDef.{TableDef};
 
-use block_directory::Directory;
+use conflict_rules::Directory;
 use node_model::{Committed, Outcome, Told};
 use proc_syntax::Block;
 use proc_syntax::run::Ran;

@@ -2,7 +2,7 @@
 
 ghost use Rattle.std.specs.Prelude.{◌≡◌, ◌<◌, ◌≤◌, ◌^◌, ◌-◌, All, IfOk, length, map};
 ghost use Rattle.std.specs.Option.{option_map};
-ghost use Rattle.block_directory.specs.Marking.{IsDirectoryOf};
+ghost use Rattle.conflict_rules.specs.Marking.{IsDirectoryOf};
 ghost use Rattle.block_work.specs.Block.{IsConsistent};
 ghost use Rattle.block_work.specs.Causes.{AreOwnEdges, IsVerdictOn, RunFits, before_edges, outcome_of, outcome_of_late};
 ghost use Rattle.conflict_rules.specs.Late.{overtaken_of};

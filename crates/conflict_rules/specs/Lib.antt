@@ -1,1 +1,4 @@
+pub mod Halves
+pub mod Hashing
 pub mod Late
+pub mod Marking

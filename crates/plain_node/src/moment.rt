@@ -2,9 +2,9 @@
 
 ghost use Rattle.rel_base.specs.Tables.{tables_at};
 
+use proc_run::Snapshot;
 use rel_base::{List, NoMemory, Read, Seen};
 use row_sets::Versions;
-use snapshots::Snapshot;
 use std::alloc::Global;
 
 /// The tables of a store after the block of a height.

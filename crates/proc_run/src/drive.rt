@@ -7,11 +7,11 @@ ghost use Rattle.proc_syntax.specs.Run.{run};
 ghost use Rattle.proc_run.specs.MachineView.{Agrees};
 
 use crate::machine::Machine;
+use crate::snapshot::Snapshot;
 use crate::state::Want;
 use proc_check::Checked;
 use proc_syntax::{Ran, Tx};
 use rel_base::{List, NoMemory, Read, Seen};
-use snapshots::Snapshot;
 use std::alloc::Global;
 use std::sync::Arc;
 

@@ -9,3 +9,8 @@ pub mod Folding
 pub mod Growing
 pub mod Positions
 pub mod Results
+pub mod Finding
+pub mod LeastPositions
+pub mod Conflicting
+pub mod Dangerous
+pub mod Deciding

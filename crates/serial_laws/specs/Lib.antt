@@ -3,3 +3,7 @@ pub mod Replay
 pub mod Chained
 pub mod InOrder
 pub mod Laws
+pub mod Least
+pub mod Conflicts
+pub mod Dangers
+pub mod CauseLaws

@@ -1,4 +1,0 @@
-pub mod Idle
-pub mod Looked
-pub mod Marks
-pub mod Passed

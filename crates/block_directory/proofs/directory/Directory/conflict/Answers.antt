@@ -1,8 +1,0 @@
-use Rattle.std.proofs.Common.{subst, sym}
-use Rattle.block_directory.proofs.Idle.{no_clash}
-use Rattle.block_directory.proofs.directory.Directory.conflict.Goals as goal
-use Rattle.block_directory.specs.Marking.{HasMarks, has_write_at}
-
-pub clash_among-requires-clause-only : goal.clash_among-requires-clause-only
-clash_among-requires-clause-only c =
-    no_clash c.as_slice.result.now c.args.committed.now c.marked_at_keys-found.result c.requires.directory.few c.args.writes.now (subst (HasMarks (λ done. has_write_at done.writes) c.args.committed.now) (sym c.as_slice.ensures.value) c.requires.directory.writes) c.marked_at_keys-found.ensures

@@ -1,9 +1,0 @@
-use Rattle.std.proofs.Common.{subst, sym}
-use Rattle.block_directory.proofs.Idle.{no_edge_into}
-use Rattle.block_directory.proofs.directory.Directory.edges_into.Goals as goal
-use Rattle.block_directory.specs.Marking.{HasMarks, has_read_at}
-
-pub into_among-requires-clause-only : goal.into_among-requires-clause-only
-into_among-requires-clause-only c =
-    no_edge_into c.as_slice.result.now c.args.committed.now c.marked_at_writes-found.result c.requires.directory.few c.args.tables.now c.args.writes.now (subst (HasMarks (λ done. has_read_at done.reads) c.args.committed.now) (sym c.as_slice.ensures.value) c.requires.directory.reads)
-    c.requires.writes c.marked_at_writes-found.ensures

@@ -1,6 +1,0 @@
-use Rattle.block_directory.proofs.Looked.{LookedUpTo}
-use Rattle.block_directory.proofs.lookup.add_marked.Given as goal
-
--- the transactions of the words so far are found
-abbrev pub invariant-loop-index : goal.invariant-loop-index
-invariant-loop-index l = LookedUpTo l.words l.place l.fn.found l.index l.found

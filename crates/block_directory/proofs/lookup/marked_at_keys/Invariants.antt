@@ -1,8 +1,0 @@
-use Rattle.std.proofs.Common.{drop}
-use Rattle.block_directory.proofs.Looked.{FoundSoFar}
-use Rattle.block_directory.proofs.lookup.marked_at_keys.Given as goal
-use Rattle.block_directory.specs.Marking.{is_marked, write_place}
-
--- those so far, and those at what is left, are all
-abbrev pub invariant-loop-write : goal.invariant-loop-write
-invariant-loop-write l = FoundSoFar (λ number x. is_marked l.words (write_place x) number) l.writes l.found (drop l.write-index l.writes)

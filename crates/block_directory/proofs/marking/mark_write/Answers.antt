@@ -1,5 +1,0 @@
-use Rattle.std.proofs.Common.{rules}
-use Rattle.block_directory.proofs.marking.mark_write.Goals as goal
-
-pub returns-clause-own : goal.returns-clause-own
-returns-clause-own c = search rules

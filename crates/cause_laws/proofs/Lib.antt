@@ -1,5 +1,0 @@
-pub mod Finding
-pub mod Positions
-pub mod Conflicting
-pub mod Dangerous
-pub mod Deciding

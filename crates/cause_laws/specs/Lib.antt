@@ -1,4 +1,0 @@
-pub mod Least
-pub mod Conflicts
-pub mod Dangers
-pub mod Laws

@@ -1,0 +1,88 @@
+-- Marks that are set, and room for more of them.
+use Rattle.std.proofs.Common.{inl, inr, ◌⊎◌, ap, false, length, refl, replicate, subst, suc, sym, true, zero, Bool, List, Some, [], ◌∷◌, ◌++◌, ◌%◌, ◌*◌, ◌+◌, ◌/◌, ◌<◌, ◌∙◌, ◌≡◌, ◌||◌, ℕ, ⊎_elim, slice_get, slice_index, slice_set}
+use Rattle.std.specs.Bool.{nat_eq}
+use Rattle.std.specs.List.{list_any}
+use Rattle.std.proofs.lemmas.Bool.{eq-eqb}
+use Rattle.std.proofs.lemmas.Bool.Decides.{eqb_tells}
+use Rattle.std.proofs.lemmas.List.{get_or-set_other, get_or-set_same}
+use Rattle.std.proofs.lemmas.Option.{none-some, same_Some}
+use Rattle.conflict_rules.specs.Marking.{HasMarks, is_marked}
+use Rattle.node_model.specs.declared.result.Committed.{Committed}
+use Rattle.rw_graph.specs.Sets.{is_one}
+use Rattle.rel_base.proofs.Bits.{or_true}
+
+-- ---- room
+
+zeros : (count i : ℕ) → slice_index (replicate count 0) i ≡ 0
+zeros zero i = refl
+zeros (suc count) zero = refl
+zeros (suc count) (suc i) = zeros count i
+
+pub padded : (words : List ℕ) (count i : ℕ) → slice_index (words ++ replicate count 0) i ≡ slice_index words i
+padded [] count i = zeros count i
+padded (word ∷ words) count zero = refl
+padded (word ∷ words) count (suc i) = padded words count i
+
+-- ---- one mark more
+
+-- marks that are set stay
+abbrev pub KeepsMarks : List ℕ → List ℕ → Type 0
+KeepsMarks old new = (place number : ℕ) → is_marked old place number ≡ true → is_marked new place number ≡ true
+
+module _ (words : List ℕ) (index word : ℕ) (at : ℕ) (within : index < length words) (is : (other : ℕ) → is_one word other ≡ (nat_eq other at || is_one (slice_index words index) other)) where
+  bit_stays : (i other : ℕ) → is_one (slice_index words i) other ≡ true → is_one (slice_index (slice_set words index word) i) other ≡ true
+  bit_stays i other one = ⊎_elim
+      (λ same.
+      let here : is_one (slice_index words index) other ≡ true = subst (λ j. is_one (slice_index words j) other ≡ true) same.1 one in
+      subst (λ j. is_one (slice_index (slice_set words index word) j) other ≡ true) (sym same.1)
+      (ap (λ w. is_one w other) (get_or-set_same words index word 0 within) ∙ is other ∙ ap (λ b. nat_eq other at || b) here ∙ or_true (nat_eq other at)))
+      (λ apart. ap (λ w. is_one w other) (get_or-set_other words index i word 0 apart.1) ∙ one)
+      (eqb_tells i index)
+
+  pub mark_kept : KeepsMarks words (slice_set words index word)
+  mark_kept place number one = bit_stays (1088 * (number / 64) + place) (number % 64) one
+
+  pub mark_own : (place number : ℕ) → index ≡ 1088 * (number / 64) + place → at ≡ number % 64 → is_marked (slice_set words index word) place number ≡ true
+  mark_own place number here bit =
+      ap (λ i. is_one (slice_index (slice_set words index word) i) (number % 64)) (sym here)
+      ∙ ap (λ w. is_one w (number % 64)) (get_or-set_same words index word 0 within) ∙ is (number % 64)
+      ∙ ap (λ b. b || is_one (slice_index words index) (number % 64)) (eq-eqb (number % 64) at (sym bit))
+
+-- ---- the marks of some items
+
+module _ {X : Type 0} (has : X → ℕ → Bool) (all : List X) (number : ℕ) where
+  -- each place of an item is marked, or is that of an item that is left
+  abbrev pub MarkedSoFar : List ℕ → List X → Type 0
+  MarkedSoFar words left = (place : ℕ) → list_any (λ item. has item place) all ≡ true → (is_marked words place number || list_any (λ item. has item place) left) ≡ true
+
+  pub marked_next : (words words' : List ℕ) (left after : List X) (item : X) → left ≡ item ∷ after → MarkedSoFar words left → KeepsMarks words words'
+      → ((place : ℕ) → has item place ≡ true → is_marked words' place number ≡ true) → MarkedSoFar words' after
+  marked_next words words' left after item is so_far keeps own place some =
+      by (is_marked words place number) (has item place) (ap (λ xs. is_marked words place number || list_any (λ x. has x place) xs) (sym is) ∙ so_far place some) (keeps place number) (own place)
+    where
+      by : (was test : Bool) → (was || (test || list_any (λ x. has x place) after)) ≡ true → (was ≡ true → is_marked words' place number ≡ true) → (test ≡ true → is_marked words' place number ≡ true)
+          → (is_marked words' place number || list_any (λ x. has x place) after) ≡ true
+      by true test one stays comes = ap (λ b. b || list_any (λ x. has x place) after) (stays refl)
+      by false true one stays comes = ap (λ b. b || list_any (λ x. has x place) after) (comes refl)
+      by false false one stays comes = ap (λ b. is_marked words' place number || b) one ∙ or_true (is_marked words' place number)
+
+-- ---- one transaction more
+
+pub has_marks_in : (has : Committed → ℕ → Bool) (committed : List Committed) (words words' : List ℕ) → KeepsMarks words words' → HasMarks has committed words → HasMarks has committed words'
+has_marks_in has committed words words' keeps marks number place done at is = keeps place number (marks number place done at is)
+
+get_more : (committed : List Committed) (last done : Committed) (number : ℕ) → slice_get (committed ++ last ∷ []) number ≡ Some done
+    → (slice_get committed number ≡ Some done) ⊎ ((number ≡ length committed) × (last ≡ done))
+get_more [] last done zero at = inr (refl, same_Some last done at)
+get_more [] last done (suc number) at = absurd (none-some done at)
+get_more (first ∷ rest) last done zero at = inl at
+get_more (first ∷ rest) last done (suc number) at = ⊎_elim (λ early. inl early) (λ late. inr (ap suc late.0, late.1)) (get_more rest last done number at)
+
+pub has_more : (has : Committed → ℕ → Bool) (committed : List Committed) (last : Committed) (words : List ℕ) → HasMarks has committed words
+    → ((place : ℕ) → has last place ≡ true → is_marked words place (length committed) ≡ true) → HasMarks has (committed ++ last ∷ []) words
+has_more has committed last words marks own number place done at is = ⊎_elim
+    (λ early. marks number place done early is)
+    (λ late.
+    let same : has last place ≡ true = subst (λ d. has d place ≡ true) (sym late.1) is in
+    subst (λ n. is_marked words place n ≡ true) (sym late.0) (own place same))
+    (get_more committed last done number at)

@@ -1,0 +1,9 @@
+use Rattle.std.proofs.Common.{subst, sym}
+use Rattle.conflict_rules.proofs.Idle.{no_edge_out}
+use Rattle.conflict_rules.proofs.directory.Directory.edges_out.Goals as goal
+use Rattle.conflict_rules.specs.Marking.{HasMarks, has_write_at}
+
+pub out_among-requires-clause-only : goal.out_among-requires-clause-only
+out_among-requires-clause-only c =
+    no_edge_out c.as_slice.result.now c.args.committed.now c.marked_at_reads-found.result c.requires.directory.few c.args.tables.now c.args.reads.now (subst (HasMarks (λ done. has_write_at done.writes) c.args.committed.now) (sym c.as_slice.ensures.value) c.requires.directory.writes)
+    c.requires.committed c.marked_at_reads-found.ensures

@@ -1,0 +1,8 @@
+use Rattle.std.proofs.Common.{drop}
+use Rattle.conflict_rules.proofs.Looked.{FoundSoFar}
+use Rattle.conflict_rules.proofs.lookup.marked_at_keys.Given as goal
+use Rattle.conflict_rules.specs.Marking.{is_marked, write_place}
+
+-- those so far, and those at what is left, are all
+abbrev pub invariant-loop-write : goal.invariant-loop-write
+invariant-loop-write l = FoundSoFar (λ number x. is_marked l.words (write_place x) number) l.writes l.found (drop l.write-index l.writes)
