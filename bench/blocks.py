@@ -26,7 +26,7 @@ ACCOUNTS = 1000
 # conflicts, edges and dangers, and `run_blocks` itself the serial order, the applied writes and the rest of a block.
 # the functions that the parts are named by, each with what it calls
 WHOLE = "run_cluster"
-PARTS = {"runs": "run_work", "commits": "NodeCore::commit", "seals": "NodeCore::seal", "digests": "digest_of"}
+PARTS = {"runs": "run_job", "commits": "NodeCore::commit", "seals": "NodeCore::seal", "digests": "digest_of"}
 
 
 def write_payments(path, count, per_block):

@@ -1,4 +1,4 @@
--- What each call of a work leaves in hand, whether or not memory was wanting.
+-- What each call of a held job leaves in hand, whether or not memory was wanting.
 use Rattle.std.proofs.Common.{Err, IfErr, IfOk, IfSome, Ok, OnErr, OnOk, Option, Result, subst, sym, ◌∙◌, ◌≡◌}
 use Rattle.cluster_run.proofs.Hands.{claim_has, finish_has, read_has}
 use Rattle.cluster_run.proofs.Quiet.{step_blocks}
@@ -20,7 +20,7 @@ use Rattle.turn_lock.specs.Passes.{IsSamePass, pass_number}
 use Rattle.turn_lock.specs.declared.pass.Pass.{Pass}
 
 module _ {ghosts : Ghosts Core App Entry} where
-  -- a work that has run on is the same for its node
+  -- a job that has run on is the same for its node
   pub ran_on : (pass : Pass Core App Entry ghosts) (old new : InHand) → IsSameRun old new → HasWork pass old → HasWork pass new
   ran_on pass old new same has = subst (HasWork pass) (sym same) (record {
     true_to = has.true_to;

@@ -3,7 +3,7 @@ use Rattle.std.proofs.Common.{Bool, IfSome, List, None, Option, Some, ap, false,
 use Rattle.std.proofs.lemmas.Bool.{false≢true}
 use Rattle.std.proofs.lemmas.Option.{same_Some}
 use Rattle.std.specs.List.{list_any}
-use Rattle.cluster_run.proofs.Turning.{answer_is, finds_held, finds_none, finds_only, step_none, step_state, step_work}
+use Rattle.cluster_run.proofs.Turning.{answer_is, finds_held, finds_none, finds_only, step_none, step_state, step_job}
 use Rattle.cluster_run.specs.Standing.{Has, HasNone, HasWork, HoldsOnly, state_seen}
 use Rattle.node_core.proofs.Claims.{changed_at}
 use Rattle.node_core.specs.Answers.{claimed_as, got_as}
@@ -68,7 +68,7 @@ module _ {ghosts : Ghosts Core App Entry} (old new : Pass Core App Entry ghosts)
         let none = finds_none old new same has.true_to turn.journal turn.found has.none in
         let is = claimed_is (chosen (pass_base old) found pick) work.job (answer_is old new same (ToClaim pick) (steps.Claimed work.job) has.true_to turn) in
         let state = step_state old new same (ToClaim pick) (steps.Claimed work.job) has.true_to turn (Some (event_of.Claim work.job)) (ap (λ (o : Option ℕ). (claims o).1) is) in
-        step_work old new same (ToClaim pick) (steps.Claimed work.job) has.true_to turn work fresh.actor_is held
+        step_job old new same (ToClaim pick) (steps.Claimed work.job) has.true_to turn work fresh.actor_is held
         (subst (λ (w : World). HoldsOnly w (pass_number old) work.job) (sym state)
         (only_changed found.jobs (pass_number old) work.job (claimed (pass_number old)) (λ number job holds. absurd (none number job holds))))
 
@@ -93,7 +93,7 @@ module _ {ghosts : Ghosts Core App Entry} (old new : Pass Core App Entry ghosts)
           let o : Option ℕ = settled_in work.told.tx.id found.sealed in
           let state = step_state old new same (ToRead work.job) (got_as got) has.true_to turn (reads_unless (pass_base old) found work.job (job_in work) o).1
           (ap (λ (job : Option Job). (reads (pass_base old) found work.job job).1) held_then.holds.stands) in
-          step_work old new same (ToRead work.job) (got_as got) has.true_to turn work' (answered.actor ∙ has.actor) held
+          step_job old new same (ToRead work.job) (got_as got) has.true_to turn work' (answered.actor ∙ has.actor) held
           (subst (HoldsOnly (state_seen new) (pass_number old)) (sym answered.job) (subst (λ (w : World). HoldsOnly w (pass_number old) work.job) (sym state) (only_read o)))
 
     -- the end of a run, or of a claim

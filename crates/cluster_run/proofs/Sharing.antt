@@ -13,8 +13,8 @@ use Rattle.node_core.specs.contracts.jobs.Jobs as Jobs
 use Rattle.node_core.specs.contracts.jobs.JobRow as JobRow
 use Rattle.node_core.specs.contracts.node.NodeCore as NodeCore
 use Rattle.node_core.specs.contracts.node.NodeCoreStoried.TheImpl as storied
-use Rattle.node_core.proofs.working.IndexedBlock.TheSendSync as indexed
-use Rattle.node_core.specs.contracts.working.Working as Working
+use Rattle.node_core.proofs.delivered_block.IndexedBlock.TheSendSync as indexed
+use Rattle.node_core.specs.contracts.delivered_block.DeliveredBlock as DeliveredBlock
 use Rattle.node_model.proofs.journal.Entry.TheSendSync as entry
 use Rattle.node_model.proofs.result.BlockResult.TheSendSync as result
 use Rattle.node_model.specs.contracts.journal.Entry as Entry
@@ -48,11 +48,11 @@ jobs_send = search (row_send, index_send, crosses, sendable) depth 60 fits 20000
 done_send : IsSend BlockInWork.the_field.row
 done_send = search (sends, table_row.the_send, table_key.the_send, crosses, sendable) depth 60 fits 20000
 
-working_field_send : IsSend Working.the_field.row
-working_field_send = search (done_send, indexed.the_send, crosses, sendable) depth 60 fits 20000
+delivered_field_send : IsSend DeliveredBlock.the_field.row
+delivered_field_send = search (done_send, indexed.the_send, crosses, sendable) depth 60 fits 20000
 
-working_send : IsSend Working.the_row
-working_send = search (working_field_send, sendable) depth 60 fits 20000
+delivered_send : IsSend DeliveredBlock.the_row
+delivered_send = search (delivered_field_send, sendable) depth 60 fits 20000
 
 module _ (V : RattleType) where
   chain_send : IsSend V → IsSend (Chain.the_field V).row
@@ -60,7 +60,7 @@ module _ (V : RattleType) where
 
 module _ (V : RattleType) (g : Ghosts V.Denot) where
   core_field_send : IsSend V → IsSend (NodeCore.the_field V g).row
-  core_field_send v = let chain = chain_send V v in search (option.the_field_send, ids_send, jobs_send, working_send, entry.the_send, crosses, sendable) depth 60 fits 20000
+  core_field_send v = let chain = chain_send V v in search (option.the_field_send, ids_send, jobs_send, delivered_send, entry.the_send, crosses, sendable) depth 60 fits 20000
 
   core_send : IsSend V → IsSend (NodeCore.the_row V g)
   core_send v = let core = core_field_send v in search sendable depth 60 fits 20000

@@ -118,5 +118,5 @@ module _ {ghosts : Ghosts Core App Entry} (old new : Pass Core App Entry ghosts)
     pub step_none : HoldsNone (state_seen new) (pass_number old) → HasNone new
     step_none none = none_new step_true none
 
-    pub step_work : (work : InHand) → work.actor ≡ pass_number old → IsHeld (node_seen new) work → HoldsOnly (state_seen new) (pass_number old) work.job → HasWork new work
-    step_work work actor held only = work_new work step_true actor held only
+    pub step_job : (work : InHand) → work.actor ≡ pass_number old → IsHeld (node_seen new) work → HoldsOnly (state_seen new) (pass_number old) work.job → HasWork new work
+    step_job work actor held only = work_new work step_true actor held only

@@ -38,7 +38,7 @@ module _ {ghosts : Ghosts Core App Entry} where
     pub true_to : IsTrue pass
     pub none : HoldsNone (state_seen pass) (pass_number pass)
 
-  -- its actor holds the job of a work, and no other
+  -- its actor holds this job, and no other
   pub record HasWork (pass : Pass Core App Entry ghosts) (work : InHand) : Type 0 where
     pub true_to : IsTrue pass
     pub actor : work.actor ≡ pass_number pass
@@ -75,7 +75,7 @@ module _ {ghosts : Ghosts Core App Entry} where
     pub delivered_same : delivered_by new ≡ delivered_by old
     pub in_work_same : in_work new ≡ in_work old
 
--- the work that is left after a step of it, if it goes on
+-- the job that is left after a step of it, if it goes on
 abbrev pub left_of : {E : Type 0} → Result (Option InHand) E → Option InHand
 left_of (Ok work) = work
 left_of (Err refused) = None

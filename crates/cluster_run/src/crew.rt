@@ -4,7 +4,7 @@ ghost use Rattle.std.specs.Prelude.{◌≡◌, ◌≤◌};
 
 use crate::bell::Bell;
 use crate::gate::{Gate, Point};
-use node_core::Work;
+use node_core::HeldJob;
 use proc_syntax::{Block, Tx};
 use std::sync::Wait;
 
@@ -61,8 +61,8 @@ impl<'a, G: Gate> Crew<'a, G> {
         }
     }
 
-    /// An actor comes to a point of a work.
-    pub fn come_to<R: Wait>(&self, rt: &R, actor: u32, work: &Work, point: Point) {
+    /// An actor comes to a point of a job.
+    pub fn come_to<R: Wait>(&self, rt: &R, actor: u32, work: &HeldJob, point: Point) {
         self.gate
             .pause(rt, self.number, actor, Some(work.id()), point);
     }

@@ -6,7 +6,7 @@ ghost use Rattle.turn_lock.specs.Passes.{HoldsNoTurn, IsPassOf, IsSamePass};
 
 use crate::crew::Crew;
 use crate::gate::Gate;
-use crate::working::run_one;
+use crate::running_jobs::run_one;
 use node_model::Pick;
 use node_shared::{NodePass, SharedNode};
 use rel_base::NoMemory;

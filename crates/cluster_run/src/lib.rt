@@ -10,8 +10,8 @@ pub mod forking;
 pub mod gate;
 pub mod node;
 pub mod processing;
+pub mod running_jobs;
 pub mod threads;
-pub mod working;
 
 pub use cluster::run_cluster;
 pub use crew::Crew;

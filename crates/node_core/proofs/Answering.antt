@@ -1,9 +1,9 @@
--- A read is a step, and leaves its work held.
+-- A read is a step, and leaves its job held.
 use Rattle.std.proofs.Common.{Bool, List, None, Option, Some, [], ap, false, length, refl, subst, sym, true, ◌++◌, ◌∙◌, ◌≡◌, ◌∷◌, ℕ}
 use Rattle.std.proofs.lemmas.Bool.{false≢true}
 use Rattle.std.specs.Option.{is_some, option_and_then, option_map}
 use Rattle.node_core.proofs.Claims.{changed_at}
-use Rattle.node_core.proofs.Held_works.{next_is, tables_are_fit}
+use Rattle.node_core.proofs.Held_jobs.{next_is, tables_are_fit}
 use Rattle.node_core.proofs.Journal.{core_of, quiet, stays, steps, world_noted}
 use Rattle.node_core.proofs.Rowed.{rows_keep}
 use Rattle.node_core.proofs.Settled.{height_is}
@@ -115,7 +115,7 @@ module _ (kept : Kept) (node : IsNode kept) (work : InHand) (held : IsHeld (core
       pub read_steps : Steps (core_of kept) work.actor (ToRead work.job) (got_as (got_of hit)) (record { app = kept.app; journal = journal' })
       read_steps = steps kept node work.actor (ToRead work.job) (got_as (got_of hit)) (event.Read work.job) may told journal' noted
 
-      -- its work has the read with its rows, and is cut where the read is hit
+      -- its job has the read with its rows, and is cut where the read is hit
       pub read_held : (work' : InHand) (rows : List Seen) → rows ≡ rows_in kept.tables read (tables_at work.told.tx.height kept.history) → work' ≡ with_read work read rows (is_some hit) → IsHeld (record { app = kept.app; journal = journal' }) work'
       read_held work' rows are is = subst (λ (w : InHand). IsHeld (record { app = kept.app; journal = journal' }) w) (sym is) (record {
         app = held.app;

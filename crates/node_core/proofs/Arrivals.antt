@@ -13,7 +13,7 @@ use Rattle.node_core.specs.Rows.{new_row, shown_all}
 use Rattle.node_core.specs.declared.answers.Arrived.TheVariants as arrived
 use Rattle.node_core.specs.declared.answers.Arrived.{Arrived}
 use Rattle.node_core.specs.declared.jobs.JobRow.{JobRow}
-use Rattle.node_core.specs.declared.working.Working.{Working}
+use Rattle.node_core.specs.declared.delivered_block.DeliveredBlock.{DeliveredBlock}
 use Rattle.node_model.specs.Events.{is_settled}
 use Rattle.node_model.specs.Steps.{Invalid, Known, Queued, Reply, Shared, ToArrive, is_in_work, is_known, reply}
 use Rattle.node_model.specs.World.{job_of, new_job, number_of_job}
@@ -33,7 +33,7 @@ module _ (kept : Kept) (node : IsNode kept) (height : ℕ) (at : height ≡ leng
   in_work : (id : List ℕ) → is_in_block id kept.work ≡ is_in_work id (world_in kept).work
   in_work id = by kept.work ∙ ap (is_in_work id) node.work
     where
-      by : (work : Option Working) → is_in_block id work ≡ is_in_work id (option_map shown_work work)
+      by : (work : Option DeliveredBlock) → is_in_block id work ≡ is_in_work id (option_map shown_work work)
       by None = refl
       by (Some working) = refl
 

@@ -20,7 +20,7 @@ use Rattle.node_core.specs.Rows.{count_held, put_row, row_at, row_waits, shown_a
 use Rattle.node_core.specs.declared.jobs.JobRow.{JobRow}
 use Rattle.node_core.specs.declared.jobs.Stage.TheVariants as stage
 use Rattle.node_core.specs.declared.jobs.Stage.{Stage}
-use Rattle.node_core.specs.declared.working.Working.{Working}
+use Rattle.node_core.specs.declared.delivered_block.DeliveredBlock.{DeliveredBlock}
 use Rattle.node_model.specs.Decide.{early}
 use Rattle.node_model.specs.Events.{after, claimed}
 use Rattle.node_model.specs.History.{ids_of, ids_told, time_at}
@@ -125,13 +125,13 @@ module _ (kept : Kept) (node : IsNode kept) where
           ∙ sym (ap (waiting_number tx (world_in kept).jobs) found.is)))
 
   -- the cause that is known without a run
-  pub early_is : (working : Working) (tx : Tx) → kept.work ≡ Some working → early_by (is_some (place_of_id kept.ids tx.id)) kept.app working.done.number tx ≡ early_cause kept.app (world_in kept) (shown_work working) tx
+  pub early_is : (working : DeliveredBlock) (tx : Tx) → kept.work ≡ Some working → early_by (is_some (place_of_id kept.ids tx.id)) kept.app working.done.number tx ≡ early_cause kept.app (world_in kept) (shown_work working) tx
   early_is working tx here =
       ap (λ b. early_by b kept.app working.done.number tx)
       (is_known kept.ids (world_in kept).sealed working.done.number working.done.outcomes.items tx.id (first_places kept node working here))
       ∙ ap (λ n. early kept.app (ids_of (world_in kept).sealed ++ ids_told working.done.outcomes.items) n tx) (works_on kept node working here).number
 
-  due_is : (working : Working) → kept.work ≡ Some working → (found : Option Tx) → due_of kept.app kept.ids working.done.number kept.rows found ≡ due_number kept.app (world_in kept) (shown_work working) found
+  due_is : (working : DeliveredBlock) → kept.work ≡ Some working → (found : Option Tx) → due_of kept.app kept.ids working.done.number kept.rows found ≡ due_number kept.app (world_in kept) (shown_work working) found
   due_is working here None = refl
   due_is working here (Some tx) =
       ap (λ (o : Option Outcome). cond (is_some o) None (waiting_in tx kept.rows)) (early_is working tx here)
@@ -140,7 +140,7 @@ module _ (kept : Kept) (node : IsNode kept) where
   pub choose_due : due_in kept.app kept.ids kept.work kept.rows ≡ chosen kept.app (world_in kept) pick.Due
   choose_due = by kept.work refl ∙ ap (λ (w : Option BlockInWork). option_and_then (λ (work : BlockInWork). due_number kept.app (world_in kept) work (due work)) w) node.work
     where
-      by : (work : Option Working) → kept.work ≡ work → due_in kept.app kept.ids work kept.rows ≡ option_and_then (λ (work : BlockInWork). due_number kept.app (world_in kept) work (due work)) (option_map shown_work work)
+      by : (work : Option DeliveredBlock) → kept.work ≡ work → due_in kept.app kept.ids work kept.rows ≡ option_and_then (λ (work : BlockInWork). due_number kept.app (world_in kept) work (due work)) (option_map shown_work work)
       by None here = refl
       by (Some working) here = due_is working here (due (shown_work working))
 

@@ -27,7 +27,7 @@ use Rattle.node_core.specs.declared.due.Due.TheVariants as stand
 use Rattle.node_core.specs.declared.due.Due.{Due}
 use Rattle.node_core.specs.declared.jobs.JobRow.{JobRow}
 use Rattle.node_core.specs.declared.jobs.Stage.TheVariants as stage
-use Rattle.node_core.specs.declared.working.Working.{Working}
+use Rattle.node_core.specs.declared.delivered_block.DeliveredBlock.{DeliveredBlock}
 use Rattle.node_model.specs.Decide.{by_run, decide_by, or_committed}
 use Rattle.node_model.specs.Events.{after, commit_next, decide_due, recorded_ran}
 use Rattle.node_model.specs.Fold.{Work}
@@ -50,7 +50,7 @@ use Rattle.rel_base.proofs.Bits.{or_true}
 abbrev at_pos : ℕ → ℕ → Place
 at_pos number pos = record { block = number; pos = pos }
 
-module _ (kept : Kept) (node : IsNode kept) (working : Working) (here : kept.work ≡ Some working) where
+module _ (kept : Kept) (node : IsNode kept) (working : DeliveredBlock) (here : kept.work ≡ Some working) where
   -- ---- the block in work
 
   -- so many are decided
@@ -80,7 +80,7 @@ module _ (kept : Kept) (node : IsNode kept) (working : Working) (here : kept.wor
 
   -- ---- where memory is wanting
 
-  same_node : (working' : Working) (ids' : IdIndex) → working'.block ≡ working.block → IsSameWork working.done working'.done → IsConsistent (tables_of kept.app) working'.done → SamePlaces kept.ids ids'
+  same_node : (working' : DeliveredBlock) (ids' : IdIndex) → working'.block ≡ working.block → IsSameWork working.done working'.done → IsConsistent (tables_of kept.app) working'.done → SamePlaces kept.ids ids'
       → IsNode (record kept { ids = ids'; work = Some working' })
   same_node working' ids' block same consistent places = record {
     legal = node.legal;
@@ -100,7 +100,7 @@ module _ (kept : Kept) (node : IsNode kept) (working : Working) (here : kept.wor
     rows = subst (λ told. AreRowsOf (tables_of kept.app) told kept.rows (world_in kept).jobs) (told_here kept node working here ∙ sym (ap ids_told same.outcomes)) node.rows;
   }
 
-  pub commit_same : (working' : Working) (ids' : IdIndex) → working'.block ≡ working.block → IsSameWork working.done working'.done → IsConsistent (tables_of kept.app) working'.done → SamePlaces kept.ids ids'
+  pub commit_same : (working' : DeliveredBlock) (ids' : IdIndex) → working'.block ≡ working.block → IsSameWork working.done working'.done → IsConsistent (tables_of kept.app) working'.done → SamePlaces kept.ids ids'
       → (rows' : List JobRow) → rows' ≡ kept.rows → (journal' : List Entry) → journal' ≡ kept.journal → IsNode (record kept { ids = ids'; work = Some working'; rows = rows'; journal = journal' })
   commit_same working' ids' block same consistent places rows' same_rows journal' same_journal =
       subst (λ (rows : List JobRow). IsNode (record kept { ids = ids'; work = Some working'; rows = rows; journal = journal' })) (sym same_rows)
@@ -138,7 +138,7 @@ module _ (kept : Kept) (node : IsNode kept) (working : Working) (here : kept.wor
     after_it : world kept.app journal' ≡ after kept.app (world_in kept) (record { actor = actor; event = event.Commit pos })
     after_it = world_noted kept node actor ToCommit (Decided pos) (event.Commit pos) zero_actor told journal' more
 
-    module _ (tx : Tx) (working' : Working) (ids' : IdIndex) (rows' : List JobRow) (decided : IsDecided working working' kept.ids ids' tx (ran_of tx) (decided_so tx)) (consistent : IsConsistent (tables_of kept.app) working'.done) where
+    module _ (tx : Tx) (working' : DeliveredBlock) (ids' : IdIndex) (rows' : List JobRow) (decided : IsDecided working working' kept.ids ids' tx (ran_of tx) (decided_so tx)) (consistent : IsConsistent (tables_of kept.app) working'.done) where
       abbrev told_one : Told
       told_one = record { id = tx.id; outcome = decided_so tx }
 
@@ -176,14 +176,14 @@ module _ (kept : Kept) (node : IsNode kept) (working : Working) (here : kept.wor
       }
 
     -- without a run
-    pub early_kept : (cause : Outcome) (early : IsEarly kept.app kept.ids working cause) (working' : Working) (ids' : IdIndex) → ((ran : Ran) → IsDecided working working' kept.ids ids' early.tx ran cause)
+    pub early_kept : (cause : Outcome) (early : IsEarly kept.app kept.ids working cause) (working' : DeliveredBlock) (ids' : IdIndex) → ((ran : Ran) → IsDecided working working' kept.ids ids' early.tx ran cause)
         → IsConsistent (tables_of kept.app) working'.done → IsNode (record kept { ids = ids'; work = Some working'; journal = journal' })
     early_kept cause early working' ids' decided consistent =
         commit_kept early.tx working' ids' kept.rows (subst (λ found. IsDecided working working' kept.ids ids' early.tx (ran_of early.tx) found) (sym (early_is_so cause early)) (decided (ran_of early.tx))) consistent
         (rows_told (tables_of kept.app) (told_in kept.work) (early.tx.id ∷ []) kept.rows (world_in kept).jobs node.rows)
 
     -- by what is recorded of a job
-    pub by_job_kept : (number : ℕ) (found : IsByJob kept.app kept.ids working kept.rows number) (working' : Working) (ids' : IdIndex) (rows' : List JobRow)
+    pub by_job_kept : (number : ℕ) (found : IsByJob kept.app kept.ids working kept.rows number) (working' : DeliveredBlock) (ids' : IdIndex) (rows' : List JobRow)
         → IsDecided working working' kept.ids ids' found.tx found.recorded.ran (outcome_by (tables_of kept.app) kept.history working.done kept.rows (is_done kept node working number found))
         → IsConsistent (tables_of kept.app) working'.done → rows' ≡ put_row kept.rows number stage.Taken → IsNode (record kept { ids = ids'; work = Some working'; rows = rows'; journal = journal' })
     by_job_kept number found working' ids' rows' decided consistent rows_are =

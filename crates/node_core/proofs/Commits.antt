@@ -13,7 +13,7 @@ use Rattle.node_core.specs.declared.due.Due.{Due}
 use Rattle.node_core.specs.declared.jobs.JobRow.{JobRow}
 use Rattle.node_core.specs.declared.jobs.Stage.TheVariants as stage
 use Rattle.node_core.specs.declared.jobs.Stage.{Stage}
-use Rattle.node_core.specs.declared.working.Working.{Working}
+use Rattle.node_core.specs.declared.delivered_block.DeliveredBlock.{DeliveredBlock}
 use Rattle.node_model.specs.Decide.{bad_call, future}
 use Rattle.node_model.specs.History.{ids_of, ids_told}
 use Rattle.node_model.specs.Steps.{AllDecided, Decided, NoBlock, NotReady, Reply, ToCommit, commits, commits_due, early_cause, is_done_job, is_ready, reply}
@@ -78,7 +78,7 @@ rows_take tables told rows jobs number job here done known are =
 
 -- ---- the answer
 
-module _ (kept : Kept) (node : IsNode kept) (working : Working) (here : kept.work ≡ Some working) where
+module _ (kept : Kept) (node : IsNode kept) (working : DeliveredBlock) (here : kept.work ≡ Some working) where
   pub told_here : told_in kept.work ≡ ids_told working.done.outcomes.items
   told_here = ap told_in here
 

@@ -19,7 +19,7 @@ use Rattle.node_core.specs.Fresh.{fresh_in, needs_none}
 use Rattle.node_core.specs.Kept.{AreRowsOf, IsNode, IsWorkingOn, Kept, number_of_work, outcomes_of, shown_work, told_in, world_in}
 use Rattle.node_core.specs.Rows.{new_row, shown_all}
 use Rattle.node_core.specs.declared.jobs.JobRow.{JobRow}
-use Rattle.node_core.specs.declared.working.Working.{Working}
+use Rattle.node_core.specs.declared.delivered_block.DeliveredBlock.{DeliveredBlock}
 use Rattle.node_model.specs.Decide.{early}
 use Rattle.node_model.specs.Events.{after, needs_no_job, with_jobs}
 use Rattle.node_model.specs.Fold.{Work, no_work}
@@ -50,7 +50,7 @@ rows_add tables told shared (row ∷ rows) (job ∷ jobs) are = (are.0, rows_add
 
 module _ (kept : Kept) (node : IsNode kept) (actor : ℕ) where
   -- a block is in work
-  pub deliver_in_work : (working : Working) (shared : Shared Block) → kept.work ≡ Some working → Delivers (core_of kept) actor shared.value (InWork working.block.value.number) (core_of kept)
+  pub deliver_in_work : (working : DeliveredBlock) (shared : Shared Block) → kept.work ≡ Some working → Delivers (core_of kept) actor shared.value (InWork working.block.value.number) (core_of kept)
   deliver_in_work working shared here = record {
     shared = shared;
     same = refl;
@@ -76,7 +76,7 @@ module _ (kept : Kept) (node : IsNode kept) (actor : ℕ) where
 
   module _ (none : kept.work ≡ None) where
     first_places : HasFirstPlaces kept.ids (world_in kept).sealed 0 []
-    first_places = subst (λ (w : Option Working). HasFirstPlaces kept.ids (world_in kept).sealed (number_of_work w) (outcomes_of w)) none node.ids
+    first_places = subst (λ (w : Option DeliveredBlock). HasFirstPlaces kept.ids (world_in kept).sealed (number_of_work w) (outcomes_of w)) none node.ids
 
     needs_is : (number : ℕ) (before : List Tx) (tx : Tx) → needs_none kept.app kept.ids kept.rows number before tx
         ≡ needs_no_job kept.app (ids_of (world_in kept).sealed ++ map (λ (t : Tx). t.id) before) number (world_in kept).jobs tx
@@ -106,7 +106,7 @@ module _ (kept : Kept) (node : IsNode kept) (actor : ℕ) where
           ∙ ap (λ known. with_jobs kept.app known noted.value.number noted.value.txs ((world_in kept).jobs ++ [])) (append-nil (ids_of (world_in kept).sealed))
           ∙ ap (with_jobs kept.app (ids_of (world_in kept).sealed) noted.value.number noted.value.txs) (append-nil (world_in kept).jobs)
 
-      pub deliver_kept : (working : Working) (fresh : List (Shared Tx)) (rows' : List JobRow) → working.block.value ≡ noted.value → work_of working.done ≡ no_work → IsWorkingOn (tables_of kept.app) working
+      pub deliver_kept : (working : DeliveredBlock) (fresh : List (Shared Tx)) (rows' : List JobRow) → working.block.value ≡ noted.value → work_of working.done ≡ no_work → IsWorkingOn (tables_of kept.app) working
           → map (λ (one : Shared Tx). one.value) fresh ≡ fresh_in kept.app kept.ids kept.rows noted.value.number noted.value.txs 0 noted.value.txs → rows' ≡ kept.rows ++ map new_row fresh
           → IsNode (record kept { work = Some working; rows = rows'; journal = journal' })
       deliver_kept working fresh rows' block_is begun fits are rows_are = record {
@@ -122,7 +122,7 @@ module _ (kept : Kept) (node : IsNode kept) (actor : ℕ) where
             (subst (λ (rs : List JobRow). AreRowsOf (tables_of kept.app) [] rs (with_jobs kept.app (ids_of (world_in kept).sealed) noted.value.number noted.value.txs (world_in kept).jobs)) (sym rows_are)
             (subst (λ (jobs : List Job). AreRowsOf (tables_of kept.app) [] (kept.rows ++ map new_row fresh) jobs) (jobs_are fresh are)
             (rows_add (tables_of kept.app) [] fresh kept.rows (world_in kept).jobs
-            (subst (λ (w : Option Working). AreRowsOf (tables_of kept.app) (told_in w) kept.rows (world_in kept).jobs) none node.rows)))));
+            (subst (λ (w : Option DeliveredBlock). AreRowsOf (tables_of kept.app) (told_in w) kept.rows (world_in kept).jobs) none node.rows)))));
       }
         where
           after_it : world kept.app journal' ≡ after kept.app (world_in kept) (record { actor = actor; event = Deliver noted })

@@ -18,7 +18,7 @@ use Rattle.node_core.specs.declared.jobs.Record.{Record}
 use Rattle.node_core.specs.declared.jobs.JobRow.{JobRow}
 use Rattle.node_core.specs.declared.jobs.Stage.TheVariants as stage
 use Rattle.node_core.specs.declared.jobs.Stage.{Stage}
-use Rattle.node_core.specs.declared.working.Working.{Working}
+use Rattle.node_core.specs.declared.delivered_block.DeliveredBlock.{DeliveredBlock}
 use Rattle.node_model.specs.Events.{recorded_ran}
 use Rattle.node_model.specs.World as model
 use Rattle.node_model.specs.World.{Job, due, is_live, job_at, job_of, number_of_job, same_tx}
@@ -31,13 +31,13 @@ use Rattle.schedule_laws.proofs.Lists.{job_of-is, same_tx-exact}
 -- ---- what an answer says
 
 -- it is decided without a run
-pub record IsEarly (app : App) (ids : IdIndex) (working : Working) (cause : Outcome) : Type 0 where
+pub record IsEarly (app : App) (ids : IdIndex) (working : DeliveredBlock) (cause : Outcome) : Type 0 where
   pub tx : Tx
   pub next : due (shown_work working) ≡ Some tx
   pub early : early_by (is_some (place_of_id ids tx.id)) app working.done.number tx ≡ Some cause
 
 -- it is decided by the job of a number
-pub record IsByJob (app : App) (ids : IdIndex) (working : Working) (rows : List JobRow) (number : ℕ) : Type 0 where
+pub record IsByJob (app : App) (ids : IdIndex) (working : DeliveredBlock) (rows : List JobRow) (number : ℕ) : Type 0 where
   pub tx : Tx
   pub next : due (shown_work working) ≡ Some tx
   pub late : early_by (is_some (place_of_id ids tx.id)) app working.done.number tx ≡ None
@@ -115,7 +115,7 @@ number_done rows number (Some at) is = let row = row_done rows number at (row_at
 
 -- ---- the two kinds
 
-pub early_of : (app : App) (ids : IdIndex) (working : Working) (rows : List JobRow) (cause : Outcome) → due_by app ids working rows ≡ stand.Early cause → IsEarly app ids working cause
+pub early_of : (app : App) (ids : IdIndex) (working : DeliveredBlock) (rows : List JobRow) (cause : Outcome) → due_by app ids working rows ≡ stand.Early cause → IsEarly app ids working cause
 early_of app ids working rows cause is = by (due (shown_work working)) refl is
   where
     at_tx : (tx : Tx) → due (shown_work working) ≡ Some tx → (found : Option Outcome) → early_by (is_some (place_of_id ids tx.id)) app working.done.number tx ≡ found → or_job found (by_job tx rows) ≡ stand.Early cause
@@ -127,7 +127,7 @@ early_of app ids working rows cause is = by (due (shown_work working)) refl is
     by None next is = absurd (false≢true (ap is_early is))
     by (Some tx) next is = at_tx tx next (early_by (is_some (place_of_id ids tx.id)) app working.done.number tx) refl is
 
-pub by_job_of : (app : App) (ids : IdIndex) (working : Working) (rows : List JobRow) (number : ℕ) → due_by app ids working rows ≡ stand.Done number → IsByJob app ids working rows number
+pub by_job_of : (app : App) (ids : IdIndex) (working : DeliveredBlock) (rows : List JobRow) (number : ℕ) → due_by app ids working rows ≡ stand.Done number → IsByJob app ids working rows number
 by_job_of app ids working rows number is = by (due (shown_work working)) refl is
   where
     at_tx : (tx : Tx) → due (shown_work working) ≡ Some tx → (found : Option Outcome) → early_by (is_some (place_of_id ids tx.id)) app working.done.number tx ≡ found → or_job found (by_job tx rows) ≡ stand.Done number
@@ -150,7 +150,7 @@ pub record IsJobOf (kept : Kept) (tx : Tx) (row : JobRow) (number : ℕ) (job : 
   pub same : job.tx ≡ tx
   pub rowed : IsRowOf (tables_of kept.app) (told_in kept.work) row job
 
-module _ (kept : Kept) (node : IsNode kept) (working : Working) (number : ℕ) (found : IsByJob kept.app kept.ids working kept.rows number) where
+module _ (kept : Kept) (node : IsNode kept) (working : DeliveredBlock) (number : ℕ) (found : IsByJob kept.app kept.ids working kept.rows number) where
   pub its_job : (job : Job) × IsJobOf kept found.tx found.row number job
   its_job = by (numbered found.tx (world_in kept).jobs)
     where

@@ -1,8 +1,8 @@
--- The end of a held work, and its release, are steps.
+-- The end of a held job, and its release, are steps.
 use Rattle.std.proofs.Common.{Bool, List, None, Option, Some, [], ap, cond, false, inl, inr, refl, subst, sym, true, ◌++◌, ◌∙◌, ◌≡◌, ◌⊎◌, ◌∷◌, ℕ}
 use Rattle.std.specs.Option.{is_some}
 use Rattle.node_core.proofs.Going as going
-use Rattle.node_core.proofs.Held_works.{agrees, front_fits, run_fits, run_is, tables}
+use Rattle.node_core.proofs.Held_jobs.{agrees, front_fits, run_fits, run_is, tables}
 use Rattle.node_core.proofs.Journal.{core_of, quiet, steps}
 use Rattle.node_core.proofs.Rowed.{rows_put}
 use Rattle.node_core.specs.Answers.{finished_as, finished_of}

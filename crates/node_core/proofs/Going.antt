@@ -1,4 +1,4 @@
--- What a held work may ask of its node: its next read, or its end.
+-- What a held job may ask of its node: its next read, or its end.
 use Rattle.std.proofs.Common.{All, Bool, IsSome, List, None, Option, Some, ap, arith, false, inl, inr, length, refl, slice_get, subst, sym, true, ◌++◌, ◌||◌, ◌∙◌, ◌≡◌, ◌⊎◌, ◌∷◌, [], ℤ}
 use Rattle.std.proofs.lemmas.Bool.{false≢true}
 use Rattle.std.proofs.lemmas.List.Elements.{All-head, All-tail}

@@ -1,4 +1,4 @@
--- A work, and what its machine tells.
+-- A held job, and what its machine tells.
 use Rattle.std.proofs.Common.{Bool, Option, Some, ap, false, refl, subst, sym, ◌||◌, ◌∙◌, ◌≡◌}
 use Rattle.std.proofs.lemmas.Bool.{false≢true}
 use Rattle.node_core.specs.InHand.{IsInHand, run_on}

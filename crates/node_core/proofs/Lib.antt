@@ -15,7 +15,7 @@ pub mod Due_jobs
 pub mod Readied
 pub mod Commit_steps
 pub mod Going
-pub mod Held_works
+pub mod Held_jobs
 pub mod Ending
 pub mod Answering
 pub mod Telling

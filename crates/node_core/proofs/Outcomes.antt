@@ -14,7 +14,7 @@ use Rattle.node_core.proofs.Settled.{number_next}
 use Rattle.node_core.specs.Finding.{item_at, outcome_by, outcomes_at, told_at}
 use Rattle.node_core.specs.Kept.{IsNode, Kept, number_of_work, outcomes_of, shown_work, world_in}
 use Rattle.node_core.specs.Looking.{first_outcome, told_in_work, told_of}
-use Rattle.node_core.specs.declared.working.Working.{Working}
+use Rattle.node_core.specs.declared.delivered_block.DeliveredBlock.{DeliveredBlock}
 use Rattle.node_model.specs.Fold.{block_result, no_digest, results_from, results_of}
 use Rattle.node_model.specs.History.{SealedBlock}
 use Rattle.node_model.specs.declared.result.BlockResult.{BlockResult}
@@ -139,7 +139,7 @@ pub none_in : (X : Type 0) (position : ℕ) → item_at {X = X} [] position ≡ 
 none_in X zero = refl
 none_in X (suc place) = refl
 
-module _ (tables : List TableDef) (sealed : List SealedBlock) (work : Option Working) (id : List ℕ) (counted : AreCounted 1 sealed) (next : IfSome work (λ working. working.done.number ≡ length sealed + 1)) where
+module _ (tables : List TableDef) (sealed : List SealedBlock) (work : Option DeliveredBlock) (id : List ℕ) (counted : AreCounted 1 sealed) (next : IfSome work (λ working. working.done.number ≡ length sealed + 1)) where
   abbrev blocks : List BlockResult
   blocks = results_of tables sealed
 
@@ -157,7 +157,7 @@ module _ (tables : List TableDef) (sealed : List SealedBlock) (work : Option Wor
   past : item_at blocks (number_of_work work) ≡ None
   past = by work next
     where
-      by : (w : Option Working) → IfSome w (λ working. working.done.number ≡ length sealed + 1) → item_at blocks (number_of_work w) ≡ None
+      by : (w : Option DeliveredBlock) → IfSome w (λ working. working.done.number ≡ length sealed + 1) → item_at blocks (number_of_work w) ≡ None
       by None is = refl
       by (Some working) is =
           let after : working.done.number ≡ suc (length sealed) = omega (arith, is) in
@@ -194,14 +194,14 @@ module _ (kept : Kept) (node : IsNode kept) where
   next_is : IfSome kept.work (λ working. working.done.number ≡ length (world_in kept).sealed + 1)
   next_is = by kept.work refl
     where
-      by : (work : Option Working) → kept.work ≡ work → IfSome work (λ working. working.done.number ≡ length (world_in kept).sealed + 1)
+      by : (work : Option DeliveredBlock) → kept.work ≡ work → IfSome work (λ working. working.done.number ≡ length (world_in kept).sealed + 1)
       by None here = tt
       by (Some working) here = number_next kept node working here
 
   in_work : told_in_work (world_in kept).work ≡ outcomes_of kept.work
   in_work = ap told_in_work (sym node.work) ∙ by kept.work
     where
-      by : (work : Option Working) → told_in_work (option_map shown_work work) ≡ outcomes_of work
+      by : (work : Option DeliveredBlock) → told_in_work (option_map shown_work work) ≡ outcomes_of work
       by None = refl
       by (Some working) = refl
 

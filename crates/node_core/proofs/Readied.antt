@@ -15,7 +15,7 @@ use Rattle.node_core.specs.declared.jobs.Record.{Record}
 use Rattle.node_core.specs.declared.jobs.JobRow.{JobRow}
 use Rattle.node_core.specs.declared.jobs.Stage.TheVariants as stage
 use Rattle.node_core.specs.declared.jobs.Stage.{Stage}
-use Rattle.node_core.specs.declared.working.Working.{Working}
+use Rattle.node_core.specs.declared.delivered_block.DeliveredBlock.{DeliveredBlock}
 use Rattle.node_model.specs.Decide.{by_run, or_committed}
 use Rattle.node_model.specs.Fold.{Work}
 use Rattle.node_model.specs.World.{due}
@@ -62,12 +62,12 @@ module _ (tables : List TableDef) (rows : List JobRow) (number : ℕ) (done : Is
 
 -- ---- the room is taken and the id noted
 
-module _ (old made : Working) (before after : IdIndex) (id : List ℕ) (same : IsSameWork old.done made.done) (block : made.block ≡ old.block) (has : option_map (λ (tx : Tx). tx.id) (due (shown_work old)) ≡ Some id)
+module _ (old made : DeliveredBlock) (before after : IdIndex) (id : List ℕ) (same : IsSameWork old.done made.done) (block : made.block ≡ old.block) (has : option_map (λ (tx : Tx). tx.id) (due (shown_work old)) ≡ Some id)
     (adds : AddsPlace before after id (record { block = old.done.number; pos = length old.done.outcomes.items + 1 })) where
   same_work : work_of made.done ≡ work_of old.done
   same_work = ap (λ (told : List Told). work_as told made.done.committed.items) same.outcomes ∙ ap (λ (committed : List Committed). work_as old.done.outcomes.items committed) same.committed
 
-  pub decided_from : (new : Working) (ran : Ran) (found : Outcome) → new.block ≡ made.block → new.done.number ≡ made.done.number → new.done.time ≡ made.done.time
+  pub decided_from : (new : DeliveredBlock) (ran : Ran) (found : Outcome) → new.block ≡ made.block → new.done.number ≡ made.done.number → new.done.time ≡ made.done.time
       → work_of new.done ≡ work_with (work_of made.done) id ran found → (tx : Tx) → due (shown_work old) ≡ Some tx → IsDecided old new before after tx ran found
   decided_from new ran found same_block number time work tx next =
       let its : id ≡ tx.id = same_Some id tx.id (sym has ∙ ap (option_map (λ (tx : Tx). tx.id)) next) in
@@ -82,7 +82,7 @@ module _ (old made : Working) (before after : IdIndex) (id : List ℕ) (same : I
 
 -- ---- by what is recorded of a done job
 
-module _ (tables : List TableDef) (history : List Stamped) (rows : List JobRow) (number : ℕ) (old made : Working) (verdict : Verdict) (same : IsSameWork old.done made.done) (consistent : IsConsistent tables made.done)
+module _ (tables : List TableDef) (history : List Stamped) (rows : List JobRow) (number : ℕ) (old made : DeliveredBlock) (verdict : Verdict) (same : IsSameWork old.done made.done) (consistent : IsConsistent tables made.done)
     (judged : (done : IsDone tables rows number) → outcome_of verdict ≡ outcome_by tables history old.done rows done)
     (sound : (done : IsDone tables rows number) → IsVerdictOn tables old.done.committed.items done.recorded.ran verdict) (recorded : Record)
     (there : option_map (λ (row : JobRow). row.stage) (row_at rows number) ≡ Some (stage.Done recorded)) where
@@ -93,7 +93,7 @@ module _ (tables : List TableDef) (history : List Stamped) (rows : List JobRow) 
     sound = subst (λ (committed : List Committed). IsVerdictOn tables committed done.recorded.ran verdict) (sym same.committed) (sound done);
   })
 
-  pub decided_by : (new : Working) (before after : IdIndex) (tx : Tx) → IsDecided old new before after tx recorded.ran (outcome_of verdict) → (done : IsDone tables rows number)
+  pub decided_by : (new : DeliveredBlock) (before after : IdIndex) (tx : Tx) → IsDecided old new before after tx recorded.ran (outcome_of verdict) → (done : IsDone tables rows number)
       → IsDecided old new before after tx done.recorded.ran (outcome_by tables history old.done rows done)
   decided_by new before after tx decided done =
       subst (λ (one : Record). IsDecided old new before after tx one.ran (outcome_by tables history old.done rows done)) (recorded_is tables rows number done recorded there)

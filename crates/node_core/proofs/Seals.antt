@@ -25,7 +25,7 @@ use Rattle.node_core.specs.declared.answers.Sealed.TheVariants as sealed
 use Rattle.node_core.specs.declared.jobs.JobRow.{JobRow}
 use Rattle.node_core.specs.declared.jobs.Stage.TheVariants as stage
 use Rattle.node_core.specs.declared.jobs.Stage.{Stage}
-use Rattle.node_core.specs.declared.working.Working.{Working}
+use Rattle.node_core.specs.declared.delivered_block.DeliveredBlock.{DeliveredBlock}
 use Rattle.node_model.specs.Events.{after, drop_over, dropped, is_over, is_settled, with_sealed}
 use Rattle.node_model.specs.Fold as fold
 use Rattle.node_model.specs.Fold.{chain_digest, no_digest, results_of}
@@ -75,7 +75,7 @@ as_reply answer = (sealed_as answer, None)
 
 module _ (kept : Kept) (node : IsNode kept) (height : ℕ) where
   module _ (at : height ≡ length kept.results) where
-    waits_for : (working : Working) (answer : answers.Sealed) (found : Option Tx) → option_map (λ (tx : Tx). sealed.NotAll (decided (shown_work working) + 1)) found ≡ Some answer
+    waits_for : (working : DeliveredBlock) (answer : answers.Sealed) (found : Option Tx) → option_map (λ (tx : Tx). sealed.NotAll (decided (shown_work working) + 1)) found ≡ Some answer
         → seals_due kept.app (world_in kept) (shown_work working) found ≡ as_reply answer
     waits_for working answer None is = absurd (none-some answer is)
     waits_for working answer (Some tx) is = ap as_reply (same_Some (sealed.NotAll (decided (shown_work working) + 1)) answer is)
@@ -86,27 +86,27 @@ module _ (kept : Kept) (node : IsNode kept) (height : ℕ) where
         so : height ≡ length (world_in kept).sealed
         so = at ∙ height_is kept node
 
-        by : (work : Option Working) → not_sealed height work ≡ Some answer → seals kept.app (world_in kept) (option_map shown_work work) ≡ as_reply answer
+        by : (work : Option DeliveredBlock) → not_sealed height work ≡ Some answer → seals kept.app (world_in kept) (option_map shown_work work) ≡ as_reply answer
         by None is = ap (λ n. as_reply (sealed.NoBlock n)) (sym so) ∙ ap as_reply (same_Some (sealed.NoBlock height) answer is)
         by (Some working) is = waits_for working answer (due (shown_work working)) is
 
   -- ---- where one is
 
-  none_due : (working : Working) (found : Option Tx) → option_map (λ (tx : Tx). sealed.NotAll (decided (shown_work working) + 1)) found ≡ None → found ≡ None
+  none_due : (working : DeliveredBlock) (found : Option Tx) → option_map (λ (tx : Tx). sealed.NotAll (decided (shown_work working) + 1)) found ≡ None → found ≡ None
   none_due working None is = refl
   none_due working (Some tx) is = absurd (none-some (sealed.NotAll (decided (shown_work working) + 1)) (sym is))
 
   -- it is in work, and all of it is decided
-  whole : not_sealed height kept.work ≡ None → (working : Working) × (kept.work ≡ Some working) × (due (shown_work working) ≡ None)
+  whole : not_sealed height kept.work ≡ None → (working : DeliveredBlock) × (kept.work ≡ Some working) × (due (shown_work working) ≡ None)
   whole is = by kept.work refl is
     where
-      by : (work : Option Working) → kept.work ≡ work → not_sealed height work ≡ None → (working : Working) × (kept.work ≡ Some working) × (due (shown_work working) ≡ None)
+      by : (work : Option DeliveredBlock) → kept.work ≡ work → not_sealed height work ≡ None → (working : DeliveredBlock) × (kept.work ≡ Some working) × (due (shown_work working) ≡ None)
       by None here is = absurd (none-some (sealed.NoBlock height) (sym is))
       by (Some working) here is = (working, here, none_due working (due (shown_work working)) is)
 
 -- ---- the block in work
 
-module _ (kept : Kept) (node : IsNode kept) (working : Working) (here : kept.work ≡ Some working) where
+module _ (kept : Kept) (node : IsNode kept) (working : DeliveredBlock) (here : kept.work ≡ Some working) where
   joins : CanJoin (tables_of kept.app) (length kept.results) working
   joins =
       let within = ((facts kept node).work_fits (shown_work working) (inside kept node working here)).within in
@@ -211,12 +211,12 @@ module _ (kept : Kept) (node : IsNode kept) (working : Working) (here : kept.wor
         working = tt;
         rows = subst (λ (jobs : List Job). AreRowsOf (tables_of kept.app) [] rows' jobs) (sym jobs_now)
             (subst (λ (rows : List JobRow). AreRowsOf (tables_of kept.app) [] rows (map (drop_over grown) (world_in kept).jobs)) (sym are)
-            (rows_after kept.rows (world_in kept).jobs (subst (λ (w : Option Working). AreRowsOf (tables_of kept.app) (told_in w) kept.rows (world_in kept).jobs) here node.rows)));
+            (rows_after kept.rows (world_in kept).jobs (subst (λ (w : Option DeliveredBlock). AreRowsOf (tables_of kept.app) (told_in w) kept.rows (world_in kept).jobs) here node.rows)));
       }) sound
 
 -- ---- which jobs are dropped
 
-module _ (kept : Kept) (node : IsNode kept) (working : Working) (here : kept.work ≡ Some working) where
+module _ (kept : Kept) (node : IsNode kept) (working : DeliveredBlock) (here : kept.work ≡ Some working) where
   abbrev told_ids : List (List ℕ)
   told_ids = ids_told working.done.outcomes.items
 
@@ -254,13 +254,13 @@ module _ (kept : Kept) (node : IsNode kept) (working : Working) (here : kept.wor
   all_dropped : due (shown_work working) ≡ None → map (drop_among (map (λ (tx : Tx). tx.id) working.block.value.txs)) kept.rows ≡ map (drop_settled kept.ids) kept.rows
   all_dropped all =
       ap (λ ids. map (drop_among ids) kept.rows) (ids_all all)
-      ∙ rows_dropped kept.rows (world_in kept).jobs (subst (λ (w : Option Working). AreRowsOf (tables_of kept.app) (told_in w) kept.rows (world_in kept).jobs) here node.rows) (facts kept node).jobs_fit
+      ∙ rows_dropped kept.rows (world_in kept).jobs (subst (λ (w : Option DeliveredBlock). AreRowsOf (tables_of kept.app) (told_in w) kept.rows (world_in kept).jobs) here node.rows) (facts kept node).jobs_fit
 
 -- ---- by what is known of the parts
 
 module _ (kept : Kept) (node : IsNode kept) (height : ℕ) (none : not_sealed height kept.work ≡ None) (block : Shared Block) (same : IfSome kept.work (λ working. block ≡ working.block)) where
   block_same : block ≡ (whole kept node height none).0.block
-  block_same = subst (λ (w : Option Working). IfSome w (λ working. block ≡ working.block)) (whole kept node height none).1 same
+  block_same = subst (λ (w : Option DeliveredBlock). IfSome w (λ working. block ≡ working.block)) (whole kept node height none).1 same
 
   pub block_dropped : map (drop_among (map (λ (tx : Tx). tx.id) block.value.txs)) kept.rows ≡ map (drop_settled kept.ids) kept.rows
   block_dropped =
@@ -270,31 +270,31 @@ module _ (kept : Kept) (node : IsNode kept) (height : ℕ) (none : not_sealed he
   pub block_number : IfSome kept.work (λ working. block.value.number ≡ working.done.number)
   block_number =
       let all = whole kept node height none in
-      subst (λ (w : Option Working). IfSome w (λ working. block.value.number ≡ working.done.number)) (sym all.1)
+      subst (λ (w : Option DeliveredBlock). IfSome w (λ working. block.value.number ≡ working.done.number)) (sym all.1)
       (ap (λ (b : Shared Block). b.value.number) block_same ∙ sym (works_on kept node all.0 all.1).number)
 
 pub can_join : (kept : Kept) (node : IsNode kept) (height : ℕ) → not_sealed height kept.work ≡ None → IsSomeAnd kept.work (CanJoin (tables_of kept.app) (length kept.results))
 can_join kept node height none =
     let all = whole kept node height none in
-    subst (λ (w : Option Working). IsSomeAnd w (CanJoin (tables_of kept.app) (length kept.results))) (sym all.1) (joins kept node all.0 all.1)
+    subst (λ (w : Option DeliveredBlock). IsSomeAnd w (CanJoin (tables_of kept.app) (length kept.results))) (sym all.1) (joins kept node all.0 all.1)
 
 module _ (kept : Kept) (node : IsNode kept) (height : ℕ) (none : not_sealed height kept.work ≡ None) (actor number : ℕ) (zero_actor : actor ≡ 0)
     (numbered : IfSome kept.work (λ working. number ≡ working.done.number)) (journal' : List Entry) (noted : journal' ≡ kept.journal ++ record { actor = actor; event = Seal number } ∷ [])
     (app' : App) (tables' : List TableDef) (history' : List Stamped) (results' : List BlockResult) (same_app : app' ≡ kept.app) (sound : StoreFits app' tables' history' results')
     (grows : IfSome kept.work (λ working. (chain : List SealedBlock) → HoldsChain (tables_of kept.app) chain kept.history kept.results
     → HoldsChain (tables_of kept.app) (chain ++ sealed_of working.done ∷ []) history' results')) where
-  in_work : (working : Working) × (kept.work ≡ Some working) × (due (shown_work working) ≡ None)
+  in_work : (working : DeliveredBlock) × (kept.work ≡ Some working) × (due (shown_work working) ≡ None)
   in_work = whole kept node height none
 
   numbered_so : number ≡ in_work.0.done.number
-  numbered_so = subst (λ (w : Option Working). IfSome w (λ working. number ≡ working.done.number)) in_work.1 numbered
+  numbered_so = subst (λ (w : Option DeliveredBlock). IfSome w (λ working. number ≡ working.done.number)) in_work.1 numbered
 
   grows_so : (chain : List SealedBlock) → HoldsChain (tables_of kept.app) chain kept.history kept.results → HoldsChain (tables_of kept.app) (chain ++ sealed_of in_work.0.done ∷ []) history' results'
-  grows_so = subst (λ (w : Option Working). IfSome w (λ working. (chain : List SealedBlock) → HoldsChain (tables_of kept.app) chain kept.history kept.results
+  grows_so = subst (λ (w : Option DeliveredBlock). IfSome w (λ working. (chain : List SealedBlock) → HoldsChain (tables_of kept.app) chain kept.history kept.results
       → HoldsChain (tables_of kept.app) (chain ++ sealed_of working.done ∷ []) history' results')) in_work.1 grows
 
-  pub sealed_kept : (work' : Option Working) (rows' : List JobRow) → work' ≡ None → rows' ≡ map (drop_settled kept.ids) kept.rows
+  pub sealed_kept : (work' : Option DeliveredBlock) (rows' : List JobRow) → work' ≡ None → rows' ≡ map (drop_settled kept.ids) kept.rows
       → IsNode (record { app = app'; tables = tables'; history = history'; results = results'; ids = kept.ids; work = work'; rows = rows'; journal = journal' })
   sealed_kept work' rows' empty are =
-      subst (λ (w : Option Working). IsNode (record { app = app'; tables = tables'; history = history'; results = results'; ids = kept.ids; work = w; rows = rows'; journal = journal' })) (sym empty)
+      subst (λ (w : Option DeliveredBlock). IsNode (record { app = app'; tables = tables'; history = history'; results = results'; ids = kept.ids; work = w; rows = rows'; journal = journal' })) (sym empty)
       (seal_kept kept node in_work.0 in_work.1 in_work.2 actor number zero_actor numbered_so journal' noted app' tables' history' results' same_app sound grows_so rows' are)

@@ -10,7 +10,7 @@ use Rattle.block_work.proofs.Grown.{results_length}
 use Rattle.block_work.specs.Ids.{HasFirstPlaces, first_among, first_in, place_of_id}
 use Rattle.node_core.proofs.Journal.{facts}
 use Rattle.node_core.specs.Kept.{IsNode, IsWorkingOn, Kept, number_of_work, outcomes_of, shown_work, up_to, world_in}
-use Rattle.node_core.specs.declared.working.Working.{Working}
+use Rattle.node_core.specs.declared.delivered_block.DeliveredBlock.{DeliveredBlock}
 use Rattle.node_model.specs.Events.{has_told, settled_in}
 use Rattle.node_model.specs.Fold.{no_digest}
 use Rattle.node_model.specs.History.{SealedBlock, ids_told}
@@ -91,16 +91,16 @@ upto_or height (Some place) got below above = let within : nat_le place.block he
 
 -- ---- the block in work
 
-module _ (kept : Kept) (node : IsNode kept) (working : Working) (here : kept.work ≡ Some working) where
+module _ (kept : Kept) (node : IsNode kept) (working : DeliveredBlock) (here : kept.work ≡ Some working) where
   pub inside : (world_in kept).work ≡ Some (shown_work working)
   inside = sym node.work ∙ ap (option_map shown_work) here
 
   pub works_on : IsWorkingOn (tables_of kept.app) working
-  works_on = subst (λ (w : Option Working). IfSome w (IsWorkingOn (tables_of kept.app))) here node.working
+  works_on = subst (λ (w : Option DeliveredBlock). IfSome w (IsWorkingOn (tables_of kept.app))) here node.working
 
   -- ids have their first places in the chain and in the block
   pub first_places : HasFirstPlaces kept.ids (world_in kept).sealed working.done.number working.done.outcomes.items
-  first_places = subst (λ (w : Option Working). HasFirstPlaces kept.ids (world_in kept).sealed (number_of_work w) (outcomes_of w)) here node.ids
+  first_places = subst (λ (w : Option DeliveredBlock). HasFirstPlaces kept.ids (world_in kept).sealed (number_of_work w) (outcomes_of w)) here node.ids
 
   -- it is the next
   pub number_next : working.done.number ≡ length (world_in kept).sealed + 1
@@ -117,6 +117,6 @@ settled_is kept node height id at =
     (by kept.work refl so)
     ∙ first_is id (world_in kept).sealed
   where
-    by : (work : Option Working) → kept.work ≡ work → height ≡ length (world_in kept).sealed → IsAbove height (first_among (number_of_work work) 1 (outcomes_of work) id)
+    by : (work : Option DeliveredBlock) → kept.work ≡ work → height ≡ length (world_in kept).sealed → IsAbove height (first_among (number_of_work work) 1 (outcomes_of work) id)
     by None here so = tt
     by (Some working) here so = let next = number_next kept node working here in among_above working.done.number 1 height working.done.outcomes.items id (omega (arith, next, so))

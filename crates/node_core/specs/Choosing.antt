@@ -5,7 +5,7 @@ use Rattle.block_work.specs.declared.ids.IdIndex.{IdIndex}
 use Rattle.node_core.specs.Kept.{shown_work}
 use Rattle.node_core.specs.Rows.{row_at, row_waits, shown_all}
 use Rattle.node_core.specs.declared.jobs.JobRow.{JobRow}
-use Rattle.node_core.specs.declared.working.Working.{Working}
+use Rattle.node_core.specs.declared.delivered_block.DeliveredBlock.{DeliveredBlock}
 use Rattle.node_model.specs.World.{due, number_of_job}
 use Rattle.proc_syntax.specs.declared.call.Tx.{Tx}
 use Rattle.proc_syntax.specs.declared.tree.App.{App}
@@ -26,6 +26,6 @@ due_of app ids number rows (Some tx) = cond (is_some (early_by (is_some (place_o
 
 -- the number of the job of the first undecided transaction of a block in work, where that has no cause that is known without a run and its
 -- job waits
-abbrev pub due_in : App → IdIndex → Option Working → List JobRow → Option ℕ
+abbrev pub due_in : App → IdIndex → Option DeliveredBlock → List JobRow → Option ℕ
 due_in app ids None rows = None
 due_in app ids (Some working) rows = due_of app ids working.done.number rows (due (shown_work working))

@@ -54,9 +54,9 @@ pub record Delivers (old : Core) (actor : ℕ) (block : Block) (answer : Answer)
   pub same : shared.value ≡ block
   pub step : Steps old actor (ToDeliver shared) answer new
 
--- ---- works
+-- ---- held jobs
 
--- The work was claimed here and is held: its application is the node's, its job is held by its actor with its transaction and its record,
+-- The job was claimed here and is held: its application is the node's, its row is held by its actor with its transaction and its record,
 -- and its time is that of the block of its transaction's height.
 pub record IsHeld (core : Core) (work : InHand) : Type 0 where
   pub app : work.told.app ≡ core.app

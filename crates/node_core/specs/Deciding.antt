@@ -10,7 +10,7 @@ use Rattle.node_core.specs.Rows.{row_at}
 use Rattle.node_core.specs.declared.jobs.Record.{Record}
 use Rattle.node_core.specs.declared.jobs.JobRow.{JobRow}
 use Rattle.node_core.specs.declared.jobs.Stage.TheVariants.{Done}
-use Rattle.node_core.specs.declared.working.Working.{Working}
+use Rattle.node_core.specs.declared.delivered_block.DeliveredBlock.{DeliveredBlock}
 use Rattle.node_model.specs.Decide.{by_run, or_committed}
 use Rattle.node_model.specs.World.{due}
 use Rattle.node_model.specs.declared.outcome.Outcome.{Outcome}
@@ -40,7 +40,7 @@ outcome_by tables history work rows done =
     or_committed (by_run tables (writes_between done.row.tx.value.height (work.number - 1) history) work.committed.items done.recorded.ran)
 
 -- the first undecided transaction of a block in work was decided with an outcome, by a run, and its id was noted
-pub record IsDecided (old new : Working) (before after : IdIndex) (tx : Tx) (ran : Ran) (found : Outcome) : Type 0 where
+pub record IsDecided (old new : DeliveredBlock) (before after : IdIndex) (tx : Tx) (ran : Ran) (found : Outcome) : Type 0 where
   pub first : due (shown_work old) ≡ Some tx
   pub block : new.block ≡ old.block
   pub number : new.done.number ≡ old.done.number

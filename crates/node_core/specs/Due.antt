@@ -9,7 +9,7 @@ use Rattle.node_core.specs.declared.due.Due.{Due}
 use Rattle.node_core.specs.declared.jobs.JobRow.{JobRow}
 use Rattle.node_core.specs.declared.jobs.Stage.TheVariants as stage
 use Rattle.node_core.specs.declared.jobs.Stage.{Stage}
-use Rattle.node_core.specs.declared.working.Working.{Working}
+use Rattle.node_core.specs.declared.delivered_block.DeliveredBlock.{DeliveredBlock}
 use Rattle.node_model.specs.World as world
 use Rattle.node_model.specs.World.{number_of_job}
 use Rattle.node_model.specs.declared.outcome.Outcome.{Outcome}
@@ -46,7 +46,7 @@ by_tx app ids number rows None = due.Nothing
 by_tx app ids number rows (Some tx) = or_job (early_by (is_some (place_of_id ids tx.id)) app number tx) (by_job tx rows)
 
 -- of the block in work
-abbrev pub due_by : App → IdIndex → Working → List JobRow → Due
+abbrev pub due_by : App → IdIndex → DeliveredBlock → List JobRow → Due
 due_by app ids working rows = by_tx app ids working.done.number rows (world.due (shown_work working))
 
 -- an early cause is one of an abort

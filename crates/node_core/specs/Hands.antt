@@ -1,4 +1,4 @@
--- What is answered of a work.
+-- What is answered of a held job.
 use Rattle.node_core.specs.Core.{Core, IsHeld, MayAsk}
 use Rattle.node_core.specs.InHand.{InHand, IsReady, WantsRead}
 use Rattle.node_core.specs.declared.answers.Next.TheVariants as next
@@ -21,18 +21,18 @@ MayGoOn core next.Wants work = MayAsk core work.actor (ToRead work.job)
 MayGoOn core next.Ready work = MayAsk core work.actor (ToFinish work.job)
 MayGoOn core next.Gone work = Unit {0}
 
--- in every state of a node in which the work is held
+-- in every state of a node in which the job is held
 abbrev pub GoesOn : Next → InHand → Type 0
 GoesOn next work = (core : Core) → IsLegal core.app core.journal → IsHeld core work → MayGoOn core next work
 
--- a read was answered: the work has the mark exactly where the id is settled, and else it asks no more
+-- a read was answered: the job has the mark exactly where the id is settled, and else it asks no more
 pub record IsAnswered (got : Got) (old new : InHand) : Type 0 where
   pub job : new.job ≡ old.job
   pub actor : new.actor ≡ old.actor
   pub gone : new.gone ≡ is_gone got
   pub asks : new.told.asks ≡ cond (is_gone got) old.told.asks None
 
--- a work as an actor takes it
+-- a job as an actor takes it
 pub record IsClaimed (actor : ℕ) (work : InHand) : Type 0 where
   pub actor_is : work.actor ≡ actor
   pub not_gone : work.gone ≡ false

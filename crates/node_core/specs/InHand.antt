@@ -79,7 +79,7 @@ pub record IsInHand (tx : Tx) (told : MachineView) (wants : Option Read) (ended 
 abbrev pub with_read : InHand → Read → List Seen → Bool → InHand
 with_read work read rows cut = record work { told = record work.told { fed = work.told.fed ++ record { read = read; rows = rows } ∷ []; asks = None }; cut = cut }
 
--- a record is that of a work at its end: the reads that were cut, or the whole run on all tables on which the reads have their rows
+-- a record is that of a held job at its end: the reads that were cut, or the whole run on all tables on which the reads have their rows
 pub record IsRecordOf (work : InHand) (recorded : Record) : Type 0 where
   pub cut : recorded.cut ≡ work.cut
   pub if_cut : work.cut ≡ true → recorded.ran ≡ so_far work.told.fed

@@ -8,7 +8,7 @@ use Rattle.node_core.specs.declared.jobs.Record as code
 use Rattle.node_core.specs.declared.jobs.JobRow.{JobRow}
 use Rattle.node_core.specs.declared.jobs.Stage.TheVariants as stage
 use Rattle.node_core.specs.declared.jobs.Stage.{Stage}
-use Rattle.node_core.specs.declared.working.Working.{Working}
+use Rattle.node_core.specs.declared.delivered_block.DeliveredBlock.{DeliveredBlock}
 use Rattle.node_model.specs.History.{ids_told}
 use Rattle.node_model.specs.Journals.{IsLegal, world}
 use Rattle.node_model.specs.World as model
@@ -53,23 +53,23 @@ AreRowsOf tables told (row ∷ rows) (job ∷ jobs) = IsRowOf tables told row jo
 
 -- ---- the block in work
 
-abbrev pub shown_work : Working → model.BlockInWork
+abbrev pub shown_work : DeliveredBlock → model.BlockInWork
 shown_work working = record { block = working.block.value; done = work_of working.done }
 
-abbrev pub number_of_work : Option Working → ℕ
+abbrev pub number_of_work : Option DeliveredBlock → ℕ
 number_of_work None = 0
 number_of_work (Some working) = working.done.number
 
 -- the outcomes of its first transactions
-abbrev pub outcomes_of : Option Working → List Told
+abbrev pub outcomes_of : Option DeliveredBlock → List Told
 outcomes_of None = []
 outcomes_of (Some working) = working.done.outcomes.items
 
 -- the ids of these
-abbrev pub told_in : Option Working → List (List ℕ)
+abbrev pub told_in : Option DeliveredBlock → List (List ℕ)
 told_in work = ids_told (outcomes_of work)
 
-pub record IsWorkingOn (tables : List TableDef) (working : Working) : Type 0 where
+pub record IsWorkingOn (tables : List TableDef) (working : DeliveredBlock) : Type 0 where
   pub number : working.done.number ≡ working.block.value.number
   pub time : working.done.time ≡ working.block.value.time
   pub consistent : IsConsistent tables working.done
@@ -90,7 +90,7 @@ pub record Kept : Type 0 where
   pub history : List Stamped
   pub results : List BlockResult
   pub ids : IdIndex
-  pub work : Option Working
+  pub work : Option DeliveredBlock
   pub rows : List JobRow
   pub journal : List Entry
 

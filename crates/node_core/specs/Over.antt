@@ -8,7 +8,7 @@ use Rattle.node_core.specs.declared.answers.Sealed.TheVariants as sealed
 use Rattle.node_core.specs.declared.answers.Sealed.{Sealed}
 use Rattle.node_core.specs.declared.jobs.JobRow.{JobRow}
 use Rattle.node_core.specs.declared.jobs.Stage.TheVariants as stage
-use Rattle.node_core.specs.declared.working.Working.{Working}
+use Rattle.node_core.specs.declared.delivered_block.DeliveredBlock.{DeliveredBlock}
 use Rattle.node_model.specs.World.{decided, due}
 use Rattle.proc_syntax.specs.declared.call.Tx.{Tx}
 use Rattle.rel_base.specs.declared.schema.TableDef.{TableDef}
@@ -18,12 +18,12 @@ use Rattle.std.specs.Prelude.{List, None, Option, Some, cond, length, ◌&&◌, 
 use Rattle.std.specs.Str.{bytes_eq}
 
 -- why no block is sealed, after so many that are: none is in work, or a transaction of it is not decided, of which the first is named
-abbrev pub not_sealed : ℕ → Option Working → Option Sealed
+abbrev pub not_sealed : ℕ → Option DeliveredBlock → Option Sealed
 not_sealed height None = Some (sealed.NoBlock height)
 not_sealed height (Some working) = option_map (λ (tx : Tx). sealed.NotAll (decided (shown_work working) + 1)) (due (shown_work working))
 
 -- a block in work can join so many that are sealed
-pub record CanJoin (tables : List TableDef) (height : ℕ) (working : Working) : Type 0 where
+pub record CanJoin (tables : List TableDef) (height : ℕ) (working : DeliveredBlock) : Type 0 where
   pub next : working.done.number ≡ height + 1
   pub few : length working.done.outcomes.items ≤ 1024
   pub consistent : IsConsistent tables working.done

@@ -13,7 +13,7 @@ pub enum Arrived {
     Invalid,
 }
 
-/// How far a work is.
+/// How far a held job is.
 #[derive(Clone, Copy, Debug, PartialEq, Eq)]
 pub enum Next {
     /// It wants a read.
@@ -27,7 +27,7 @@ pub enum Next {
 /// The answer to a read.
 #[derive(Clone, Copy, Debug, PartialEq, Eq)]
 pub enum Got {
-    /// The work has its rows.
+    /// The job has its rows.
     Rows,
     /// A write that was committed since the height of the transaction hits the read. The run is cut.
     Doomed { place: Place },

@@ -7,11 +7,11 @@ ghost use Rattle.node_core.specs.Kept.{shown_work};
 ghost use Rattle.node_core.specs.Rows.{row_at};
 ghost use Rattle.node_model.specs.World.{due};
 
+use crate::delivered_block::DeliveredBlock;
+use crate::held_job::HeldJob;
 use crate::jobs::Jobs;
 use crate::node::NodeCore;
 use crate::room::make_room;
-use crate::work::Work;
-use crate::working::Working;
 use block_work::{IdIndex, early_cause};
 use node_model::{Entry, Event, Pick};
 use proc_check::Checked;
@@ -22,7 +22,7 @@ use row_sets::Versions;
 use std::sync::Arc;
 
 /// The first undecided transaction of a block in work.
-pub fn due_tx(working: &Working) -> Option<&Tx>
+pub fn due_tx(working: &DeliveredBlock) -> Option<&Tx>
     ensures { option_copied result ≡ due (shown_work working.now) }
 {
     working.block.get().txs.get(working.done.outcomes.len())
@@ -46,7 +46,7 @@ fn find_waiting(jobs: &Jobs, tx: &Tx) -> Option<u64>
 
 // The number of the job of the first undecided transaction of a block in work, where that has no cause that is known without a run and
 // its job waits.
-fn find_due(app: &Checked, ids: &IdIndex, work: &Option<Working>, jobs: &Jobs) -> Option<u64>
+fn find_due(app: &Checked, ids: &IdIndex, work: &Option<DeliveredBlock>, jobs: &Jobs) -> Option<u64>
     ensures { result ≡ due_in app.now.app ids.now work.now jobs.now }
 {
     match work {
@@ -97,7 +97,7 @@ impl<V: Versions> NodeCore<V> {
     }
 
     /// An actor that holds no job takes one. A claim also takes the room for its release.
-    pub fn claim(&mut self, actor: u32, pick: Pick) -> Result<Option<Work>, NoMemory>
+    pub fn claim(&mut self, actor: u32, pick: Pick) -> Result<Option<HeldJob>, NoMemory>
         requires free { MayAsk self.old actor (ToClaim pick) }
         ensures step { IfOk result (λ got. Steps self.old actor (ToClaim pick) (claimed_as got) self.new) }
         ensures held { IfOk result (λ got. IfSome got (IsHeld self.new)) }
@@ -116,7 +116,7 @@ impl<V: Versions> NodeCore<V> {
                     actor,
                     event: Event::Claim { job },
                 });
-                Ok(Some(Work::new(job, actor, tx, machine)))
+                Ok(Some(HeldJob::new(job, actor, tx, machine)))
             }
         }
     }

@@ -20,11 +20,11 @@ ghost use Rattle.rel_base.specs.declared.schema.TableDef.{TableDef};
 
 use crate::answers::Decided;
 use crate::claiming::due_tx;
+use crate::delivered_block::DeliveredBlock;
 use crate::due::{Due, due_by};
 use crate::jobs::{JobRow, Jobs, Stage};
 use crate::node::NodeCore;
 use crate::room::make_room;
-use crate::working::Working;
 use block_work::{BlockInWork, Chain, IdIndex, Verdict};
 use node_model::{Entry, Event, Outcome};
 use proc_syntax::run::Ran;
@@ -33,7 +33,7 @@ use row_sets::Versions;
 use std::alloc::Global;
 
 // The position of the first undecided transaction of a block in work, from 1.
-fn next_pos(working: &Working) -> u32
+fn next_pos(working: &DeliveredBlock) -> u32
     requires few { length working.now.done.outcomes.items ≤ 1024 }
     ensures { result ≡ length working.now.done.outcomes.items + 1 }
 {
@@ -42,7 +42,11 @@ fn next_pos(working: &Working) -> u32
 
 // Takes the room for the outcome of the first undecided transaction of a block in work, and notes its id: the id for the outcome. Where
 // memory is wanting, no more than the room has changed.
-fn make_ready(alloc: Global, ids: &mut IdIndex, working: &mut Working) -> Result<Id, NoMemory>
+fn make_ready(
+    alloc: Global,
+    ids: &mut IdIndex,
+    working: &mut DeliveredBlock,
+) -> Result<Id, NoMemory>
     requires few { length working.old.done.outcomes.items < 1024 }
     requires due { IsSome (due (shown_work working.old)) }
     ensures block { working.new.block ≡ working.old.block }
@@ -74,7 +78,7 @@ fn make_ready(alloc: Global, ids: &mut IdIndex, working: &mut Working) -> Result
 fn abort_due(
     alloc: Global,
     ids: &mut IdIndex,
-    working: &mut Working,
+    working: &mut DeliveredBlock,
     cause: Outcome,
 ) -> Result<(), NoMemory>
     requires few { length working.old.done.outcomes.items < 1024 }
@@ -143,7 +147,7 @@ fn decide_due<V: Versions>(
     chain: &Chain<V>,
     ids: &mut IdIndex,
     jobs: &mut Jobs,
-    working: &mut Working,
+    working: &mut DeliveredBlock,
     number: u64,
 ) -> Result<(), NoMemory>
     requires done { IsDone (tables_of chain.now.app.value.app) jobs.old number }

@@ -10,10 +10,10 @@ ghost use Rattle.node_model.specs.World.{number_of_job};
 
 use crate::answers::Delivered;
 use crate::arriving::share_tx;
+use crate::delivered_block::{DeliveredBlock, IndexedBlock};
 use crate::jobs::Jobs;
 use crate::node::NodeCore;
 use crate::room::make_room;
-use crate::working::{IndexedBlock, Working};
 use block_work::{BlockInWork, IdIndex, early_cause};
 use node_model::{BlockResult, Entry, Event};
 use proc_check::Checked;
@@ -154,7 +154,7 @@ impl<V: Versions> NodeCore<V> {
             txs,
         )?;
         self.jobs.add_all(fresh)?;
-        self.work = Some(Working {
+        self.work = Some(DeliveredBlock {
             done: BlockInWork::new(self.alloc, block),
             block: IndexedBlock::new(shared, ids),
         });

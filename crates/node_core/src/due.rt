@@ -4,8 +4,8 @@ ghost use Rattle.std.specs.Prelude.{◌≡◌};
 ghost use Rattle.node_core.specs.Due.{AbortsSo, by_job, due_by};
 
 use crate::claiming::due_tx;
+use crate::delivered_block::DeliveredBlock;
 use crate::jobs::{Jobs, Stage};
-use crate::working::Working;
 use block_work::{IdIndex, early_cause};
 use node_model::Outcome;
 use proc_check::Checked;
@@ -43,7 +43,7 @@ fn by_job(jobs: &Jobs, tx: &Tx) -> Due
 }
 
 /// How the first undecided transaction of a block in work stands.
-pub fn due_by(app: &Checked, ids: &IdIndex, working: &Working, jobs: &Jobs) -> Due
+pub fn due_by(app: &Checked, ids: &IdIndex, working: &DeliveredBlock, jobs: &Jobs) -> Due
     ensures due { result ≡ due_by app.now.app ids.now working.now jobs.now }
     ensures aborts { AbortsSo result }
 {

@@ -8,8 +8,8 @@ ghost use Rattle.node_core.specs.Known.{arrival, is_in_block};
 ghost use Rattle.node_core.specs.Rows.{shown_all};
 
 use crate::answers::Arrived;
+use crate::delivered_block::DeliveredBlock;
 use crate::jobs::Jobs;
-use crate::working::Working;
 use block_work::IdIndex;
 use proc_check::Checked;
 use proc_syntax::Tx;
@@ -32,7 +32,7 @@ pub fn settled_in(ids: &IdIndex, height: u64, id: &Id) -> Option<u64>
 }
 
 /// Whether an id stands in the block in work.
-pub fn is_in_block(work: &Option<Working>, id: &Id) -> bool
+pub fn is_in_block(work: &Option<DeliveredBlock>, id: &Id) -> bool
     ensures { result ≡ is_in_block id.now work.now }
 {
     match work {
@@ -47,7 +47,7 @@ pub fn arrival(
     jobs: &Jobs,
     ids: &IdIndex,
     height: u64,
-    work: &Option<Working>,
+    work: &Option<DeliveredBlock>,
     tx: &Tx,
 ) -> Arrived
     ensures { result ≡ arrival app.now.app jobs.now ids.now height work.now tx.now }

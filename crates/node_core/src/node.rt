@@ -1,7 +1,7 @@
 //! The node.
 
+use crate::delivered_block::DeliveredBlock;
 use crate::jobs::Jobs;
-use crate::working::Working;
 use block_work::{Chain, IdIndex};
 use node_model::{BlockResult, Entry};
 use proc_check::Checked;
@@ -20,7 +20,7 @@ use std::sync::Arc;
 pub struct NodeCore<V: Versions> {
     pub(crate) chain: Chain<V>,
     pub(crate) ids: IdIndex,
-    pub(crate) work: Option<Working>,
+    pub(crate) work: Option<DeliveredBlock>,
     pub(crate) jobs: Jobs,
     pub(crate) journal: Vec<Entry>,
     pub(crate) alloc: Global,

@@ -4,8 +4,8 @@ ghost use Rattle.std.specs.Prelude.{◌≡◌};
 ghost use Rattle.std.specs.Option.{option_copied};
 ghost use Rattle.node_core.specs.Finding.{item_at, outcome_by, told_at};
 
+use crate::delivered_block::DeliveredBlock;
 use crate::node::NodeCore;
-use crate::working::Working;
 use block_work::IdIndex;
 use node_model::{BlockResult, Outcome, Told};
 use rel_base::{Id, Place};
@@ -24,7 +24,7 @@ fn item_at<T>(items: &[T], position: u64) -> Option<&T>
 // What is reported at a place of a sealed block, or else of the block in work.
 fn told_at<'a>(
     blocks: &'a [BlockResult],
-    work: &'a Option<Working>,
+    work: &'a Option<DeliveredBlock>,
     place: Place,
 ) -> Option<&'a Told>
     ensures { option_copied result ≡ told_at blocks.now work.now place }
@@ -42,7 +42,7 @@ fn told_at<'a>(
 fn find_outcome<'a>(
     ids: &IdIndex,
     blocks: &'a [BlockResult],
-    work: &'a Option<Working>,
+    work: &'a Option<DeliveredBlock>,
     id: &Id,
 ) -> Option<&'a Outcome>
     ensures { option_copied result ≡ outcome_by ids.now blocks.now work.now id.now }

@@ -10,9 +10,9 @@ ghost use Rattle.proc_syntax.specs.Declaring.{tables_of};
 
 use crate::answers::Sealed;
 use crate::claiming::due_tx;
+use crate::delivered_block::{DeliveredBlock, IndexedBlock};
 use crate::node::NodeCore;
 use crate::room::make_room;
-use crate::working::{IndexedBlock, Working};
 use block_work::Chain;
 use block_work::result::last_digest;
 use node_model::{Entry, Event};
@@ -20,7 +20,7 @@ use rel_base::NoMemory;
 use row_sets::Versions;
 
 // Why no block is sealed, after so many that are: none is in work, or a transaction of it is not decided, of which the first is named.
-fn not_sealed(sealed: u64, work: &Option<Working>) -> Option<Sealed>
+fn not_sealed(sealed: u64, work: &Option<DeliveredBlock>) -> Option<Sealed>
     ensures { result ≡ not_sealed sealed work.now }
 {
     match work {
@@ -37,7 +37,7 @@ fn not_sealed(sealed: u64, work: &Option<Working>) -> Option<Sealed>
 // Seals the block in work, and gives it back. Where memory is wanting, it is in work still.
 fn seal_work<V: Versions>(
     chain: &mut Chain<V>,
-    work: &mut Option<Working>,
+    work: &mut Option<DeliveredBlock>,
 ) -> Result<IndexedBlock, NoMemory>
     requires store { StoreFits chain.old.app.value.app (V.tables chain.old.versions) (V.history chain.old.versions) chain.old.blocks }
     requires can { IsSomeAnd work.old (CanJoin (tables_of chain.old.app.value.app) (length chain.old.blocks)) }
@@ -53,11 +53,11 @@ fn seal_work<V: Versions>(
 {
     match work.take() {
         None => unreachable!(),
-        Some(Working { block, done }) => {
+        Some(DeliveredBlock { block, done }) => {
             match chain.seal(done) {
                 Ok(()) => Ok(block),
                 Err((done, refused)) => {
-                    *work = Some(Working { block, done });
+                    *work = Some(DeliveredBlock { block, done });
                     Err(refused)
                 }
             }

@@ -56,6 +56,7 @@ impl<V: Versions> SharedNode<V> {
     {
         let number = pass.number();
         let mut core = self.lock.take(rt, pass);
+        // The call of `journal_len` is for its contract: the journal is one that steps can make, as it is found here and as it is left below.
         let _ = core.journal_len();
         let answer = core.arrive_shared(number, tx);
         let _ = core.journal_len();

@@ -5,10 +5,10 @@
 #![tactic(auto)]
 
 pub mod arriving;
+pub mod held_jobs;
 pub mod laws;
 pub mod ordering;
 pub mod shared;
 pub mod telling;
-pub mod working;
 
 pub use shared::{NodePass, SharedNode};

@@ -72,6 +72,7 @@ impl<V: Versions> SharedNode<V> {
     {
         let number = pass.number();
         let mut core = self.lock.take(rt, pass);
+        // The call of `journal_len` is for its contract: the journal is one that steps can make, as it is found here and as it is left below.
         let _ = core.journal_len();
         let answer = core.deliver_shared(number, block, txs);
         let _ = core.journal_len();
@@ -92,6 +93,7 @@ impl<V: Versions> SharedNode<V> {
     {
         let number = pass.number();
         let mut core = self.lock.take(rt, pass);
+        // The call of `journal_len` is for its contract: the journal is one that steps can make, as it is found here and as it is left below.
         let _ = core.journal_len();
         let answer = core.commit(number);
         let _ = core.journal_len();
@@ -112,6 +114,7 @@ impl<V: Versions> SharedNode<V> {
     {
         let number = pass.number();
         let mut core = self.lock.take(rt, pass);
+        // The call of `journal_len` is for its contract: the journal is one that steps can make, as it is found here and as it is left below.
         let _ = core.journal_len();
         let answer = core.seal(number);
         let _ = core.journal_len();

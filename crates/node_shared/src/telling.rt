@@ -41,6 +41,7 @@ impl<V: Versions> SharedNode<V> {
     {
         let _ = pass.number();
         let core = self.lock.take(rt, pass);
+        // The call of `journal_len` is for its contract: the journal that is found is one that steps can make.
         let _ = core.journal_len();
         let height = core.height();
         self.lock.give(pass, core);
@@ -66,6 +67,7 @@ impl<V: Versions> SharedNode<V> {
     {
         let _ = pass.number();
         let core = self.lock.take(rt, pass);
+        // The call of `journal_len` is for its contract: the journal that is found is one that steps can make.
         let _ = core.journal_len();
         let looked = core.look(height, read);
         self.lock.give(pass, core);
@@ -89,6 +91,7 @@ impl<V: Versions> SharedNode<V> {
     {
         let _ = pass.number();
         let core = self.lock.take(rt, pass);
+        // The call of `journal_len` is for its contract: the journal that is found is one that steps can make.
         let _ = core.journal_len();
         let told = copy_outcome(alloc, core.outcome(id));
         self.lock.give(pass, core);

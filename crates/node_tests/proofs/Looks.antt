@@ -1,4 +1,4 @@
--- A read that a held work wants is a read of its node.
+-- A read that a held job wants is a read of its node.
 use Rattle.std.proofs.Common.{IfSome, Option, Some, ap, subst, sym, ◌∙◌, ◌≡◌}
 use Rattle.cluster_run.specs.Standing.{HasWork}
 use Rattle.node_core.specs.Core.{Core}

@@ -1,21 +1,21 @@
-//! Looks at what works read.
+//! Looks at what held jobs read.
 
 ghost use Rattle.cluster_run.specs.Standing.{HasWork};
 ghost use Rattle.turn_lock.specs.Passes.{HoldsNoTurn, IsPassOf, IsSamePass};
 
-use node_core::{Looked, Work};
+use node_core::{HeldJob, Looked};
 use node_shared::{NodePass, SharedNode};
 use rel_base::NoMemory;
 use row_sets::Versions;
 use std::sync::Wait;
 
-/// Runs a work to the next read that it wants: the rows of that read in the tables after the block of a height.
+/// Runs a held job to the next read that it wants: the rows of that read in the tables after the block of a height.
 pub fn look_ahead<V: Versions, R: Wait>(
     rt: &R,
     node: &SharedNode<V>,
     pass: &mut NodePass<V>,
     height: u64,
-    work: &mut Work,
+    work: &mut HeldJob,
 ) -> Result<Option<Looked>, NoMemory>
     requires lock { IsPassOf node.now.lock pass.old }
     requires no_turn { HoldsNoTurn pass.old }

@@ -11,7 +11,7 @@ use crate::opening::open_node;
 use crate::wandering::Walk;
 use block_work::result::last_digest;
 use cluster_run::forking::{split_off, take_back};
-use cluster_run::working::{run_one, take_work};
+use cluster_run::running_jobs::{run_one, take_job};
 use cluster_run::{Crew, NoGate};
 use node_model::{Entry, Event, NodeResult, Pick};
 use node_shared::{NodePass, SharedNode};
@@ -115,7 +115,7 @@ fn look_at_read<R: Wait>(
     requires hand { HasNone other.old }
 {
     node.arrive(rt, bringer, call)?;
-    let Ok(Some(mut work)) = take_work(rt, node, other, Pick::Nth(0)) else {
+    let Ok(Some(mut work)) = take_job(rt, node, other, Pick::Nth(0)) else {
         return Err("no job waits".into());
     };
     let looked = look_ahead(rt, node, other, 0, &mut work);

@@ -5,9 +5,9 @@ ghost use Rattle.cluster_run.specs.Standing.{Has, HasNone, left_of};
 ghost use Rattle.node_tests.specs.Free.{IsFree};
 ghost use Rattle.turn_lock.specs.Passes.{HoldsNoTurn, IsPassOf, IsSamePass};
 
-use cluster_run::working::{give_up, step_work, take_work};
+use cluster_run::running_jobs::{give_up, step_job, take_job};
 use cluster_run::{Crew, NoGate};
-use node_core::Work;
+use node_core::HeldJob;
 use node_model::Pick;
 use node_shared::{NodePass, SharedNode};
 use rand::rngs::SmallRng;
@@ -25,15 +25,15 @@ pub struct Walk {
     pub steps: u32,
 }
 
-// A pass that holds nothing claims what is drawn; one that holds a work goes on with it, or gives it up three times in four.
+// A pass that holds nothing claims what is drawn; one that holds a job goes on with it, or gives it up three times in four.
 fn draw_step<V: Versions, R: Wait>(
     rt: &R,
     node: &SharedNode<V>,
     crew: &Crew<'_, NoGate>,
     pass: &mut NodePass<V>,
     drawn: u64,
-    hand: Option<Work>,
-) -> Result<Option<Work>, NoMemory>
+    hand: Option<HeldJob>,
+) -> Result<Option<HeldJob>, NoMemory>
     requires lock { IsPassOf node.now.lock pass.old }
     requires no_turn { HoldsNoTurn pass.old }
     requires hand { Has pass.old hand }
@@ -42,13 +42,13 @@ fn draw_step<V: Versions, R: Wait>(
     ensures hand { Has pass.new (left_of result) }
 {
     match hand {
-        None => take_work(rt, node, pass, Pick::Nth(drawn)),
+        None => take_job(rt, node, pass, Pick::Nth(drawn)),
         Some(work) => {
             if drawn % 4 != 0 {
                 give_up(rt, node, pass, work);
                 return Ok(None);
             }
-            step_work(rt, node, crew, pass, work)
+            step_job(rt, node, crew, pass, work)
         }
     }
 }
@@ -58,7 +58,7 @@ fn let_go<V: Versions, R: Wait>(
     rt: &R,
     node: &SharedNode<V>,
     pass: &mut NodePass<V>,
-    hand: Option<Work>,
+    hand: Option<HeldJob>,
 )
     requires lock { IsPassOf node.now.lock pass.old }
     requires no_turn { HoldsNoTurn pass.old }

@@ -3,7 +3,7 @@
 ghost use Rattle.std.specs.Prelude.{◌≡◌, ◌+◌, ◌≤◌, ◌<◌, true, false, drop, length};
 ghost use Rattle.proc_run.specs.Remains.{state, IsSameRest, IsAssigned};
 
-use crate::state::{MOST_STEPS, Run};
+use crate::state::{MOST_RUN_STEPS, Run};
 use crate::turn::put;
 use proc_code::values::eval;
 use proc_code::{Action, Term};
@@ -53,7 +53,7 @@ fn assign_next(
     ensures made { run.new.made ≡ run.old.made }
     ensures none { result ≡ false → run.new ≡ run.old }
 {
-    if run.steps >= MOST_STEPS {
+    if run.steps >= MOST_RUN_STEPS {
         return false;
     }
     match block.get(next) {

@@ -6,7 +6,7 @@ use rel_base::{List, Made, Read};
 use row_sets::Overlay;
 
 /// The number of steps that a run may take.
-pub const MOST_STEPS: u32 = 100_000;
+pub const MOST_RUN_STEPS: u32 = 100_000;
 
 /// What a run has on its way: what its variables stand for, what it wrote, the reads that it made, and the count of its steps.
 #[derive(Drop)]

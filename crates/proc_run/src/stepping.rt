@@ -13,7 +13,7 @@ ghost use Rattle.proc_run.specs.Remains.{state, goes_past, run_frames, remains, 
 
 use crate::path::{Branch, Cursor, Holder, Program, Spot};
 use crate::plan::{Plan, plan_action};
-use crate::state::{MOST_STEPS, Phase, Run};
+use crate::state::{MOST_RUN_STEPS, Phase, Run};
 use crate::turn::{hold, push_block, push_rows, put};
 use proc_code::Action;
 use proc_eval::Halt;
@@ -90,7 +90,7 @@ pub fn step_block(
     if next >= block.len() {
         return Ok(Phase::Running);
     }
-    if run.steps >= MOST_STEPS {
+    if run.steps >= MOST_RUN_STEPS {
         return Ok(Phase::Stopped(Stop::Fault(Fault::Steps)));
     }
     let slots = run.slots.as_slice();
@@ -140,7 +140,7 @@ pub fn step_rows(
     if next >= rows.len() {
         return Ok(Phase::Running);
     }
-    if run.steps >= MOST_STEPS {
+    if run.steps >= MOST_RUN_STEPS {
         return Ok(Phase::Stopped(Stop::Fault(Fault::Steps)));
     }
     match row_at(alloc, rows.as_slice(), next) {

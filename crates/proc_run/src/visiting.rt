@@ -6,7 +6,7 @@ ghost use Rattle.proc_run.specs.Remains.{state, IsSameRest, IsSameVisit};
 
 use crate::assigning::assign_all;
 use crate::path::Holder;
-use crate::state::{MOST_STEPS, Run};
+use crate::state::{MOST_RUN_STEPS, Run};
 use crate::stepping::row_at;
 use crate::turn::hold;
 use proc_code::Action;
@@ -55,7 +55,7 @@ fn visit_next(alloc: Global, visit: &Visit<'_>, next: usize, run: &mut Run) -> O
     ensures made { run.new.made ≡ run.old.made }
     ensures none { IfNone result (run.new ≡ run.old) }
 {
-    if run.steps >= MOST_STEPS {
+    if run.steps >= MOST_RUN_STEPS {
         return None;
     }
     if next >= visit.rows.len() {

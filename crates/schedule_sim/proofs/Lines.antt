@@ -94,7 +94,7 @@ module _ (node : Core) (actor : ℕ) (work : InHand) (is : IsWorkOf node actor w
       ap (option_and_then (λ number. cond (is_at_end node.app (state_of node) (job_at (state_of node).jobs number)) (Some (ToFinish number)) None)) held
       ∙ ap (λ b. cond {A = Option Ask} b (Some (ToFinish work.job)) None) (goes_on may)
 
-  -- a read of a work whose id is settled changes nothing
+  -- a read of a job whose id is settled changes nothing
   pub read_gone : WasGone node work → Takes node actor (to_read node.app (state_of node) actor) node
   read_gone gone = record {
     app = refl;

@@ -192,7 +192,7 @@ module _ (old new : Core) (work work' : InHand) (g : Got) (legal : IsLegal old.a
     gone = λ e. was_gone (settled_in work.told.tx.id (world_of old).sealed) refl (sym answered.gone ∙ e);
   }
 
--- ---- the end of a work
+-- ---- the end of a held job
 
 -- a change that lets a held job go
 lets_go : (old : Core) (work : InHand) (change : Job → Job) → IsWorkOf old work.actor work → ((change (job_in work)).status ≡ Held work.actor → ⊥)

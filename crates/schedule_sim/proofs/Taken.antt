@@ -104,9 +104,9 @@ module _ (old new : Core) (actor : ℕ) (pick : Pick) (hands : List (Option InHa
       own old new actor (Some work) hands hands' (but_idle old hands actor are (none_of (hand_of hands actor) e)) (legal_new old actor (ToClaim pick) are.legal may new (Claimed work.job) step)
       (keeps old actor (ToClaim pick) are.legal may new (Claimed work.job) step) put (claims_work old new actor pick are.legal may none work step held fresh)
 
--- ---- a work that is out of its actor's hand
+-- ---- a job that is out of its actor's hand
 
--- a work that has run on is the same for its node
+-- a job that has run on is the same for its node
 pub ran_on : (node : Core) (actor : ℕ) (old new : InHand) → IsSameRun old new → IsWorkOf node actor old → IsWorkOf node actor new
 ran_on node actor old new same is = subst (IsWorkOf node actor) (sym same) (record {
   same = is.same;

@@ -9,16 +9,16 @@ use Rattle.schedule_sim.specs.Steps.{IsActor}
 use Rattle.std.specs.Option.{option_and_then}
 use Rattle.std.specs.Prelude.{List, None, Option, Some, length, slice_get, true, ◌≡◌, ℕ}
 
--- the work in the hand of an actor, by its number
+-- the job in the hand of an actor, by its number
 abbrev pub hand_of : List (Option InHand) → ℕ → Option InHand
 hand_of hands actor = option_and_then (λ hand. hand) (slice_get hands actor)
 
--- the last read of a work found its id settled: it wants that read still, and would get that answer again
+-- the last read of a job found its id settled: it wants that read still, and would get that answer again
 pub record WasGone (node : Core) (work : InHand) : Type 0 where
   pub settled : is_settled work.told.tx.id (world_of node).sealed ≡ true
   pub may : MayAsk node work.actor (ToRead work.job)
 
--- the work is held by the actor, which holds no other job
+-- the job is held by the actor, which holds no other job
 pub record IsWorkOf (node : Core) (actor : ℕ) (work : InHand) : Type 0 where
   pub same : work.actor ≡ actor
   pub held : IsHeld node work

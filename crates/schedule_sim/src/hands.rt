@@ -5,13 +5,13 @@ ghost use Rattle.std.specs.Option.{is_some};
 ghost use Rattle.schedule_sim.specs.InHands.{AreEmpty, IsPut, hand_of};
 
 use crate::read::MOST_ACTORS;
-use node_core::Work;
+use node_core::HeldJob;
 use rel_base::{List, NoMemory};
 use std::alloc::Global;
 
-/// The work of each actor, if it holds one, at the place of its number. Those that hold works have numbers from 1 to 16, so that the first
+/// The job of each actor, if it holds one, at the place of its number. Those that hold jobs have numbers from 1 to 16, so that the first
 /// place stays empty.
-pub type Hands = List<Option<Work>>;
+pub type Hands = List<Option<HeldJob>>;
 
 /// Hands that hold nothing.
 pub fn empty_hands(alloc: Global) -> Result<Hands, NoMemory>
@@ -24,7 +24,7 @@ pub fn empty_hands(alloc: Global) -> Result<Hands, NoMemory>
     Ok(hands)
 }
 
-/// Whether an actor holds a work.
+/// Whether an actor holds a job.
 pub fn holds(hands: &Hands, actor: u32) -> bool
     ensures { result ≡ is_some (hand_of hands.now actor) }
 {
@@ -34,8 +34,8 @@ pub fn holds(hands: &Hands, actor: u32) -> bool
     }
 }
 
-/// Takes the work out of an actor's hand.
-pub fn take_work(hands: &mut Hands, actor: u32) -> Option<Work>
+/// Takes the job out of an actor's hand.
+pub fn take_job(hands: &mut Hands, actor: u32) -> Option<HeldJob>
     requires { actor < length hands.old }
     ensures work { result ≡ hand_of hands.old actor }
     ensures hands { IsPut hands.old actor None hands.new }
@@ -43,8 +43,8 @@ pub fn take_work(hands: &mut Hands, actor: u32) -> Option<Work>
     hands.replace(actor as usize, None)
 }
 
-/// Puts a work into an actor's hand.
-pub fn put_work(hands: &mut Hands, actor: u32, work: Work)
+/// Puts a job into an actor's hand.
+pub fn put_job(hands: &mut Hands, actor: u32, work: HeldJob)
     requires { actor < length hands.old }
     ensures { IsPut hands.old actor (Some work) hands.new }
 {

@@ -2,16 +2,16 @@
 #![tactic(auto)]
 
 mod hands;
+mod held_jobs;
 pub mod laws;
 mod parse;
 mod read;
-mod run;
 mod simulation;
 pub mod step;
-mod working;
+mod whole_schedule;
 
-pub use parse::{MOST_STEPS, ScheduleFault, parse_schedule};
+pub use parse::{MOST_SCHEDULE_STEPS, ScheduleFault, parse_schedule};
 pub use read::MOST_ACTORS;
-pub use run::simulate;
 pub use simulation::SimFault;
 pub use step::{Schedule, Step};
+pub use whole_schedule::simulate;

@@ -34,7 +34,7 @@ impl From<NoMemory> for ScheduleFault {
 }
 
 /// The number of steps that a schedule may have.
-pub const MOST_STEPS: u64 = 1_000_000;
+pub const MOST_SCHEDULE_STEPS: u64 = 1_000_000;
 
 /// The step of a line after the first.
 fn take_step(line: u64, text: &[u8]) -> Result<Step, ScheduleFault>
@@ -42,7 +42,7 @@ fn take_step(line: u64, text: &[u8]) -> Result<Step, ScheduleFault>
     ensures taken { GivesStep result line (items_at schedule_form line text.now) }
     ensures low { OnOk result (line ≤ 1000001) }
 {
-    if text.len() > MOST_LINE_BYTES || line > MOST_STEPS + 1 {
+    if text.len() > MOST_LINE_BYTES || line > MOST_SCHEDULE_STEPS + 1 {
         return Err(ScheduleFault::BadLine { line });
     }
     match step_of(text) {

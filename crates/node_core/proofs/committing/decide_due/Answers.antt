@@ -1,7 +1,7 @@
 use Rattle.std.proofs.Common.{refl}
 use Rattle.block_work.specs.Causes.{outcome_of}
 use Rattle.node_core.proofs.Readied.{can_add, decided_by, decided_from}
-use Rattle.node_core.specs.declared.working.Working.{Working}
+use Rattle.node_core.specs.declared.delivered_block.DeliveredBlock.{DeliveredBlock}
 use Rattle.proc_syntax.specs.Declaring.{tables_of}
 use Rattle.node_core.proofs.committing.decide_due.Goals as goal
 
@@ -20,7 +20,7 @@ returns-clause-decided g c = λ tx next done.
     let history = g.V.Versions.history c.args.chain.now.versions in
     let old = c.args.working.now in
     let made = c.make_ready.new.working in
-    let new : Working = record { block = made.block; done = c.add_decided.new.work } in
+    let new : DeliveredBlock = record { block = made.block; done = c.add_decided.new.work } in
     let verdict = c.in_ok-verdict.verdict in
     decided_by tables history c.args.jobs.now c.args.number old made verdict c.make_ready.ensures.same (c.make_ready.ensures.consistent tables c.requires.consistent) c.in_ok-verdict.ensures.outcome
     c.in_ok-verdict.ensures.sound c.take-recorded.result c.take-recorded.ensures.record new c.args.ids.now c.make_ready.new.ids tx

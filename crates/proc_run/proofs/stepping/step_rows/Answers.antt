@@ -9,13 +9,13 @@ returns-then-next-len-clause-remains c = λ tables columns S root.
     let over : length c.args.rows ≤ c.args.next = omega (arith, c.len.ensures, c.if-next-len.true) in
     loop_over tables columns S root c.args.spots.now.items c.args.holder.at c.args.holder.slot c.args.holder.table c.args.rows c.args.next (state c.args.run.now) over
 
-pub returns-then-run-ge-MOST_STEPS-clause-remains : goal.returns-then-run-ge-MOST_STEPS-clause-remains
-returns-then-run-ge-MOST_STEPS-clause-remains c = λ tables columns S root.
+pub returns-then-run-ge-MOST_RUN_STEPS-clause-remains : goal.returns-then-run-ge-MOST_RUN_STEPS-clause-remains
+returns-then-run-ge-MOST_RUN_STEPS-clause-remains c = λ tables columns S root.
     let within : c.args.next < length c.args.rows = omega (arith, c.len.ensures, c.if-next-len.false) in
-    loop_late tables columns S root c.args.spots.now.items c.args.holder.at c.args.holder.slot c.args.holder.table c.args.rows c.args.next (state c.args.run.now) within c.if-run-ge-MOST_STEPS.true
+    loop_late tables columns S root c.args.spots.now.items c.args.holder.at c.args.holder.slot c.args.holder.table c.args.rows c.args.next (state c.args.run.now) within c.if-run-ge-MOST_RUN_STEPS.true
 
 pub returns-in-Ok-clause-remains : goal.returns-in-Ok-clause-remains
 returns-in-Ok-clause-remains c = λ tables columns S root.
     let here : slice_get c.args.rows c.args.next ≡ Some c.in-Ok.row = ap (λ l. slice_get l c.args.next) (sym c.as_slice.ensures) ∙ c.in-Ok.ensures in
     rw (c.push_block.ensures.items, c.push_rows-in-Ok.ensures.items, c.hold.ensures)
-    (loop_goes tables columns S root c.args.spots.now.items c.args.holder.at c.args.holder.slot c.args.holder.table c.args.rows c.args.next (state c.args.run.now) c.in-Ok.row here c.if-run-ge-MOST_STEPS.false)
+    (loop_goes tables columns S root c.args.spots.now.items c.args.holder.at c.args.holder.slot c.args.holder.table c.args.rows c.args.next (state c.args.run.now) c.in-Ok.row here c.if-run-ge-MOST_RUN_STEPS.false)

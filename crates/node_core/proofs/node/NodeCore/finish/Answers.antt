@@ -1,7 +1,7 @@
 use Rattle.std.proofs.Common.{[], true, length, rules, subst, sym, ◌++◌, ◌∙◌, ◌≡◌, ◌∷◌}
 use Rattle.block_work.specs.Ids.{place_of_id}
 use Rattle.node_core.proofs.Ending.{end_free, finish_kept, finish_steps}
-use Rattle.node_core.proofs.Held_works.{has_spare, held_there, room_after}
+use Rattle.node_core.proofs.Held_jobs.{has_spare, held_there, room_after}
 use Rattle.node_core.proofs.Settled.{settled_is}
 use Rattle.node_core.specs.Answers.{finished_as, finished_of}
 use Rattle.node_core.specs.Core.{Core, IsHeld, Steps}

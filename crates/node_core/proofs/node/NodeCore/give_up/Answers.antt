@@ -1,7 +1,7 @@
 use Rattle.std.proofs.Common.{[], true, length, rules, subst, sym, ◌++◌, ◌∙◌, ◌≡◌, ◌∷◌}
 use Rattle.block_work.specs.Ids.{place_of_id}
 use Rattle.node_core.proofs.Ending.{back_free, release_kept}
-use Rattle.node_core.proofs.Held_works.{has_spare, held_there, room_after}
+use Rattle.node_core.proofs.Held_jobs.{has_spare, held_there, room_after}
 use Rattle.node_core.proofs.Settled.{settled_is}
 use Rattle.node_core.specs.Core.{Core, IsHeld}
 use Rattle.node_core.specs.Ends.{stage_given_back}

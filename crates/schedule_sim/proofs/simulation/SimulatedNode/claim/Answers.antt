@@ -30,4 +30,4 @@ returns-in-Some-clause-hands g c =
     let step = subst (λ (got : Option InHand). Steps c.args.self.now.node c.args.actor (ToClaim c.args.pick) (claimed_as got) c.claim.new.self) c.in-Some.is c.in_ok-claim.ensures.step in
     let held = subst (λ (got : Option InHand). IfSome got (IsHeld c.claim.new.self)) c.in-Some.is c.in_ok-claim.ensures.held in
     let fresh = subst (λ (got : Option InHand). IfSome got (IsClaimed c.args.actor)) c.in-Some.is c.in_ok-claim.ensures.fresh in
-    claim_hands c.args.self.now.node c.claim.new.self c.args.actor c.args.pick c.args.self.now.hands c.requires.actor c.requires.hands idle c.in-Some.work c.put_work.new.hands step held fresh c.put_work.ensures
+    claim_hands c.args.self.now.node c.claim.new.self c.args.actor c.args.pick c.args.self.now.hands c.requires.actor c.requires.hands idle c.in-Some.work c.put_job.new.hands step held fresh c.put_job.ensures

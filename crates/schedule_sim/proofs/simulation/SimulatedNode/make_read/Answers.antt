@@ -8,4 +8,4 @@ returns-clause-takes g c =
 pub returns-clause-hands : goal.returns-clause-hands
 returns-clause-hands g c =
     read_hands c.args.self.now.node c.args.actor c.args.work c.requires.work c.requires.others.legal c.read.new.self c.read.new.work c.in_ok-read.field-0 c.requires.goes c.in_ok-read.ensures.step
-    c.args.self.now.hands c.put_work.new.hands c.requires.others c.in_ok-read.ensures.held c.in_ok-read.ensures.answered c.put_work.ensures
+    c.args.self.now.hands c.put_job.new.hands c.requires.others c.in_ok-read.ensures.held c.in_ok-read.ensures.answered c.put_job.ensures

@@ -24,5 +24,5 @@ pub returns-in-Some-clause-hands : goal.returns-in-Some-clause-hands
 returns-in-Some-clause-hands g c =
     let node = c.args.self.now.node in
     let is = hand_is node c.args.actor c.args.self.now.hands (Some c.in-Some.work) c.requires.actor c.requires.hands c.in-Some.ensures.work in
-    release_hands node c.args.actor c.in-Some.work is c.requires.hands.legal c.release.new.self Released c.release.ensures c.take_work.new.hands
-    (but node c.args.self.now.hands c.take_work.new.hands c.args.actor c.requires.hands c.in-Some.ensures.hands)
+    release_hands node c.args.actor c.in-Some.work is c.requires.hands.legal c.release.new.self Released c.release.ensures c.take_job.new.hands
+    (but node c.args.self.now.hands c.take_job.new.hands c.args.actor c.requires.hands c.in-Some.ensures.hands)

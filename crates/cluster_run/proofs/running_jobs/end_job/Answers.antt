@@ -1,0 +1,15 @@
+use Rattle.cluster_run.proofs.Calls.{finish_back, finish_blocks, finish_over, same_trans}
+use Rattle.cluster_run.proofs.running_jobs.end_job.Goals as goal
+
+pub settle-requires-clause-over : goal.settle-requires-clause-over
+settle-requires-clause-over g c = finish_over c.args.pass.now c.finish-ended.new.pass c.finish-ended.ensures.same c.args.work c.requires.hand c.finish-ended.result c.finish-ended.ensures.turn
+
+pub settle-requires-clause-back : goal.settle-requires-clause-back
+settle-requires-clause-back g c =
+    finish_back c.args.pass.now c.finish-ended.new.pass c.finish-ended.ensures.same c.args.work c.requires.hand c.finish-ended.result c.finish-ended.ensures.err c.finish-ended.ensures.back
+
+pub returns-clause-blocks : goal.returns-clause-blocks
+returns-clause-blocks g c =
+    same_trans c.args.pass.now c.finish-ended.new.pass c.settle.new.pass c.finish-ended.ensures.same
+    (finish_blocks c.args.pass.now c.finish-ended.new.pass c.finish-ended.ensures.same c.args.work c.requires.hand c.finish-ended.result c.finish-ended.ensures.turn c.finish-ended.ensures.err)
+    c.settle.ensures.blocks

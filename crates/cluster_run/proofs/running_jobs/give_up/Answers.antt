@@ -1,0 +1,11 @@
+use Rattle.cluster_run.proofs.Hands.{release_has}
+use Rattle.cluster_run.proofs.Quiet.{step_blocks}
+use Rattle.node_model.specs.Steps.{Released, ToRelease}
+use Rattle.cluster_run.proofs.running_jobs.give_up.Goals as goal
+
+pub returns-clause-hand : goal.returns-clause-hand
+returns-clause-hand g c = release_has c.args.pass.now c.release.new.pass c.release.ensures.same c.args.work c.requires.hand Released c.release.ensures.turn
+
+pub returns-clause-blocks : goal.returns-clause-blocks
+returns-clause-blocks g c zero =
+    step_blocks c.args.pass.now c.release.new.pass c.release.ensures.same (ToRelease c.args.work.job) Released c.requires.hand.true_to c.release.ensures.turn tt zero

@@ -1,0 +1,15 @@
+use Rattle.cluster_run.proofs.Calls.{claim_blocks, claim_leaves}
+use Rattle.cluster_run.proofs.Hands.{may_claim}
+use Rattle.cluster_run.specs.Standing.{state_seen}
+use Rattle.turn_lock.specs.Passes.{pass_number}
+use Rattle.cluster_run.proofs.running_jobs.take_job.Goals as goal
+
+pub claim-requires-clause-free : goal.claim-requires-clause-free
+claim-requires-clause-free g c = may_claim (state_seen c.args.pass.now) (pass_number c.args.pass.now) c.requires.hand.none
+
+pub returns-clause-hand : goal.returns-clause-hand
+returns-clause-hand g c =
+    claim_leaves c.args.pass.now c.claim.new.pass c.claim.ensures.same c.args.pick c.claim.result c.requires.hand c.claim.ensures.turn c.claim.ensures.held c.claim.ensures.fresh c.claim.ensures.err
+
+pub returns-clause-blocks : goal.returns-clause-blocks
+returns-clause-blocks g c = claim_blocks c.args.pass.now c.claim.new.pass c.claim.ensures.same c.args.pick c.claim.result c.requires.hand c.claim.ensures.turn c.claim.ensures.err

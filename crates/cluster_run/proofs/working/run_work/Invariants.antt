@@ -1,7 +1,0 @@
-use Rattle.std.specs.Prelude.{◌≡◌}
-use Rattle.cluster_run.specs.Standing.{HasWork, SameBlocks}
-use Rattle.turn_lock.specs.Passes.{HoldsNoTurn, IsSamePass, pass_number}
-use Rattle.cluster_run.proofs.working.run_work.Given as goal
-
-abbrev pub invariant-loop : goal.invariant-loop
-invariant-loop g l = IsSamePass l.fn.pass l.pass × HoldsNoTurn l.pass × HasWork l.pass l.work × (pass_number l.fn.pass ≡ 0 → SameBlocks l.fn.pass l.pass)
