@@ -1,10 +1,14 @@
 -- A simulation answers as a run does, where it is not refused.
-use Rattle.std.proofs.Common.{Bool, IfSome, List, None, Option, Some, [], ap, append-nil, cond, false, length, refl, sym, true, ◌++◌, ◌==◌, ◌∙◌, ◌≡◌, ◌∷◌, ℕ}
+use Rattle.std.proofs.Common.{Bool, IfSome, List, None, Option, Some, [], ap, append-nil, cond, false, length, refl, sym, true, ◌++◌, ◌==◌, ◌≡◌, ◌∷◌, ℕ}
 use Rattle.std.proofs.lemmas.Bool.{eqb-true}
 use Rattle.std.specs.Prelude.{Err, Ok, Result}
 use Rattle.bcdb.specs.Accepted.{accepted}
 use Rattle.bcdb.specs.Agrees.{Adds, AnswersAsRun, is_refused}
-use Rattle.bcdb.specs.Answer.{ProgramAnswer, arrived_in, cluster_of, file_at, look_of, over_arrivals, over_cluster, over_schedule, over_simulation, over_told, says, simulation_of, status_of}
+use Rattle.bcdb.specs.ArrivalFiles.{arrived_in, file_at}
+use Rattle.bcdb.specs.ProgramAnswer.{ProgramAnswer, look_of, says, status_of}
+use Rattle.bcdb.specs.RunAnswer.{over_run}
+use Rattle.bcdb.specs.SimulationAnswer.{over_arrivals, over_node, over_schedule, over_simulation}
+use Rattle.bcdb.specs.Sources.{run_sources, simulation_sources}
 use Rattle.bcdb.specs.Refusals.{refusal_line}
 use Rattle.bcdb.specs.declared.refusal.Refusal.{Refusal}
 use Rattle.chain_file.specs.Chain.{chain}
@@ -33,14 +37,14 @@ told_by app sealed = record { blocks = results_of (tables_of app) sealed; tables
 abbrev one_reported : Look → App → List Block → Option ChainFault → ProgramAnswer
 one_reported look app blocks stop = says (status_of stop) (report_lines look (tables_of app) (node_result app blocks ∷ []) stop)
 
-simulated_as_run : (look : Look) (given : Given) (lines : List Step) (stop : Option ChainFault) → is_refused (over_told look given.app stop (simulated given lines)).status ≡ false
-    → Adds look.trace (one_reported look given.app given.blocks stop) (over_told look given.app stop (simulated given lines))
+simulated_as_run : (look : Look) (given : Given) (lines : List Step) (stop : Option ChainFault) → is_refused (over_node look given.app stop (simulated given lines)).status ≡ false
+    → Adds look.trace (one_reported look given.app given.blocks stop) (over_node look given.app stop (simulated given lines))
 simulated_as_run look given lines stop kept = by (length (scheduled given lines).sealed == length given.blocks) refl kept
   where
     by : (all : Bool) → (length (scheduled given lines).sealed == length given.blocks) ≡ all
-        → is_refused (over_told look given.app stop (cond {A = Result NodeResult ℕ} all (Ok (result_told given.app (scheduled given lines))) (Err (length (scheduled given lines).sealed)))).status ≡ false
+        → is_refused (over_node look given.app stop (cond {A = Result NodeResult ℕ} all (Ok (result_told given.app (scheduled given lines))) (Err (length (scheduled given lines).sealed)))).status ≡ false
         → Adds look.trace (one_reported look given.app given.blocks stop)
-        (over_told look given.app stop (cond {A = Result NodeResult ℕ} all (Ok (result_told given.app (scheduled given lines))) (Err (length (scheduled given lines).sealed))))
+        (over_node look given.app stop (cond {A = Result NodeResult ℕ} all (Ok (result_told given.app (scheduled given lines))) (Err (length (scheduled given lines).sealed))))
     by true e kept =
         let sealed = (schedules_seal_the_fold given lines (eqb-true (length (scheduled given lines).sealed) (length given.blocks) e)).1 in
         let journals : List ℕ = journals_text (result_told given.app (scheduled given lines) ∷ []) in
@@ -57,20 +61,20 @@ scheduled_as_run : (look : Look) (app : App) (txs : List Tx) (steps : Result (Li
 scheduled_as_run look app txs (Err line) bytes kept = absurd (cc)
 scheduled_as_run look app txs (Ok steps) bytes kept = simulated_as_run look (record { app = app; blocks = (chain bytes).0; arrivals = txs }) steps (chain bytes).1 kept
 
-arrived_as_run : (look : Look) (app : App) (txs : Result (List Tx) ℕ) (schedule blocks : List ℕ) → is_refused (over_arrivals look app txs schedule blocks).status ≡ false
-    → Adds look.trace (one_reported look app (chain blocks).0 (chain blocks).1) (over_arrivals look app txs schedule blocks)
-arrived_as_run look app (Err line) schedule blocks kept = absurd (cc)
-arrived_as_run look app (Ok txs) schedule blocks kept = scheduled_as_run look app txs (schedule_of schedule) blocks kept
+arrived_as_run : (look : Look) (app : App) (txs : Result (List Tx) ℕ) (steps : Result (List Step) ℕ) (bytes : List ℕ) → is_refused (over_arrivals look app txs steps bytes).status ≡ false
+    → Adds look.trace (one_reported look app (chain bytes).0 (chain bytes).1) (over_arrivals look app txs steps bytes)
+arrived_as_run look app (Err line) steps bytes kept = absurd (cc)
+arrived_as_run look app (Ok txs) steps bytes kept = scheduled_as_run look app txs steps bytes kept
 
 as_run : (settings : Option Settings) (files : Files) → AnswersAsRun settings files
 as_run None files = tt
 as_run (Some (Run app blocks front nodes executors flags)) files = tt
 as_run (Some (Simulate app blocks schedule front flags)) files = λ kept. by (accepted (files app)) kept
   where
-    by : (found : Result App Refusal) → is_refused (over_simulation (simulation_of app blocks schedule front flags) found files).status ≡ false
-        → Adds flags.trace (over_cluster (cluster_of app blocks None 1 0 flags) found files) (over_simulation (simulation_of app blocks schedule front flags) found files)
+    by : (found : Result App Refusal) → is_refused (over_simulation (look_of flags) (simulation_sources app blocks schedule front) found files).status ≡ false
+        → Adds flags.trace (over_run (look_of flags) (run_sources app blocks None 1) found files) (over_simulation (look_of flags) (simulation_sources app blocks schedule front) found files)
     by (Err refusal) kept = record { status = refl; more = []; bytes = sym (append-nil (refusal_line refusal)); none = λ silent. refl }
-    by (Ok checked) kept = arrived_as_run (look_of flags) checked (arrived_in (file_at front 1) files) (files schedule) (files blocks) kept
+    by (Ok checked) kept = arrived_as_run (look_of flags) checked (arrived_in (file_at front 1) files) (schedule_of (files schedule)) (files blocks) kept
 as_run (Some (Provenance app blocks query)) files = tt
 as_run (Some (Seal blocks)) files = tt
 as_run (Some (Load number)) files = tt

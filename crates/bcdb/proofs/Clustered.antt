@@ -1,21 +1,24 @@
--- What a run of nodes answers, by what its nodes tell.
+-- What a run of nodes answers, by what its nodes report.
 use Rattle.std.proofs.Common.{All, Bool, IfOk, IfSome, List, None, Option, Some, [], ap, append-nil, arith, cond, false, length, refl, replicate, slice_index_or, subst, sym, true, ◌+◌, ◌++◌, ◌∙◌, ◌≡◌, ◌∷◌, ℕ}
 use Rattle.std.proofs.lemmas.List.Elements.{All-head, All-tail}
 use Rattle.std.specs.Prelude.{Err, Ok, Result, codes}
 use Rattle.std.specs.Result.{IsOk}
 use Rattle.bcdb.specs.Accepted.{accepted}
-use Rattle.bcdb.specs.Answer.{ProgramAnswer, all_arrived, over_nodes, says, status_of}
-use Rattle.bcdb.specs.Gathered.{AreInputs}
+use Rattle.bcdb.specs.ArrivalFiles.{all_arrived}
+use Rattle.bcdb.specs.Given.{AreGiven}
+use Rattle.bcdb.specs.ProgramAnswer.{ProgramAnswer, says, status_of}
 use Rattle.bcdb.specs.Refusals.{arrivals_refusal, refusal_line}
 use Rattle.bcdb.specs.Reply.{Means}
-use Rattle.bcdb.specs.Traced.{AreJournals, FollowsNodes, RepliesCluster, RepliesNodes, followed_by}
-use Rattle.bcdb.specs.declared.cluster.Cluster.{Cluster}
-use Rattle.bcdb.specs.declared.decide.Reply.{Reply}
-use Rattle.bcdb.specs.declared.inputs.BadInput.TheVariants as bad
-use Rattle.bcdb.specs.declared.inputs.BadInput.{BadInput}
-use Rattle.bcdb.specs.declared.inputs.Inputs.{Inputs}
+use Rattle.bcdb.specs.RunAnswer.{over_nodes}
+use Rattle.bcdb.specs.Sources.{steps_in}
+use Rattle.bcdb.specs.Traced.{AreJournals, FollowsNodes, RepliesNodes, RepliesRun, followed_by}
+use Rattle.bcdb.specs.declared.reply.Reply.{Reply}
+use Rattle.bcdb.specs.declared.given.BadSource.TheVariants as bad
+use Rattle.bcdb.specs.declared.given.BadSource.{BadSource}
+use Rattle.bcdb.specs.declared.given.Given.{Given}
 use Rattle.bcdb.specs.declared.refusal.BadArrivals.{BadArrivals}
 use Rattle.bcdb.specs.declared.refusal.Refusal.{Refusal}
+use Rattle.bcdb.specs.declared.sources.Sources.{Sources}
 use Rattle.bcdb.specs.declared.status.Status.TheVariants.{AppRefused, ArrivalRefused}
 use Rattle.cluster_run.specs.Nodes.{IsNodeOf}
 use Rattle.edge_traits.specs.Shelf.{Files}
@@ -68,17 +71,37 @@ are_journals : (asked : Bool) (app : App) (blocks : List Block) (count : ℕ) (t
 are_journals false app blocks count told each counted = refl
 are_journals true app blocks count told each counted = (told, (record { counted = counted; each = each }, refl))
 
-pub replies_nodes : (asked : Cluster) (app : App) (blocks : List Block) (stop : Option ChainFault) (told : List NodeResult) (reply : Reply) → All (IsNodeOf app blocks) told → length told ≡ asked.nodes
-    → Means (says (status_of stop) (report_text asked.look (tables_of app) told stop)) reply → RepliesNodes asked app blocks stop reply
-replies_nodes asked app blocks stop told reply each counted means =
-    let shown : List ℕ = shown_if asked.look.trace (journals_text told) in
-    let same = report_same asked.look app blocks stop told each ∙ ap (λ count. report_lines asked.look (tables_of app) (replicate count (node_result app blocks)) stop) counted in
-    (shown, (are_journals asked.look.trace app blocks asked.nodes told each counted, subst (λ lines. Means (says (status_of stop) (lines ++ shown)) reply) same means))
+pub replies_nodes : (look : Look) (nodes : ℕ) (app : App) (blocks : List Block) (stop : Option ChainFault) (told : List NodeResult) (reply : Reply) → All (IsNodeOf app blocks) told → length told ≡ nodes
+    → Means (says (status_of stop) (report_text look (tables_of app) told stop)) reply → RepliesNodes look nodes app blocks stop reply
+replies_nodes look nodes app blocks stop told reply each counted means =
+    let shown : List ℕ = shown_if look.trace (journals_text told) in
+    let same = report_same look app blocks stop told each ∙ ap (λ count. report_lines look (tables_of app) (replicate count (node_result app blocks)) stop) counted in
+    (shown, (are_journals look.trace app blocks nodes told each counted, subst (λ lines. Means (says (status_of stop) (lines ++ shown)) reply) same means))
 
-pub reply_nodes : (asked : Cluster) (app : App) (blocks : List Block) (stop : Option ChainFault) (told : List NodeResult) (result : Result Reply NoMemory) → All (IsNodeOf app blocks) told → length told ≡ asked.nodes
-    → IfOk result (λ reply. Means (says (status_of stop) (report_text asked.look (tables_of app) told stop)) reply) → IfOk result (λ reply. RepliesNodes asked app blocks stop reply)
-reply_nodes asked app blocks stop told (Ok reply) each counted means = replies_nodes asked app blocks stop told reply each counted means
-reply_nodes asked app blocks stop told (Err e) each counted means = tt
+pub reply_nodes : (look : Look) (nodes : ℕ) (app : App) (blocks : List Block) (stop : Option ChainFault) (told : List NodeResult) (result : Result Reply NoMemory) → All (IsNodeOf app blocks) told → length told ≡ nodes
+    → IfOk result (λ reply. Means (says (status_of stop) (report_text look (tables_of app) told stop)) reply) → IfOk result (λ reply. RepliesNodes look nodes app blocks stop reply)
+reply_nodes look nodes app blocks stop told (Ok reply) each counted means = replies_nodes look nodes app blocks stop told reply each counted means
+reply_nodes look nodes app blocks stop told (Err e) each counted means = tt
+
+-- one node whose journal is not asked for is reported by the fold alone
+replies_alone : (look : Look) (app : App) (blocks : List Block) (stop : Option ChainFault) (reply : Reply) → look.trace ≡ false
+    → Means (says (status_of stop) (report_text look (tables_of app) (node_result app blocks ∷ []) stop)) reply → RepliesNodes look 1 app blocks stop reply
+replies_alone look app blocks stop reply silent means =
+    let told : List NodeResult = node_result app blocks ∷ [] in
+    let none : shown_if look.trace (journals_text told) ≡ [] = ap (λ b. shown_if b (journals_text told)) silent in (
+      [],
+      (
+        subst (λ b. AreJournals b app blocks 1 []) (sym silent) refl,
+        subst (λ shown. Means (says (status_of stop) (report_lines look (tables_of app) told stop ++ shown)) reply) none means,
+      ),
+    )
+
+pub reply_alone : (look : Look) (app : App) (blocks : List Block) (stop : Option ChainFault) (nodes : List NodeResult) (result : Result Reply NoMemory) → look.trace ≡ false
+    → nodes ≡ node_result app blocks ∷ [] → IfOk result (λ reply. Means (says (status_of stop) (report_text look (tables_of app) nodes stop)) reply)
+    → IfOk result (λ reply. RepliesNodes look 1 app blocks stop reply)
+reply_alone look app blocks stop nodes (Ok reply) silent is means =
+    replies_alone look app blocks stop reply silent (subst (λ (told : List NodeResult). Means (says (status_of stop) (report_text look (tables_of app) told stop)) reply) is means)
+reply_alone look app blocks stop nodes (Err e) silent is means = tt
 
 -- the results of the first of three nodes are those of the fold
 pub first_tells : (app : App) (blocks : List Block) (told : List NodeResult) (first : NodeResult) → length told ≡ 3 → All (IsNodeOf app blocks) told → slice_index_or told 0 first ≡ first
@@ -92,43 +115,55 @@ first_tells app blocks told first counted each is =
 pub alone : (meant : ProgramAnswer) (reply : Reply) → Means meant reply → Means (followed_by [] meant) reply
 alone meant reply means = record { status = means.status; bytes = means.bytes ∙ sym (append-nil meant.bytes) }
 
-ran : (asked : Cluster) (inputs : Inputs) (reply : Reply) (files : Files) → RepliesNodes asked inputs.app.app inputs.read.blocks inputs.read.fault reply → AreInputs (Ok inputs) asked files
-    → RepliesCluster asked (accepted (files asked.app)) files reply
-ran asked inputs reply files replies are =
-    let app : App = inputs.app.app in
-    subst (λ (found : Result App Refusal). RepliesCluster asked found files reply) (sym are.0)
-    (subst (λ (found : Result (List (List Tx)) BadArrivals). (lines : List ℕ) × (FollowsNodes asked app found (files asked.blocks) lines × Means (followed_by lines (over_nodes asked app found (files asked.blocks))) reply)) (sym are.1)
-    (subst (λ (read : List Block × Option ChainFault). RepliesNodes asked app read.0 read.1 reply) (sym are.2) replies))
+ran : (look : Look) (asked : Sources) (given : Given) (reply : Reply) (files : Files) → RepliesNodes look asked.nodes given.app.app given.read.blocks given.read.fault reply → AreGiven (Ok given) asked files
+    → RepliesRun look asked (accepted (files asked.app)) files reply
+ran look asked given reply files replies are =
+    let app : App = given.app.app in
+    subst (λ (found : Result App Refusal). RepliesRun look asked found files reply) (sym are.0)
+    (subst (λ (found : Result (List (List Tx)) BadArrivals). (lines : List ℕ)
+    × (FollowsNodes look asked.nodes app found (files asked.blocks) lines × Means (followed_by lines (over_nodes look asked.nodes app found (files asked.blocks))) reply)) (sym are.1)
+    (subst (λ (read : List Block × Option ChainFault). RepliesNodes look asked.nodes app read.0 read.1 reply) (sym are.3) replies))
 
-pub replies_run : (asked : Cluster) (inputs : Inputs) (result : Result Reply NoMemory) → IfOk result (λ reply. RepliesNodes asked inputs.app.app inputs.read.blocks inputs.read.fault reply)
-    → IfOk result (λ reply. (files : Files) → AreInputs (Ok inputs) asked files → RepliesCluster asked (accepted (files asked.app)) files reply)
-replies_run asked inputs (Ok reply) replies = λ files are. ran asked inputs reply files replies are
-replies_run asked inputs (Err e) replies = tt
+pub replies_run : (look : Look) (asked : Sources) (given : Given) (result : Result Reply NoMemory) → IfOk result (λ reply. RepliesNodes look asked.nodes given.app.app given.read.blocks given.read.fault reply)
+    → IfOk result (λ reply. (files : Files) → AreGiven (Ok given) asked files → RepliesRun look asked (accepted (files asked.app)) files reply)
+replies_run look asked given (Ok reply) replies = λ files are. ran look asked given reply files replies are
+replies_run look asked given (Err e) replies = tt
 
-pub replies_app : (asked : Cluster) (refusal : Refusal) (result : Result Reply NoMemory) → IfOk result (λ reply. Means (says AppRefused (refusal_line refusal)) reply)
-    → IfOk result (λ reply. (files : Files) → AreInputs (Err (bad.App refusal)) asked files → RepliesCluster asked (accepted (files asked.app)) files reply)
-replies_app asked refusal (Ok reply) means = λ files is.
-    subst (λ (found : Result App Refusal). RepliesCluster asked found files reply) (sym is) ([], (refl, alone (says AppRefused (refusal_line refusal)) reply means))
-replies_app asked refusal (Err e) means = tt
+pub replies_app : (look : Look) (asked : Sources) (refusal : Refusal) (result : Result Reply NoMemory) → IfOk result (λ reply. Means (says AppRefused (refusal_line refusal)) reply)
+    → IfOk result (λ reply. (files : Files) → AreGiven (Err (bad.App refusal)) asked files → RepliesRun look asked (accepted (files asked.app)) files reply)
+replies_app look asked refusal (Ok reply) means = λ files is.
+    subst (λ (found : Result App Refusal). RepliesRun look asked found files reply) (sym is) ([], (refl, alone (says AppRefused (refusal_line refusal)) reply means))
+replies_app look asked refusal (Err e) means = tt
 
-refused : (asked : Cluster) (fault : BadArrivals) (reply : Reply) (files : Files) (found : Result App Refusal) → Means (says ArrivalRefused (arrivals_refusal fault)) reply
-    → IsOk found → all_arrived asked.arrivals 1 asked.nodes files ≡ Err fault → RepliesCluster asked found files reply
-refused asked fault reply files (Ok app) means ok is =
-    subst (λ (found : Result (List (List Tx)) BadArrivals). (lines : List ℕ) × (FollowsNodes asked app found (files asked.blocks) lines × Means (followed_by lines (over_nodes asked app found (files asked.blocks))) reply)) (sym is)
+refused : (look : Look) (asked : Sources) (fault : BadArrivals) (reply : Reply) (files : Files) (found : Result App Refusal) → Means (says ArrivalRefused (arrivals_refusal fault)) reply
+    → IsOk found → all_arrived asked.arrivals 1 asked.nodes files ≡ Err fault → RepliesRun look asked found files reply
+refused look asked fault reply files (Ok app) means ok is =
+    subst (λ (found : Result (List (List Tx)) BadArrivals). (lines : List ℕ)
+    × (FollowsNodes look asked.nodes app found (files asked.blocks) lines × Means (followed_by lines (over_nodes look asked.nodes app found (files asked.blocks))) reply)) (sym is)
     ([], (refl, alone (says ArrivalRefused (arrivals_refusal fault)) reply means))
-refused asked fault reply files (Err refusal) means ok is = absurd (not_ok ok)
+refused look asked fault reply files (Err refusal) means ok is = absurd (not_ok ok)
   where
     not_ok : false ≡ true → ⊥
     not_ok is = cc
 
-pub replies_arrivals : (asked : Cluster) (fault : BadArrivals) (result : Result Reply NoMemory) → IfOk result (λ reply. Means (says ArrivalRefused (arrivals_refusal fault)) reply)
-    → IfOk result (λ reply. (files : Files) → AreInputs (Err (bad.Arrivals fault)) asked files → RepliesCluster asked (accepted (files asked.app)) files reply)
-replies_arrivals asked fault (Ok reply) means = λ files is. refused asked fault reply files (accepted (files asked.app)) means is.0 is.1
-replies_arrivals asked fault (Err e) means = tt
+pub replies_arrivals : (look : Look) (asked : Sources) (fault : BadArrivals) (result : Result Reply NoMemory) → IfOk result (λ reply. Means (says ArrivalRefused (arrivals_refusal fault)) reply)
+    → IfOk result (λ reply. (files : Files) → AreGiven (Err (bad.Arrivals fault)) asked files → RepliesRun look asked (accepted (files asked.app)) files reply)
+replies_arrivals look asked fault (Ok reply) means = λ files is. refused look asked fault reply files (accepted (files asked.app)) means is.0 is.1
+replies_arrivals look asked fault (Err e) means = tt
+
+-- a run has no schedule that could be refused
+pub no_schedule : (name : Option (List ℕ)) (line : ℕ) (files : Files) → name ≡ None → steps_in name files ≡ Err line → ⊥
+no_schedule None line files none is = cc
+no_schedule (Some name) line files none is = absurd (cc)
+
+pub replies_schedule : (look : Look) (asked : Sources) (line : ℕ) (result : Result Reply NoMemory) → asked.schedule ≡ None
+    → IfOk result (λ reply. (files : Files) → AreGiven (Err (bad.Schedule line)) asked files → RepliesRun look asked (accepted (files asked.app)) files reply)
+replies_schedule look asked line (Ok reply) none = λ files is. absurd (no_schedule asked.schedule line files none is.2)
+replies_schedule look asked line (Err e) none = tt
 
 -- under the words that a shelf tells its files
-pub replies_told : (told : Option Files) (asked : Cluster) (read : Result Inputs BadInput) (reply : Reply)
-    → ((files : Files) → AreInputs read asked files → RepliesCluster asked (accepted (files asked.app)) files reply)
-    → IfSome told (λ files. AreInputs read asked files) → IfSome told (λ files. RepliesCluster asked (accepted (files asked.app)) files reply)
-replies_told None asked read reply gives are = tt
-replies_told (Some files) asked read reply gives are = gives files are
+pub replies_told : (told : Option Files) (look : Look) (asked : Sources) (read : Result Given BadSource) (reply : Reply)
+    → ((files : Files) → AreGiven read asked files → RepliesRun look asked (accepted (files asked.app)) files reply)
+    → IfSome told (λ files. AreGiven read asked files) → IfSome told (λ files. RepliesRun look asked (accepted (files asked.app)) files reply)
+replies_told None look asked read reply gives are = tt
+replies_told (Some files) look asked read reply gives are = gives files are

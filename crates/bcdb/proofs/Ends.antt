@@ -3,10 +3,11 @@ use Rattle.std.proofs.Common.{IfSome, List, None, Option, Some, [], append-nil, 
 use Rattle.edge_traits.proofs.Fronts.{none_front, whole_is_front}
 use Rattle.edge_traits.specs.Shelf.{Files}
 use Rattle.edge_traits.specs.Sink.{appended}
-use Rattle.bcdb.specs.Answer.{Ends, ProgramAnswer, Writes, over_settings, says, usage_refused}
+use Rattle.bcdb.specs.Answer.{Ends, Writes, over_settings, usage_refused}
+use Rattle.bcdb.specs.ProgramAnswer.{ProgramAnswer, says}
 use Rattle.bcdb.specs.Reply.{Means}
 use Rattle.bcdb.specs.Traced.{EndsTraced, Replies, followed_by}
-use Rattle.bcdb.specs.declared.decide.Reply.{Reply}
+use Rattle.bcdb.specs.declared.reply.Reply.{Reply}
 use Rattle.bcdb.specs.declared.status.Status.TheVariants.{AppRefused, ArrivalRefused, ChainRefused, Done, NoMemory, QueryRefused, ReadFault, ScheduleRefused, Usage, WriteFault}
 use Rattle.bcdb.specs.declared.status.Status.{Status}
 use Rattle.cli_words.specs.declared.settings.Settings.{Settings}

@@ -8,10 +8,11 @@ pub mod Orders
 pub mod Simulated
 pub mod Arriving
 pub mod Long
-pub mod Asked
+pub mod Planning
 pub mod Leaves
 pub mod Agreeing
 pub mod Clustered
 pub mod Gathering
 pub mod Replying
 pub mod Whole
+pub mod Giving

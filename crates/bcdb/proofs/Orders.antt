@@ -3,7 +3,7 @@ use Rattle.std.proofs.Common.{Bool, IfSome, List, None, Option, Some, [], cond, 
 use Rattle.std.proofs.lemmas.Bool.{eqb-true}
 use Rattle.std.specs.Prelude.{Err, Ok, Result}
 use Rattle.bcdb.specs.Accepted.{accepted}
-use Rattle.bcdb.specs.Answer.{arrived_in, file_at}
+use Rattle.bcdb.specs.ArrivalFiles.{arrived_in, file_at}
 use Rattle.bcdb.specs.InOrder.{BlocksInOrder, RunsInOrder, StepsInOrder, ToldInOrder}
 use Rattle.bcdb.specs.declared.refusal.Refusal.{Refusal}
 use Rattle.chain_file.proofs.Counted.{file_numbered}

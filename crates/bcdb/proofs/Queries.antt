@@ -1,16 +1,35 @@
 -- What a node that holds a fold is asked, and what it answers.
-use Rattle.std.proofs.Common.{List, Option, Some, [], ap, map, refl, subst, sym, ◌+◌, ◌∙◌, ◌∷◌, ◌≡◌, ℕ}
+use Rattle.std.proofs.Common.{IfOk, IfSome, List, None, Option, Some, [], ap, map, refl, subst, sym, ◌+◌, ◌∙◌, ◌∷◌, ◌≡◌, ℕ}
 use Rattle.std.specs.List.{range_with_len}
 use Rattle.std.specs.Prelude.{Err, Ok, Result, length}
+use Rattle.bcdb.proofs.Clustered.{no_schedule}
+use Rattle.bcdb.specs.Accepted.{accepted}
+use Rattle.bcdb.specs.ArrivalFiles.{all_arrived}
+use Rattle.bcdb.specs.Given.{AreGiven}
+use Rattle.bcdb.specs.ProgramAnswer.{says}
+use Rattle.bcdb.specs.Refusals.{refusal_line}
+use Rattle.bcdb.specs.Reply.{Means}
 use Rattle.bcdb.specs.Selected.{Tells, selected}
+use Rattle.bcdb.specs.VersionsAnswer.{over_blocks, over_query}
+use Rattle.bcdb.specs.declared.given.BadSource.TheVariants as bad
+use Rattle.bcdb.specs.declared.given.BadSource.{BadSource}
+use Rattle.bcdb.specs.declared.given.Given.{Given}
+use Rattle.bcdb.specs.declared.refusal.BadArrivals.{BadArrivals}
+use Rattle.bcdb.specs.declared.refusal.Refusal.{Refusal}
+use Rattle.bcdb.specs.declared.reply.Reply.{Reply}
+use Rattle.bcdb.specs.declared.sources.Sources.{Sources}
+use Rattle.bcdb.specs.declared.status.Status.TheVariants.{AppRefused}
 use Rattle.block_work.specs.declared.ids.IdIndex.{IdIndex}
 use Rattle.chain_file.specs.Numbered.{NumberedFrom}
+use Rattle.edge_traits.specs.Shelf.{Files}
 use Rattle.node_model.specs.Fold.{fold}
 use Rattle.node_model.specs.declared.result.BlockResult.{BlockResult}
 use Rattle.node_model.specs.declared.version.Version.{Version}
 use Rattle.plain_node.specs.Holding.{HoldsFold}
 use Rattle.proc_syntax.specs.Declaring.{tables_of}
 use Rattle.proc_syntax.specs.declared.call.Block.{Block}
+use Rattle.proc_syntax.specs.declared.call.Tx.{Tx}
+use Rattle.proc_syntax.specs.declared.chain_fault.ChainFault.{ChainFault}
 use Rattle.proc_syntax.specs.declared.tree.App.{App}
 use Rattle.provenance.proofs.Folded.{folds_told, histories_told}
 use Rattle.provenance.specs.Answer.{answer}
@@ -20,6 +39,7 @@ use Rattle.provenance.specs.declared.query.Query.{Query}
 use Rattle.provenance.specs.declared.query.QueryFault.{QueryFault}
 use Rattle.provenance.specs.declared.query.QueryFault.TheVariants as fault
 use Rattle.rel_base.specs.Tables.{Stamped}
+use Rattle.rel_base.specs.declared.memory.NoMemory.{NoMemory}
 
 -- its store has the history that its results tell
 pub told_history : (app : App) (blocks : List Block) (history : List Stamped) (ids : IdIndex) (results : List BlockResult) → HoldsFold app blocks history ids results → history ≡ history_of results
@@ -56,3 +76,50 @@ tells_bad app blocks fault.BadQuery text asks = ap (selected app blocks) asks
 tells_bad app blocks fault.UnknownTable text asks = absurd asks
 tells_bad app blocks fault.BadKey text asks = absurd asks
 tells_bad app blocks fault.BadRange text asks = absurd asks
+
+-- ---- what was read of the files decides
+
+given_means : (query : List ℕ) (asked : Sources) (files : Files) (given : Given) (reply : Reply) → AreGiven (Ok given) asked files
+    → Means (over_blocks query given.app.app given.read.blocks given.read.fault) reply → Means (over_query query (accepted (files asked.app)) (files asked.blocks)) reply
+given_means query asked files given reply are means =
+    subst (λ (f : Result App Refusal). Means (over_query query f (files asked.blocks)) reply) (sym are.0)
+    (subst (λ (read : List Block × Option ChainFault). Means (over_blocks query given.app.app read.0 read.1) reply) (sym are.3) means)
+
+none_bad : (why : BadArrivals) (found : Result (List (List Tx)) BadArrivals) → found ≡ Ok [] → found ≡ Err why → ⊥
+none_bad why found fine is = cc
+
+-- nothing arrives at no nodes
+no_arrivals : (prefix : Option (List ℕ)) (nodes : ℕ) (why : BadArrivals) (files : Files) → nodes ≡ 0 → all_arrived prefix 1 nodes files ≡ Err why → ⊥
+no_arrivals prefix nodes why files none is = none_bad why (all_arrived prefix 1 nodes files) (ap (λ count. all_arrived prefix 1 count files) none) is
+
+pub query_means : (query : List ℕ) (given : Given) (result : Result Reply NoMemory) → IfOk result (λ reply. Means (over_blocks query given.app.app given.read.blocks given.read.fault) reply)
+    → IfOk result (λ reply. (asked : Sources) (files : Files) → asked.nodes ≡ 0 → asked.schedule ≡ None → AreGiven (Ok given) asked files
+    → Means (over_query query (accepted (files asked.app)) (files asked.blocks)) reply)
+query_means query given (Ok reply) means = λ asked files none unscheduled are. given_means query asked files given reply are means
+query_means query given (Err e) means = tt
+
+pub app_means : (query : List ℕ) (refusal : Refusal) (result : Result Reply NoMemory) → IfOk result (λ reply. Means (says AppRefused (refusal_line refusal)) reply)
+    → IfOk result (λ reply. (asked : Sources) (files : Files) → asked.nodes ≡ 0 → asked.schedule ≡ None → AreGiven (Err (bad.App refusal)) asked files
+    → Means (over_query query (accepted (files asked.app)) (files asked.blocks)) reply)
+app_means query refusal (Ok reply) means = λ asked files none unscheduled is.
+    subst (λ (f : Result App Refusal). Means (over_query query f (files asked.blocks)) reply) (sym is) means
+app_means query refusal (Err e) means = tt
+
+pub arrivals_mean : (query : List ℕ) (why : BadArrivals) (result : Result Reply NoMemory)
+    → IfOk result (λ reply. (asked : Sources) (files : Files) → asked.nodes ≡ 0 → asked.schedule ≡ None → AreGiven (Err (bad.Arrivals why)) asked files
+    → Means (over_query query (accepted (files asked.app)) (files asked.blocks)) reply)
+arrivals_mean query why (Ok reply) = λ asked files none unscheduled is. absurd (no_arrivals asked.arrivals asked.nodes why files none is.1)
+arrivals_mean query why (Err e) = tt
+
+pub schedule_means : (query : List ℕ) (line : ℕ) (result : Result Reply NoMemory)
+    → IfOk result (λ reply. (asked : Sources) (files : Files) → asked.nodes ≡ 0 → asked.schedule ≡ None → AreGiven (Err (bad.Schedule line)) asked files
+    → Means (over_query query (accepted (files asked.app)) (files asked.blocks)) reply)
+schedule_means query line (Ok reply) = λ asked files none unscheduled is. absurd (no_schedule asked.schedule line files unscheduled is.2)
+schedule_means query line (Err e) = tt
+
+-- over a shelf that tells its files
+pub means_told : (told : Option Files) (query : List ℕ) (asked : Sources) (read : Result Given BadSource) (reply : Reply) → asked.nodes ≡ 0 → asked.schedule ≡ None
+    → ((asked : Sources) (files : Files) → asked.nodes ≡ 0 → asked.schedule ≡ None → AreGiven read asked files → Means (over_query query (accepted (files asked.app)) (files asked.blocks)) reply)
+    → IfSome told (λ files. AreGiven read asked files) → IfSome told (λ files. Means (over_query query (accepted (files asked.app)) (files asked.blocks)) reply)
+means_told None query asked read reply none unscheduled gives are = tt
+means_told (Some files) query asked read reply none unscheduled gives are = gives asked files none unscheduled are

@@ -5,7 +5,7 @@ use Rattle.bcdb.proofs.Clustered.{alone}
 use Rattle.bcdb.specs.Answer.{over_settings}
 use Rattle.bcdb.specs.Reply.{Means}
 use Rattle.bcdb.specs.Traced.{Follows, Replies}
-use Rattle.bcdb.specs.declared.decide.Reply.{Reply}
+use Rattle.bcdb.specs.declared.reply.Reply.{Reply}
 use Rattle.bcdb.specs.declared.fault.FilesFault.{FilesFault}
 use Rattle.cli_words.specs.declared.settings.Settings.{Settings}
 use Rattle.edge_traits.specs.Shelf.{Files}

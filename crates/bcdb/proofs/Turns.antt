@@ -1,25 +1,14 @@
--- The block file has its turn where the bytes that were read are an application.
-use Rattle.std.proofs.Common.{Bool, IfSome, List, None, Option, Some, ap, arith, cond, false, length, refl, subst, sym, true, ◌<◌, ◌∙◌, ◌≡◌, ℕ}
-use Rattle.std.specs.Prelude.{Err, Ok, Result, nat_le}
-use Rattle.std.specs.Result.{IsOk}
+-- What the bytes of a file are read as is what the file is.
+use Rattle.std.proofs.Common.{Bool, IfSome, List, None, Option, Some, arith, cond, false, length, refl, subst, true, ◌<◌, ◌≡◌, ℕ}
+use Rattle.std.specs.Prelude.{Err, Result, nat_le}
 use Rattle.bcdb.specs.Accepted.{accepted, too_long, typed}
-use Rattle.bcdb.specs.Answer.{over_app, says}
-use Rattle.bcdb.specs.Reply.{Means}
 use Rattle.bcdb.specs.Taking.{GivesApp}
-use Rattle.bcdb.specs.declared.decide.Reply.{Reply}
-use Rattle.bcdb.specs.declared.status.Status.TheVariants.{AppRefused}
 use Rattle.edge_traits.specs.Shelf.{Files}
-use Rattle.bcdb.specs.Refusals.{refusal_line}
 use Rattle.bcdb.specs.declared.refusal.Refusal.{Refusal}
 use Rattle.proc_check.specs.declared.checked.Checked.{Checked}
 use Rattle.proc_parse.specs.Grammar.{application}
 use Rattle.proc_parse.specs.Tokens.{tokens_of}
 use Rattle.proc_syntax.specs.declared.tree.App.{App}
-
-pub has_turn : (told : Option Files) (name bytes : List ℕ) (app : App) → IfSome told (λ files. bytes ≡ files name) → accepted bytes ≡ Ok app
-    → IfSome told (λ files. IsOk (accepted (files name)))
-has_turn None name bytes app same is = tt
-has_turn (Some files) name bytes app same is = subst (λ found. IsOk found) (sym (ap accepted (sym same) ∙ is)) refl
 
 refused : (b : Bool) (found : Result App Refusal) → b ≡ false → cond b found (Err too_long) ≡ Err too_long
 refused true found is = absurd (not_both is)
@@ -35,13 +24,6 @@ not_short most count lt = grind (arith, lt)
 pub too_long_told : (told : Option Files) (name : List ℕ) → IfSome told (λ files. 1048576 < length (files name)) → IfSome told (λ files. accepted (files name) ≡ Err too_long)
 too_long_told None name long = tt
 too_long_told (Some files) name long = refused (nat_le (length (files name)) 1048576) (typed (application (tokens_of (files name)))) (not_short 1048576 (length (files name)) long)
-
--- bytes that are no application are refused
-pub refused_told : (query : List ℕ) (told : Option Files) (app_name name bytes : List ℕ) (refusal : Refusal) (reply : Reply) → IfSome told (λ files. bytes ≡ files app_name) → accepted bytes ≡ Err refusal
-    → Means (says AppRefused (refusal_line refusal)) reply → IfSome told (λ files. Means (over_app query (accepted (files app_name)) (files name)) reply)
-refused_told query None app_name name bytes refusal reply same is means = tt
-refused_told query (Some files) app_name name bytes refusal reply same is means =
-    subst (λ found. Means (over_app query found (files name)) reply) (sym (ap accepted (sym same) ∙ is)) means
 
 -- what the bytes of a file are read as is what the file is
 pub given_told : (told : Option Files) (name bytes : List ℕ) (read : Result Checked Refusal) → IfSome told (λ files. bytes ≡ files name) → GivesApp read (accepted bytes)

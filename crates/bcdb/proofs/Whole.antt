@@ -1,17 +1,25 @@
 -- The answer is whole exactly where nothing is refused.
-use Rattle.std.proofs.Common.{IfSome, List, None, Option, Some, ap, inl, inr, refl, subst, sym, ◌∙◌, ◌≡◌, ◌⊎◌, ℕ}
+use Rattle.std.proofs.Common.{IfSome, List, None, Option, Some, [], ap, inl, inr, refl, subst, sym, ◌∙◌, ◌≡◌, ◌⊎◌, ℕ}
 use Rattle.std.specs.Prelude.{Err, IsOk, Ok, Result}
 use Rattle.bcdb.proofs.Ends.{ends_refused, ends_short}
+use Rattle.bcdb.proofs.Planning.{all_sound, both_sound, first_sound, rest_sound, sound_all}
 use Rattle.bcdb.specs.Accepted.{accepted}
-use Rattle.bcdb.specs.Answer.{ProgramAnswer, Writes, all_arrived, arrived_in, cluster_of, over_app, over_arrivals, over_cluster, over_load, over_nodes, over_schedule, over_settings, over_simulation, over_told, over_versions, read_refused, sealed, simulation_of, status_of, usage_refused}
-use Rattle.bcdb.specs.Causes.{RoseAtNamed, RoseInTurn}
+use Rattle.bcdb.specs.Answer.{Writes, over_settings, read_refused, usage_refused}
+use Rattle.bcdb.specs.ArrivalFiles.{all_arrived, arrived_before, arrived_in, file_at}
+use Rattle.bcdb.specs.LoadAnswer.{over_load}
+use Rattle.bcdb.specs.Plan.{AppFile, AreSound, BlocksFile, RoseAt, RoseIn, ScheduleFile, arrivals_plan, plan_from_arrivals, plan_from_schedule, plan_of, planned, planned_if, sources_plan}
+use Rattle.bcdb.specs.ProgramAnswer.{ProgramAnswer, look_of, status_of}
+use Rattle.bcdb.specs.RunAnswer.{over_nodes, over_run}
+use Rattle.bcdb.specs.SealAnswer.{sealed}
 use Rattle.bcdb.specs.Selected.{selected}
+use Rattle.bcdb.specs.SimulationAnswer.{over_arrivals, over_node, over_simulation}
+use Rattle.bcdb.specs.Sources.{query_sources, run_sources, simulation_sources, steps_in}
 use Rattle.bcdb.specs.Traced.{EndsTraced, followed_by}
-use Rattle.bcdb.specs.Whole.{IsFaultless, IsWhole, IsWholeCluster, IsWholeFrom, IsWholeQuery, IsWholeSimulation, SealsAll}
-use Rattle.bcdb.specs.declared.cluster.Cluster.{Cluster}
+use Rattle.bcdb.specs.VersionsAnswer.{over_query, over_versions}
+use Rattle.bcdb.specs.Whole.{IsWhole, SealsAll, Selects}
 use Rattle.bcdb.specs.declared.refusal.BadArrivals.{BadArrivals}
 use Rattle.bcdb.specs.declared.refusal.Refusal.{Refusal}
-use Rattle.bcdb.specs.declared.simulation.Simulation.{Simulation}
+use Rattle.bcdb.specs.declared.sources.Sources.{Sources}
 use Rattle.bcdb.specs.declared.status.Status.TheVariants.{AppRefused, ArrivalRefused, ChainRefused, Done, NoMemory, QueryRefused, ReadFault, ScheduleRefused, Usage, WriteFault}
 use Rattle.bcdb.specs.declared.status.Status.{Status}
 use Rattle.chain_file.specs.Chain.{chain}
@@ -19,7 +27,7 @@ use Rattle.cli_words.specs.declared.settings.WordsFault.TheVariants as fault
 use Rattle.cli_words.specs.declared.settings.WordsFault.{WordsFault}
 use Rattle.cli_words.specs.declared.settings.Settings.TheVariants.{Load, Provenance, Run, Seal, Simulate}
 use Rattle.cli_words.specs.declared.settings.Settings.{Settings}
-use Rattle.edge_traits.specs.Causes.{Counts, Rose}
+use Rattle.edge_traits.specs.Causes.{Counts}
 use Rattle.edge_traits.specs.Shelf.{Files}
 use Rattle.load_gen.specs.Application.{app_text}
 use Rattle.node_model.specs.declared.result.NodeResult.{NodeResult}
@@ -33,46 +41,94 @@ use Rattle.provenance.specs.declared.query.QueryFault.{QueryFault}
 use Rattle.rel_base.specs.declared.schema.TableDef.{TableDef}
 use Rattle.report_text.specs.declared.look.Look.{Look}
 use Rattle.schedule_sim.specs.Running.{simulated}
-use Rattle.schedule_sim.specs.Schedules.{schedule_of}
 use Rattle.schedule_sim.specs.declared.step.Step.{Step}
+
+-- ---- the files of a plan are what they must be exactly where each is
+
+-- of the files that a command reads: the application, what arrives, the schedule and the blocks
+pub record AllSound (asked : Sources) (files : Files) : Type 0 where
+  pub app : IsOk (accepted (files asked.app))
+  pub arrivals : IsOk (all_arrived asked.arrivals 1 asked.nodes files)
+  pub schedule : IsOk (steps_in asked.schedule files)
+  pub blocks : (chain (files asked.blocks)).1 ≡ None
+
+steps_ok : (name : Option (List ℕ)) (files : Files) → AreSound (planned_if ScheduleFile name) files → IsOk (steps_in name files)
+steps_ok None files sound = refl
+steps_ok (Some name) files sound = sound.0
+
+ok_steps : (name : Option (List ℕ)) (files : Files) → IsOk (steps_in name files) → AreSound (planned_if ScheduleFile name) files
+ok_steps None files ok = tt
+ok_steps (Some name) files ok = (ok, tt)
+
+all_of : (asked : Sources) (files : Files) → AreSound (sources_plan asked) files → AllSound asked files
+all_of asked files sound =
+    let app : AreSound (planned AppFile asked.app) files = first_sound (planned AppFile asked.app) (plan_from_arrivals asked) files sound in
+    let later : AreSound (plan_from_arrivals asked) files = rest_sound (planned AppFile asked.app) (plan_from_arrivals asked) files sound in
+    let arrivals = first_sound (arrivals_plan asked.arrivals 1 asked.nodes) (plan_from_schedule asked) files later in
+    let last : AreSound (plan_from_schedule asked) files = rest_sound (arrivals_plan asked.arrivals 1 asked.nodes) (plan_from_schedule asked) files later in
+    let schedule = first_sound (planned_if ScheduleFile asked.schedule) (planned BlocksFile asked.blocks) files last in
+    let blocks : AreSound (planned BlocksFile asked.blocks) files = rest_sound (planned_if ScheduleFile asked.schedule) (planned BlocksFile asked.blocks) files last in
+    record {
+      app = app.0;
+      arrivals = sound_all asked.arrivals 1 asked.nodes files arrivals;
+      schedule = steps_ok asked.schedule files schedule;
+      blocks = blocks.0;
+    }
+
+of_all : (asked : Sources) (files : Files) → AllSound asked files → AreSound (sources_plan asked) files
+of_all asked files all =
+    both_sound (planned AppFile asked.app) (plan_from_arrivals asked) files (all.app, tt)
+    (both_sound (arrivals_plan asked.arrivals 1 asked.nodes) (plan_from_schedule asked) files (all_sound asked.arrivals 1 asked.nodes files all.arrivals)
+    (both_sound (planned_if ScheduleFile asked.schedule) (planned BlocksFile asked.blocks) files (ok_steps asked.schedule files all.schedule) (all.blocks, tt)))
+
+-- what arrives at one node
+one_ok : (prefix : Option (List ℕ)) (files : Files) → IsOk (all_arrived prefix 1 1 files) → IsOk (arrived_in (file_at prefix 1) files)
+one_ok prefix files ok = by (arrived_in (file_at prefix 1) files) ok
+  where
+    by : (found : Result (List Tx) ℕ) → IsOk (arrived_before 1 found (Ok [])) → IsOk found
+    by (Ok txs) fine = refl
+    by (Err line) fine = absurd (cc)
+
+ok_one : (prefix : Option (List ℕ)) (files : Files) → IsOk (arrived_in (file_at prefix 1) files) → IsOk (all_arrived prefix 1 1 files)
+ok_one prefix files ok = by (arrived_in (file_at prefix 1) files) ok
+  where
+    by : (found : Result (List Tx) ℕ) → IsOk found → IsOk (arrived_before 1 found (Ok []))
+    by (Ok txs) fine = refl
+    by (Err line) fine = absurd (cc)
 
 -- ---- where nothing is refused, the answer's status is that of a whole one
 
-nodes_done : (asked : Cluster) (app : App) (txs : Result (List (List Tx)) BadArrivals) (bytes : List ℕ) → IsOk txs → IsFaultless bytes → (over_nodes asked app txs bytes).status ≡ Done
-nodes_done asked app (Err bad) bytes ok faultless = absurd (cc)
-nodes_done asked app (Ok txs) bytes ok faultless = ap status_of faultless
+nodes_done : (look : Look) (nodes : ℕ) (app : App) (txs : Result (List (List Tx)) BadArrivals) (bytes : List ℕ) → IsOk txs → (chain bytes).1 ≡ None → (over_nodes look nodes app txs bytes).status ≡ Done
+nodes_done look nodes app (Err bad) bytes ok faultless = absurd (cc)
+nodes_done look nodes app (Ok txs) bytes ok faultless = ap status_of faultless
 
-cluster_done : (asked : Cluster) (found : Result App Refusal) (files : Files) → IsWholeCluster asked found files → (over_cluster asked found files).status ≡ Done
-cluster_done asked (Err refusal) files whole = absurd whole
-cluster_done asked (Ok app) files whole = nodes_done asked app (all_arrived asked.arrivals 1 asked.nodes files) (files asked.blocks) whole.0 whole.1
+run_done : (look : Look) (asked : Sources) (found : Result App Refusal) (files : Files) → IsOk found → AllSound asked files → (over_run look asked found files).status ≡ Done
+run_done look asked (Err refusal) files ok all = absurd (cc)
+run_done look asked (Ok app) files ok all = nodes_done look asked.nodes app (all_arrived asked.arrivals 1 asked.nodes files) (files asked.blocks) all.arrivals all.blocks
 
-told_done : (look : Look) (app : App) (stop : Option ChainFault) (told : Result NodeResult ℕ) → stop ≡ None → IsOk told → (over_told look app stop told).status ≡ Done
-told_done look app stop (Err count) faultless ok = absurd (cc)
-told_done look app stop (Ok told) faultless ok = ap status_of faultless
+node_done : (look : Look) (app : App) (stop : Option ChainFault) (node : Result NodeResult ℕ) → stop ≡ None → IsOk node → (over_node look app stop node).status ≡ Done
+node_done look app stop (Err count) faultless ok = absurd (cc)
+node_done look app stop (Ok node) faultless ok = ap status_of faultless
 
-schedule_done : (look : Look) (app : App) (txs : List Tx) (steps : Result (List Step) ℕ) (bytes : List ℕ) → SealsAll app txs steps bytes
-    → (over_schedule look app txs steps bytes).status ≡ Done
-schedule_done look app txs (Err line) bytes whole = absurd whole
-schedule_done look app txs (Ok steps) bytes whole =
-    told_done look app (chain bytes).1 (simulated (record { app = app; blocks = (chain bytes).0; arrivals = txs }) steps) whole.0 whole.1
-
-arrivals_done : (look : Look) (app : App) (txs : Result (List Tx) ℕ) (schedule blocks : List ℕ) → IsWholeFrom app txs schedule blocks
-    → (over_arrivals look app txs schedule blocks).status ≡ Done
-arrivals_done look app (Err line) schedule blocks whole = absurd whole
-arrivals_done look app (Ok txs) schedule blocks whole = schedule_done look app txs (schedule_of schedule) blocks whole
-
-simulation_done : (asked : Simulation) (found : Result App Refusal) (files : Files) → IsWholeSimulation asked found files → (over_simulation asked found files).status ≡ Done
-simulation_done asked (Err refusal) files whole = absurd whole
-simulation_done asked (Ok app) files whole = arrivals_done asked.look app (arrived_in asked.arrivals files) (files asked.schedule) (files asked.blocks) whole
+simulation_done : (look : Look) (found : Result App Refusal) (asked : Sources) (files : Files) → (chain (files asked.blocks)).1 ≡ None
+    → SealsAll found (arrived_in (file_at asked.arrivals 1) files) (steps_in asked.schedule files) (files asked.blocks) → (over_simulation look asked found files).status ≡ Done
+simulation_done look (Err refusal) asked files faultless seals = absurd seals
+simulation_done look (Ok app) asked files faultless seals = by (arrived_in (file_at asked.arrivals 1) files) (steps_in asked.schedule files) seals
+  where
+    by : (txs : Result (List Tx) ℕ) (steps : Result (List Step) ℕ) → SealsAll (Ok app) txs steps (files asked.blocks) → (over_arrivals look app txs steps (files asked.blocks)).status ≡ Done
+    by (Err line) steps all = absurd all
+    by (Ok txs) (Err line) all = absurd all
+    by (Ok txs) (Ok steps) all =
+        node_done look app (chain (files asked.blocks)).1 (simulated (record { app = app; blocks = (chain (files asked.blocks)).0; arrivals = txs }) steps) faultless all
 
 versions_done : (tables : List TableDef) (stop : Option ChainFault) (versions : Result (List Version) QueryFault) → stop ≡ None → IsOk versions
     → (over_versions tables stop versions).status ≡ Done
 versions_done tables stop (Err fault) faultless ok = absurd (cc)
 versions_done tables stop (Ok versions) faultless ok = ap status_of faultless
 
-query_done : (query : List ℕ) (found : Result App Refusal) (bytes : List ℕ) → IsWholeQuery query found bytes → (over_app query found bytes).status ≡ Done
-query_done query (Err refusal) bytes whole = absurd whole
-query_done query (Ok app) bytes whole = versions_done _ (chain bytes).1 (selected app (chain bytes).0 (query_of query)) whole.0 whole.1
+query_done : (query : List ℕ) (found : Result App Refusal) (bytes : List ℕ) → (chain bytes).1 ≡ None → Selects query found bytes → (over_query query found bytes).status ≡ Done
+query_done query (Err refusal) bytes faultless selects = absurd selects
+query_done query (Ok app) bytes faultless selects = versions_done _ (chain bytes).1 (selected app (chain bytes).0 (query_of query)) faultless selects
 
 sealed_done : (blocks : List Block) (stop : Option ChainFault) → stop ≡ None → (sealed blocks stop).status ≡ Done
 sealed_done blocks None faultless = refl
@@ -83,12 +139,20 @@ load_done number (Err refusal) ok = absurd (cc)
 load_done number (Ok app) ok = refl
 
 pub whole_done : (settings : Option Settings) (files : Files) → IsWhole settings files → (over_settings settings files).status ≡ Done
-whole_done None files whole = absurd whole
-whole_done (Some (Run app blocks front nodes executors flags)) files whole = cluster_done (cluster_of app blocks front nodes executors flags) (accepted (files app)) files whole
-whole_done (Some (Simulate app blocks schedule front flags)) files whole = simulation_done (simulation_of app blocks schedule front flags) (accepted (files app)) files whole
-whole_done (Some (Provenance app blocks query)) files whole = query_done query (accepted (files app)) (files blocks) whole
-whole_done (Some (Seal blocks)) files whole = sealed_done (chain (files blocks)).0 (chain (files blocks)).1 whole
-whole_done (Some (Load number)) files whole = load_done number (accepted app_text) whole
+whole_done None files whole = absurd whole.1
+whole_done (Some (Run app blocks arrivals nodes executors flags)) files whole =
+    let asked : Sources = run_sources app blocks arrivals nodes in
+    let all = all_of asked files whole.0 in
+    run_done (look_of flags) asked (accepted (files app)) files all.app all
+whole_done (Some (Simulate app blocks schedule arrivals flags)) files whole =
+    let asked : Sources = simulation_sources app blocks schedule arrivals in
+    let all = all_of asked files whole.0 in
+    simulation_done (look_of flags) (accepted (files app)) asked files all.blocks whole.1
+whole_done (Some (Provenance app blocks query)) files whole =
+    let all = all_of (query_sources app blocks) files whole.0 in
+    query_done query (accepted (files app)) (files blocks) all.blocks whole.1
+whole_done (Some (Seal blocks)) files whole = sealed_done (chain (files blocks)).0 (chain (files blocks)).1 whole.0.0
+whole_done (Some (Load number)) files whole = load_done number (accepted app_text) whole.1
 
 -- ---- and only there
 
@@ -96,41 +160,50 @@ no_stop : (stop : Option ChainFault) → status_of stop ≡ Done → stop ≡ No
 no_stop None is = refl
 no_stop (Some fault) is = absurd (cc)
 
-done_nodes : (asked : Cluster) (app : App) (txs : Result (List (List Tx)) BadArrivals) (bytes : List ℕ) → (over_nodes asked app txs bytes).status ≡ Done → IsOk txs × IsFaultless bytes
-done_nodes asked app (Err bad) bytes is = absurd (cc)
-done_nodes asked app (Ok txs) bytes is = (refl, no_stop (chain bytes).1 is)
+done_nodes : (look : Look) (nodes : ℕ) (app : App) (txs : Result (List (List Tx)) BadArrivals) (bytes : List ℕ) → (over_nodes look nodes app txs bytes).status ≡ Done
+    → IsOk txs × ((chain bytes).1 ≡ None)
+done_nodes look nodes app (Err bad) bytes is = absurd (cc)
+done_nodes look nodes app (Ok txs) bytes is = (refl, no_stop (chain bytes).1 is)
 
-done_cluster : (asked : Cluster) (found : Result App Refusal) (files : Files) → (over_cluster asked found files).status ≡ Done → IsWholeCluster asked found files
-done_cluster asked (Err refusal) files is = absurd (cc)
-done_cluster asked (Ok app) files is = done_nodes asked app (all_arrived asked.arrivals 1 asked.nodes files) (files asked.blocks) is
+done_run : (look : Look) (asked : Sources) (found : Result App Refusal) (files : Files) → (over_run look asked found files).status ≡ Done
+    → IsOk found × (IsOk (all_arrived asked.arrivals 1 asked.nodes files) × ((chain (files asked.blocks)).1 ≡ None))
+done_run look asked (Err refusal) files is = absurd (cc)
+done_run look asked (Ok app) files is = (refl, done_nodes look asked.nodes app (all_arrived asked.arrivals 1 asked.nodes files) (files asked.blocks) is)
 
-done_told : (look : Look) (app : App) (stop : Option ChainFault) (told : Result NodeResult ℕ) → (over_told look app stop told).status ≡ Done → (stop ≡ None) × IsOk told
-done_told look app stop (Err count) is = absurd (cc)
-done_told look app stop (Ok told) is = (no_stop stop is, refl)
+done_node : (look : Look) (app : App) (stop : Option ChainFault) (node : Result NodeResult ℕ) → (over_node look app stop node).status ≡ Done → (stop ≡ None) × IsOk node
+done_node look app stop (Err count) is = absurd (cc)
+done_node look app stop (Ok node) is = (no_stop stop is, refl)
 
-done_schedule : (look : Look) (app : App) (txs : List Tx) (steps : Result (List Step) ℕ) (bytes : List ℕ) → (over_schedule look app txs steps bytes).status ≡ Done
-    → SealsAll app txs steps bytes
-done_schedule look app txs (Err line) bytes is = absurd (cc)
-done_schedule look app txs (Ok steps) bytes is =
-    done_told look app (chain bytes).1 (simulated (record { app = app; blocks = (chain bytes).0; arrivals = txs }) steps) is
+-- what a simulation reads and comes to
+pub record Simulates (found : Result App Refusal) (txs : Result (List Tx) ℕ) (steps : Result (List Step) ℕ) (bytes : List ℕ) : Type 0 where
+  pub app : IsOk found
+  pub arrivals : IsOk txs
+  pub schedule : IsOk steps
+  pub blocks : (chain bytes).1 ≡ None
+  pub seals : SealsAll found txs steps bytes
 
-done_arrivals : (look : Look) (app : App) (txs : Result (List Tx) ℕ) (schedule blocks : List ℕ) → (over_arrivals look app txs schedule blocks).status ≡ Done
-    → IsWholeFrom app txs schedule blocks
-done_arrivals look app (Err line) schedule blocks is = absurd (cc)
-done_arrivals look app (Ok txs) schedule blocks is = done_schedule look app txs (schedule_of schedule) blocks is
+done_arrivals : (look : Look) (app : App) (txs : Result (List Tx) ℕ) (steps : Result (List Step) ℕ) (bytes : List ℕ) → (over_arrivals look app txs steps bytes).status ≡ Done
+    → Simulates (Ok app) txs steps bytes
+done_arrivals look app (Err line) steps bytes is = absurd (cc)
+done_arrivals look app (Ok txs) (Err line) bytes is = absurd (cc)
+done_arrivals look app (Ok txs) (Ok steps) bytes is =
+    let both = done_node look app (chain bytes).1 (simulated (record { app = app; blocks = (chain bytes).0; arrivals = txs }) steps) is in
+    record { app = refl; arrivals = refl; schedule = refl; blocks = both.0; seals = both.1 }
 
-done_simulation : (asked : Simulation) (found : Result App Refusal) (files : Files) → (over_simulation asked found files).status ≡ Done → IsWholeSimulation asked found files
-done_simulation asked (Err refusal) files is = absurd (cc)
-done_simulation asked (Ok app) files is = done_arrivals asked.look app (arrived_in asked.arrivals files) (files asked.schedule) (files asked.blocks) is
+done_simulation : (look : Look) (asked : Sources) (found : Result App Refusal) (files : Files) → (over_simulation look asked found files).status ≡ Done
+    → Simulates found (arrived_in (file_at asked.arrivals 1) files) (steps_in asked.schedule files) (files asked.blocks)
+done_simulation look asked (Err refusal) files is = absurd (cc)
+done_simulation look asked (Ok app) files is = done_arrivals look app (arrived_in (file_at asked.arrivals 1) files) (steps_in asked.schedule files) (files asked.blocks) is
 
 done_versions : (tables : List TableDef) (stop : Option ChainFault) (versions : Result (List Version) QueryFault) → (over_versions tables stop versions).status ≡ Done
     → (stop ≡ None) × IsOk versions
 done_versions tables stop (Err fault) is = absurd (cc)
 done_versions tables stop (Ok versions) is = (no_stop stop is, refl)
 
-done_query : (query : List ℕ) (found : Result App Refusal) (bytes : List ℕ) → (over_app query found bytes).status ≡ Done → IsWholeQuery query found bytes
+done_query : (query : List ℕ) (found : Result App Refusal) (bytes : List ℕ) → (over_query query found bytes).status ≡ Done
+    → IsOk found × (((chain bytes).1 ≡ None) × Selects query found bytes)
 done_query query (Err refusal) bytes is = absurd (cc)
-done_query query (Ok app) bytes is = done_versions _ (chain bytes).1 (selected app (chain bytes).0 (query_of query)) is
+done_query query (Ok app) bytes is = (refl, done_versions _ (chain bytes).1 (selected app (chain bytes).0 (query_of query)) is)
 
 done_sealed : (blocks : List Block) (stop : Option ChainFault) → (sealed blocks stop).status ≡ Done → stop ≡ None
 done_sealed blocks None is = refl
@@ -142,11 +215,19 @@ done_load number (Ok app) is = refl
 
 pub done_whole : (settings : Option Settings) (files : Files) → (over_settings settings files).status ≡ Done → IsWhole settings files
 done_whole None files is = absurd (cc)
-done_whole (Some (Run app blocks front nodes executors flags)) files is = done_cluster (cluster_of app blocks front nodes executors flags) (accepted (files app)) files is
-done_whole (Some (Simulate app blocks schedule front flags)) files is = done_simulation (simulation_of app blocks schedule front flags) (accepted (files app)) files is
-done_whole (Some (Provenance app blocks query)) files is = done_query query (accepted (files app)) (files blocks) is
-done_whole (Some (Seal blocks)) files is = done_sealed (chain (files blocks)).0 (chain (files blocks)).1 is
-done_whole (Some (Load number)) files is = done_load number (accepted app_text) is
+done_whole (Some (Run app blocks arrivals nodes executors flags)) files is =
+    let asked : Sources = run_sources app blocks arrivals nodes in
+    let done = done_run (look_of flags) asked (accepted (files app)) files is in
+    (of_all asked files (record { app = done.0; arrivals = done.1.0; schedule = refl; blocks = done.1.1 }), tt)
+done_whole (Some (Simulate app blocks schedule arrivals flags)) files is =
+    let asked : Sources = simulation_sources app blocks schedule arrivals in
+    let done = done_simulation (look_of flags) asked (accepted (files app)) files is in
+    (of_all asked files (record { app = done.app; arrivals = ok_one arrivals files done.arrivals; schedule = done.schedule; blocks = done.blocks }), done.seals)
+done_whole (Some (Provenance app blocks query)) files is =
+    let done = done_query query (accepted (files app)) (files blocks) is in
+    (of_all (query_sources app blocks) files (record { app = done.0; arrivals = refl; schedule = refl; blocks = done.1.0 }), done.1.1)
+done_whole (Some (Seal blocks)) files is = ((done_sealed (chain (files blocks)).0 (chain (files blocks)).1 is, tt), tt)
+done_whole (Some (Load number)) files is = (tt, done_load number (accepted app_text) is)
 
 -- ---- how a call ends
 
@@ -166,7 +247,7 @@ writes_status meant WriteFault before now wrote = inl refl
 -- how the call ends over files, by the clause that says it
 abbrev pub EndsOver : Option Settings → Files → Status → (before now : Option (List ℕ)) → (was is : Counts) → Type 0
 EndsOver settings files status before now was is =
-    (EndsTraced settings files status before now × (is ≡ was)) ⊎ (Writes read_refused status before now × RoseInTurn settings files was is)
+    (EndsTraced settings files status before now × (is ≡ was)) ⊎ (Writes read_refused status before now × RoseIn (plan_of settings) files was is)
 
 -- by the answer's status, or short of memory, or by a call that failed
 status_ended : (settings : Option Settings) (files : Files) (status : Status) (before now : Option (List ℕ)) (was is : Counts) → EndsOver settings files status before now was is
@@ -182,8 +263,8 @@ status_ended settings files status before now was is (inr (writes, rose)) = inr 
 
 -- where nothing is refused and no call fails, the answer is whole or memory runs out
 pub completed : (settings : Option Settings) (files : Files) (status : Status) (before now : Option (List ℕ)) (was is : Counts) (wrote : Type 0)
-    → EndsOver settings files status before now was is → (status ≡ ReadFault → RoseAtNamed settings was is) → (status ≡ WriteFault → wrote)
-    → IsWhole settings files → (RoseAtNamed settings was is → ⊥) → (wrote → ⊥) → (status ≡ Done) ⊎ (status ≡ NoMemory)
+    → EndsOver settings files status before now was is → (status ≡ ReadFault → RoseAt (plan_of settings) was is) → (status ≡ WriteFault → wrote)
+    → IsWhole settings files → (RoseAt (plan_of settings) was is → ⊥) → (wrote → ⊥) → (status ≡ Done) ⊎ (status ≡ NoMemory)
 completed settings files status before now was is wrote ends read write whole no_read no_write = by (status_ended settings files status before now was is ends)
   where
     by : ((status ≡ (over_settings settings files).status) ⊎ (status ≡ NoMemory)) ⊎ ((status ≡ WriteFault) ⊎ (status ≡ ReadFault)) → (status ≡ Done) ⊎ (status ≡ NoMemory)
@@ -205,8 +286,8 @@ is_whole settings files status before now was is ends done = by (status_ended se
 
 -- the same over a shelf that tells its files
 pub completed_told : (settings : Option Settings) (told : Option Files) (status : Status) (before now : Option (List ℕ)) (was is : Counts) (wrote : Type 0)
-    → IfSome told (λ files. EndsOver settings files status before now was is) → (status ≡ ReadFault → RoseAtNamed settings was is) → (status ≡ WriteFault → wrote)
-    → IfSome told (λ files. IsWhole settings files → (RoseAtNamed settings was is → ⊥) → (wrote → ⊥) → (status ≡ Done) ⊎ (status ≡ NoMemory))
+    → IfSome told (λ files. EndsOver settings files status before now was is) → (status ≡ ReadFault → RoseAt (plan_of settings) was is) → (status ≡ WriteFault → wrote)
+    → IfSome told (λ files. IsWhole settings files → (RoseAt (plan_of settings) was is → ⊥) → (wrote → ⊥) → (status ≡ Done) ⊎ (status ≡ NoMemory))
 completed_told settings None status before now was is wrote ends read write = tt
 completed_told settings (Some files) status before now was is wrote ends read write = completed settings files status before now was is wrote ends read write
 
@@ -219,7 +300,7 @@ whole_told settings (Some files) status before now was is ends done = is_whole s
 pub completed_refused : (settings : Option Settings) (told : Option Files) (why : WordsFault) (status : Status) (read wrote : Type 0) → (why ≡ fault.Usage → settings ≡ None)
     → (why ≡ fault.NoMemory → status ≡ NoMemory) → IfSome told (λ files. IsWhole settings files → (read → ⊥) → (wrote → ⊥) → (status ≡ Done) ⊎ (status ≡ NoMemory))
 completed_refused settings None why status read wrote usage memory = tt
-completed_refused settings (Some files) fault.Usage status read wrote usage memory = λ whole _ _. absurd (subst (λ (found : Option Settings). IsWhole found files) (usage refl) whole)
+completed_refused settings (Some files) fault.Usage status read wrote usage memory = λ whole _ _. absurd (subst (λ (found : Option Settings). IsWhole found files) (usage refl) whole).1
 completed_refused settings (Some files) fault.NoMemory status read wrote usage memory = λ whole _ _. inr (memory refl)
 
 refused_status : (status : Status) → (status ≡ WriteFault) ⊎ (status ≡ Usage) → status ≡ Done → ⊥

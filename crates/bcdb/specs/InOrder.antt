@@ -1,6 +1,6 @@
 -- What a run over files answers, and the orders in it.
 use Rattle.std.specs.Prelude.{Err, List, None, Ok, Option, Result, Some, ℕ}
-use Rattle.bcdb.specs.Answer.{arrived_in, file_at}
+use Rattle.bcdb.specs.ArrivalFiles.{arrived_in, file_at}
 use Rattle.bcdb.specs.Accepted.{accepted}
 use Rattle.bcdb.specs.declared.refusal.Refusal.{Refusal}
 use Rattle.chain_file.specs.Chain.{chain}

@@ -1,12 +1,16 @@
 -- The journals that follow the report of a run, if they are asked for.
-use Rattle.std.specs.Prelude.{All, Bool, Err, List, None, Ok, Option, Result, Some, [], false, length, true, ◌++◌, ◌≡◌, ◌⊎◌, ℕ}
+use Rattle.std.specs.Prelude.{All, Bool, Err, List, Ok, Option, Result, Some, [], false, length, true, ◌++◌, ◌≡◌, ◌⊎◌, ℕ}
 use Rattle.bcdb.specs.Accepted.{accepted}
-use Rattle.bcdb.specs.Answer.{ProgramAnswer, Writes, all_arrived, cluster_of, over_cluster, over_settings, reported, says}
+use Rattle.bcdb.specs.Answer.{Writes, over_settings}
+use Rattle.bcdb.specs.ArrivalFiles.{all_arrived}
+use Rattle.bcdb.specs.ProgramAnswer.{ProgramAnswer, look_of, says}
 use Rattle.bcdb.specs.Reply.{Means}
-use Rattle.bcdb.specs.declared.cluster.Cluster.{Cluster}
-use Rattle.bcdb.specs.declared.decide.Reply.{Reply}
+use Rattle.bcdb.specs.RunAnswer.{nodes_reported, over_run}
+use Rattle.bcdb.specs.Sources.{run_sources}
 use Rattle.bcdb.specs.declared.refusal.BadArrivals.{BadArrivals}
 use Rattle.bcdb.specs.declared.refusal.Refusal.{Refusal}
+use Rattle.bcdb.specs.declared.reply.Reply.{Reply}
+use Rattle.bcdb.specs.declared.sources.Sources.{Sources}
 use Rattle.bcdb.specs.declared.status.Status.TheVariants.{NoMemory}
 use Rattle.bcdb.specs.declared.status.Status.{Status}
 use Rattle.chain_file.specs.Chain.{chain}
@@ -21,6 +25,7 @@ use Rattle.proc_syntax.specs.declared.call.Tx.{Tx}
 use Rattle.proc_syntax.specs.declared.chain_fault.ChainFault.{ChainFault}
 use Rattle.proc_syntax.specs.declared.tree.App.{App}
 use Rattle.report_text.specs.Report.{journals_text}
+use Rattle.report_text.specs.declared.look.Look.{Look}
 
 -- so many nodes tell of these blocks: each the results that are reported, and a journal of its own that steps can make, that delivers the blocks and
 -- comes to these results
@@ -34,17 +39,17 @@ AreJournals false app blocks count lines = lines ≡ []
 AreJournals true app blocks count lines = (told : List NodeResult) × (AreNodesOf app blocks count told × (lines ≡ journals_text told))
 
 -- none where what arrives, or the application, is refused
-abbrev pub FollowsNodes : Cluster → App → Result (List (List Tx)) BadArrivals → List ℕ → List ℕ → Type 0
-FollowsNodes asked app (Err bad) bytes lines = lines ≡ []
-FollowsNodes asked app (Ok txs) bytes lines = AreJournals asked.look.trace app (chain bytes).0 asked.nodes lines
+abbrev pub FollowsNodes : Look → (nodes : ℕ) → App → Result (List (List Tx)) BadArrivals → List ℕ → List ℕ → Type 0
+FollowsNodes look nodes app (Err bad) bytes lines = lines ≡ []
+FollowsNodes look nodes app (Ok txs) bytes lines = AreJournals look.trace app (chain bytes).0 nodes lines
 
-abbrev pub FollowsCluster : Cluster → Result App Refusal → Files → List ℕ → Type 0
-FollowsCluster asked (Err refusal) files lines = lines ≡ []
-FollowsCluster asked (Ok app) files lines = FollowsNodes asked app (all_arrived asked.arrivals 1 asked.nodes files) (files asked.blocks) lines
+abbrev pub FollowsRun : Look → Sources → Result App Refusal → Files → List ℕ → Type 0
+FollowsRun look asked (Err refusal) files lines = lines ≡ []
+FollowsRun look asked (Ok app) files lines = FollowsNodes look asked.nodes app (all_arrived asked.arrivals 1 asked.nodes files) (files asked.blocks) lines
 
 -- and none after what other commands answer
 abbrev pub Follows : Option Settings → Files → List ℕ → Type 0
-Follows (Some (Run app blocks front nodes executors flags)) files lines = FollowsCluster (cluster_of app blocks front nodes executors flags) (accepted (files app)) files lines
+Follows (Some (Run app blocks arrivals nodes executors flags)) files lines = FollowsRun (look_of flags) (run_sources app blocks arrivals nodes) (accepted (files app)) files lines
 Follows settings files lines = lines ≡ []
 
 -- an answer, and lines that follow it
@@ -52,12 +57,12 @@ abbrev pub followed_by : List ℕ → ProgramAnswer → ProgramAnswer
 followed_by lines meant = says meant.status (meant.bytes ++ lines)
 
 -- a reply has the answer and what may follow it: of nodes that ran, of a run over files, and of each command
-abbrev pub RepliesNodes : Cluster → App → List Block → Option ChainFault → Reply → Type 0
-RepliesNodes asked app blocks stop reply =
-    (lines : List ℕ) × (AreJournals asked.look.trace app blocks asked.nodes lines × Means (followed_by lines (reported asked app blocks stop)) reply)
+abbrev pub RepliesNodes : Look → (nodes : ℕ) → App → List Block → Option ChainFault → Reply → Type 0
+RepliesNodes look nodes app blocks stop reply =
+    (lines : List ℕ) × (AreJournals look.trace app blocks nodes lines × Means (followed_by lines (nodes_reported look nodes app blocks stop)) reply)
 
-abbrev pub RepliesCluster : Cluster → Result App Refusal → Files → Reply → Type 0
-RepliesCluster asked found files reply = (lines : List ℕ) × (FollowsCluster asked found files lines × Means (followed_by lines (over_cluster asked found files)) reply)
+abbrev pub RepliesRun : Look → Sources → Result App Refusal → Files → Reply → Type 0
+RepliesRun look asked found files reply = (lines : List ℕ) × (FollowsRun look asked found files lines × Means (followed_by lines (over_run look asked found files)) reply)
 
 abbrev pub Replies : Option Settings → Files → Reply → Type 0
 Replies settings files reply = (lines : List ℕ) × (Follows settings files lines × Means (followed_by lines (over_settings settings files)) reply)

@@ -3,7 +3,7 @@
 ghost use Rattle.std.specs.Prelude.{◌≡◌, ◌≤◌, IfOk, Err, IfErr, IfSome, Ok, length};
 ghost use Rattle.bcdb.specs.Accepted.{accepted, sound};
 ghost use Rattle.proc_check.specs.Apps.{first_fault};
-ghost use Rattle.bcdb.specs.Causes.{Counted};
+ghost use Rattle.bcdb.specs.Plan.{Counted};
 ghost use Rattle.bcdb.specs.Taking.{GivesApp};
 ghost use Rattle.bcdb.specs.Application.{IsRefused};
 ghost use Rattle.edge_traits.specs.Causes.{AllowsFront, Keeps, Rose};

@@ -1,9 +1,9 @@
 //! The file of what arrives, read piece by piece to its end or to its first fault.
 
 ghost use Rattle.std.specs.Prelude.{◌≡◌, ◌++◌, List, ℕ, IfOk, IfSome, length};
-ghost use Rattle.bcdb.specs.Answer.{arrived_in};
+ghost use Rattle.bcdb.specs.ArrivalFiles.{arrived_in};
 ghost use Rattle.bcdb.specs.ArrivalReading.{LeadsTo, HasRead, IsRead, TakesLines};
-ghost use Rattle.bcdb.specs.Causes.{AllowsArrivals, Counted, RoseAtGiven};
+ghost use Rattle.bcdb.specs.Plan.{AllowsCalls, AllowsPlan, CallsFile, Counted, RoseAt, planned_if};
 ghost use Rattle.edge_traits.specs.Causes.{Keeps, Rose};
 ghost use Rattle.tx_text.specs.Arrivals.{ArrivalFaultsLast, ArrivalsAreBounded, arrivals};
 
@@ -71,7 +71,7 @@ fn read_piece<S: Shelf>(
     reader: &mut ArrivalReader,
     txs: &mut List<Tx>,
 ) -> Result<ArrivalPiece, FilesFault>
-    requires allowed { AllowsArrivals (S.told shelf.old) (S.may_read shelf.old) (Some name.now) }
+    requires allowed { AllowsCalls (S.told shelf.old) (S.may_read shelf.old) name.now }
     requires room { length buffer.old ≡ 65536 }
     requires bounded { ArrivalsAreBounded }
     requires lasting { ArrivalFaultsLast }
@@ -101,7 +101,7 @@ fn read_through<S: Shelf>(
     name: &str,
     buffer: &mut [u8],
 ) -> Result<Result<List<Tx>, u64>, FilesFault>
-    requires allowed { AllowsArrivals (S.told shelf.old) (S.may_read shelf.old) (Some name.now) }
+    requires allowed { AllowsCalls (S.told shelf.old) (S.may_read shelf.old) name.now }
     requires room { length buffer.old ≡ 65536 }
     ensures told { IfOk result (λ read. IfSome (S.told shelf.old) (λ files. arrivals (files name.now) ≡ read)) }
     ensures same { S.told shelf.new ≡ S.told shelf.old }
@@ -137,7 +137,7 @@ fn read_file<S: Shelf>(
     shelf: &mut S,
     name: &str,
 ) -> Result<Result<List<Tx>, u64>, FilesFault>
-    requires allowed { AllowsArrivals (S.told shelf.old) (S.may_read shelf.old) (Some name.now) }
+    requires allowed { AllowsCalls (S.told shelf.old) (S.may_read shelf.old) name.now }
     ensures told { IfOk result (λ read. IfSome (S.told shelf.old) (λ files. arrivals (files name.now) ≡ read)) }
     ensures same { S.told shelf.new ≡ S.told shelf.old }
     ensures allowed { Keeps (S.may_read shelf.old) (S.may_read shelf.new) }
@@ -151,16 +151,17 @@ fn read_file<S: Shelf>(
 ///
 /// Each call to the shelf asks for 65,536 bytes, and none is made once the fault is met: a file is asked for no byte after the
 /// piece that has its fault. A read that fails is not tried again.
+#[tactic(auto, using(crate::proofs::Planning::counted_one))]
 pub fn read_arrivals<S: Shelf>(
     alloc: Global,
     shelf: &mut S,
     name: &Option<Word>,
 ) -> Result<Result<List<Tx>, u64>, FilesFault>
-    requires allowed { AllowsArrivals (S.told shelf.old) (S.may_read shelf.old) name.now }
+    requires allowed { AllowsPlan (planned_if CallsFile name.now) (S.told shelf.old) (S.may_read shelf.old) }
     ensures told { IfOk result (λ read. IfSome (S.told shelf.old) (λ files. arrived_in name.now files ≡ read)) }
     ensures same { S.told shelf.new ≡ S.told shelf.old }
     ensures allowed { Keeps (S.may_read shelf.old) (S.may_read shelf.new) }
-    ensures counted { Counted result (RoseAtGiven name.now (S.faults shelf.old) (S.faults shelf.new)) (S.faults shelf.old) (S.faults shelf.new) }
+    ensures counted { Counted result (RoseAt (planned_if CallsFile name.now) (S.faults shelf.old) (S.faults shelf.new)) (S.faults shelf.old) (S.faults shelf.new) }
 {
     match name {
         None => Ok(Ok(List::new(alloc))),

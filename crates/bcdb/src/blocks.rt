@@ -1,7 +1,7 @@
 //! The block file, read piece by piece to its end or to its first fault.
 
 ghost use Rattle.std.specs.Prelude.{◌≡◌, ◌≤◌, ◌<◌, ◌++◌, List, ℕ, [], IfOk, IfSome, Option, length};
-ghost use Rattle.bcdb.specs.Causes.{AllowsBlocks, Counted};
+ghost use Rattle.bcdb.specs.Plan.{AllowsBlocks, Counted};
 ghost use Rattle.bcdb.specs.Reading.{HasRead, IsRead, LeadsTo};
 ghost use Rattle.chain_file.specs.Chain.{chain};
 ghost use Rattle.chain_file.specs.Files.{FaultsLast, FilesAreBounded};

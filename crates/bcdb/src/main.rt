@@ -3,24 +3,24 @@
 //! It also runs blocks that are generated from a number.
 #![tactic(auto)]
 
-pub mod all_arrivals;
 pub mod application;
 pub mod arrivals;
 pub mod blocks;
-pub mod cluster;
-pub mod clustering;
-pub mod decide;
+pub mod commands;
 pub mod fault;
-pub mod inputs;
+pub mod given;
 pub mod intake;
-pub mod load;
-pub mod query;
+pub mod loading;
+pub mod node_arrivals;
+pub mod plain;
+pub mod querying;
 pub mod refusal;
-pub mod run;
+pub mod reply;
+pub mod running;
 pub mod schedule;
 pub mod sealing;
 pub mod simulating;
-pub mod simulation;
+pub mod sources;
 pub mod status;
 pub mod top;
 pub mod words;

@@ -2,7 +2,8 @@
 
 ghost use Rattle.std.specs.Prelude.{◌≡◌, ◌≤◌, ◌<◌, ◌+◌, IfOk, IfSome, length, take};
 ghost use Rattle.std.specs.List.{AllByRecursion};
-ghost use Rattle.bcdb.specs.Causes.{AllowsSteps, Counted};
+ghost use Rattle.bcdb.specs.Plan.{AllowsPlan, AllowsSchedule, Counted, RoseAt, ScheduleFile, planned_if};
+ghost use Rattle.bcdb.specs.Sources.{steps_in};
 ghost use Rattle.bcdb.specs.Taking.{GivesSteps};
 ghost use Rattle.edge_traits.specs.Causes.{Keeps, Rose};
 ghost use Rattle.schedule_sim.specs.Schedules.{LongSchedulesAreBad, schedule_of};
@@ -10,8 +11,9 @@ ghost use Rattle.schedule_sim.specs.Steps.{IsStep};
 ghost use Rattle.tx_text.specs.Listing.{longest_listing};
 
 use crate::fault::FilesFault;
+use cli_words::Word;
 use edge_traits::{Shelf, make_buffer};
-use rel_base::NoMemory;
+use rel_base::{List, NoMemory};
 use schedule_sim::laws::long_schedules_are_bad;
 use schedule_sim::{Schedule, ScheduleFault, parse_schedule};
 use std::alloc::Global;
@@ -53,7 +55,7 @@ fn read_through<S: Shelf>(
     name: &str,
     buffer: &mut [u8],
 ) -> Result<Vec<u8>, FilesFault>
-    requires allowed { AllowsSteps (S.may_read shelf.old) name.now }
+    requires allowed { AllowsSchedule (S.may_read shelf.old) name.now }
     requires room { length buffer.old ≡ 65536 }
     ensures told { IfOk result (λ text. IfSome (S.told shelf.old) (λ files. schedule_of (files name.now) ≡ schedule_of text.items)) }
     ensures same { S.told shelf.new ≡ S.told shelf.old }
@@ -82,16 +84,13 @@ fn parse_text(alloc: Global, text: &[u8]) -> Result<Result<Schedule, u64>, NoMem
     }
 }
 
-/// The schedule of a file, or its first bad line.
-///
-/// Each call to the shelf asks for 65,536 bytes, and no byte is asked for after 4,097,073,729 bytes, which are more than a schedule
-/// can have. A read that fails is not tried again.
-pub fn read_schedule<S: Shelf>(
+// The schedule of a file, or its first bad line.
+fn read_schedule<S: Shelf>(
     alloc: Global,
     shelf: &mut S,
     name: &str,
 ) -> Result<Result<Schedule, u64>, FilesFault>
-    requires allowed { AllowsSteps (S.may_read shelf.old) name.now }
+    requires allowed { AllowsSchedule (S.may_read shelf.old) name.now }
     ensures told { IfOk result (λ read. IfSome (S.told shelf.old) (λ files. GivesSteps read (schedule_of (files name.now)))) }
     ensures actors { IfOk result (λ read. IfOk read (λ schedule. AllByRecursion IsStep schedule.steps)) }
     ensures same { S.told shelf.new ≡ S.told shelf.old }
@@ -102,4 +101,29 @@ pub fn read_schedule<S: Shelf>(
     let text = read_through(alloc, shelf, name, &mut buffer)?;
     let read = parse_text(alloc, &text)?;
     Ok(read)
+}
+
+/// The schedule of a file, if one is named, and else one without steps; or its first bad line.
+///
+/// Each call to the shelf asks for 65,536 bytes, and no byte is asked for after 4,097,073,729 bytes, which are more than a schedule
+/// can have. A read that fails is not tried again.
+#[tactic(auto, using(crate::proofs::Planning::counted_one))]
+pub fn read_steps<S: Shelf>(
+    alloc: Global,
+    shelf: &mut S,
+    name: &Option<Word>,
+) -> Result<Result<Schedule, u64>, FilesFault>
+    requires allowed { AllowsPlan (planned_if ScheduleFile name.now) (S.told shelf.old) (S.may_read shelf.old) }
+    ensures told { IfOk result (λ read. IfSome (S.told shelf.old) (λ files. GivesSteps read (steps_in name.now files))) }
+    ensures actors { IfOk result (λ read. IfOk read (λ schedule. AllByRecursion IsStep schedule.steps)) }
+    ensures same { S.told shelf.new ≡ S.told shelf.old }
+    ensures allowed { Keeps (S.may_read shelf.old) (S.may_read shelf.new) }
+    ensures counted { Counted result (RoseAt (planned_if ScheduleFile name.now) (S.faults shelf.old) (S.faults shelf.new)) (S.faults shelf.old) (S.faults shelf.new) }
+{
+    match name {
+        None => Ok(Ok(Schedule {
+            steps: List::new(alloc),
+        })),
+        Some(name) => read_schedule(alloc, shelf, name.as_str()),
+    }
 }

@@ -1,18 +1,17 @@
 //! The answer to a seal.
 
 ghost use Rattle.std.specs.Prelude.{◌≡◌, List, ℕ, Option, IfOk, IfSome, true};
-ghost use Rattle.bcdb.specs.Answer.{sealed};
-ghost use Rattle.bcdb.specs.Causes.{AllowsBlocks, Counted};
+ghost use Rattle.bcdb.specs.Plan.{AllowsPlan, BlocksFile, Counted, RoseAt, planned};
 ghost use Rattle.bcdb.specs.Reading.{HasRead};
 ghost use Rattle.bcdb.specs.Reply.{Means, is_answer};
+ghost use Rattle.bcdb.specs.SealAnswer.{sealed};
 ghost use Rattle.chain_file.specs.Chain.{chain};
 ghost use Rattle.chain_file.specs.Sealed.{Seals, SealsAs};
-ghost use Rattle.edge_traits.specs.Causes.{Rose};
 ghost use Rattle.edge_traits.specs.Shelf.{Files};
 
 use crate::blocks::read_file;
-use crate::decide::Reply;
 use crate::fault::FilesFault;
+use crate::reply::Reply;
 use crate::status::Status;
 use chain_file::Sealer;
 use edge_traits::Shelf;
@@ -53,9 +52,9 @@ fn answer_seal(alloc: Global, text: Result<List<u8>, ChainFault>) -> Result<Repl
 
 /// The reply to a seal of a file.
 pub fn seal_file<S: Shelf>(alloc: Global, shelf: &mut S, name: &str) -> Result<Reply, FilesFault>
-    requires allowed { AllowsBlocks (S.told shelf.old) (S.may_read shelf.old) name.now }
+    requires allowed { AllowsPlan (planned BlocksFile name.now) (S.told shelf.old) (S.may_read shelf.old) }
     ensures told { IfOk result (λ reply. IfSome (S.told shelf.old) (λ files. Means (sealed (chain (files name.now)).0 (chain (files name.now)).1) reply)) }
-    ensures counted { Counted result (Rose (S.faults shelf.old name.now) (S.faults shelf.new name.now)) (S.faults shelf.old) (S.faults shelf.new) }
+    ensures counted { Counted result (RoseAt (planned BlocksFile name.now) (S.faults shelf.old) (S.faults shelf.new)) (S.faults shelf.old) (S.faults shelf.new) }
     ensures kind { IfOk result (λ reply. is_answer reply.status ≡ true) }
 {
     let mut sealer = Sealer::new(alloc);

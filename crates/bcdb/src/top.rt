@@ -1,15 +1,16 @@
 //! The top call.
 ghost use Rattle.std.specs.Prelude.{◌≡◌, ◌⊎◌, IfSome, None, Some, Option, List, ℕ};
 ghost use Rattle.bcdb.specs.Agrees.{AnswersAsRun};
-ghost use Rattle.bcdb.specs.Answer.{Ends, Writes, read_refused, says, usage_refused};
-ghost use Rattle.bcdb.specs.Causes.{AllowsNamed, RoseAtNamed, RoseInTurn};
+ghost use Rattle.bcdb.specs.Answer.{Ends, Writes, read_refused, usage_refused};
 ghost use Rattle.bcdb.specs.InOrder.{RunsInOrder};
+ghost use Rattle.bcdb.specs.Plan.{AllowsPlan, RoseAt, RoseIn, plan_of};
+ghost use Rattle.bcdb.specs.ProgramAnswer.{says};
 ghost use Rattle.bcdb.specs.Traced.{EndsTraced};
 ghost use Rattle.bcdb.specs.Whole.{IsWhole};
 ghost use Rattle.cli_words.specs.Language.{AreWithin, settings_of, texts};
 ghost use Rattle.edge_traits.specs.Causes.{Rose};
 
-use crate::decide::decide;
+use crate::commands::reply_to;
 use crate::fault::FilesFault;
 use crate::status::Status;
 use cli_words::{Settings, WordsFault, read_words};
@@ -58,18 +59,18 @@ fn serve<R: Threads + Wait + Sync, S: Shelf, W: Sink, G: Gate>(
     gate: &G,
 ) -> Status
     requires within { AreWithin settings }
-    requires allowed { AllowsNamed (Some settings) (S.told shelf.old) (S.may_read shelf.old) }
+    requires allowed { AllowsPlan (plan_of (Some settings)) (S.told shelf.old) (S.may_read shelf.old) }
     ensures ends { IfSome (S.told shelf.old) (λ files.
         (EndsTraced (Some settings) files result (W.written out.old) (W.written out.new) × (S.faults shelf.new ≡ S.faults shelf.old))
         ⊎ (Writes read_refused result (W.written out.old) (W.written out.new)
-        × RoseInTurn (Some settings) files (S.faults shelf.old) (S.faults shelf.new))) }
+        × RoseIn (plan_of (Some settings)) files (S.faults shelf.old) (S.faults shelf.new))) }
     ensures words { result ≡ Status.Usage → ⊥ }
-    ensures read { result ≡ Status.ReadFault → RoseAtNamed (Some settings) (S.faults shelf.old) (S.faults shelf.new) }
+    ensures read { result ≡ Status.ReadFault → RoseAt (plan_of (Some settings)) (S.faults shelf.old) (S.faults shelf.new) }
     ensures counted { (S.faults shelf.new ≡ S.faults shelf.old) ⊎ Writes read_refused result (W.written out.old) (W.written out.new) }
     ensures write { result ≡ Status.WriteFault → Rose (W.faults out.old) (W.faults out.new) }
     ensures quiet { (result ≡ Status.WriteFault) ⊎ (W.faults out.new ≡ W.faults out.old) }
 {
-    match decide(rt, alloc, settings, shelf, gate) {
+    match reply_to(rt, alloc, settings, shelf, gate) {
         Ok(reply) => {
             let status = deliver(out, reply.status, reply.bytes.as_slice());
             drop(reply);
@@ -104,11 +105,11 @@ pub fn bcdb<R: Threads + Wait + Sync, S: Shelf, W: Sink, G: Gate>(
     out: &mut W,
     gate: &G,
 ) -> Status
-    requires allowed { AllowsNamed (settings_of (texts words.now)) (S.told shelf.old) (S.may_read shelf.old) }
+    requires allowed { AllowsPlan (plan_of (settings_of (texts words.now))) (S.told shelf.old) (S.may_read shelf.old) }
     ensures ends { IfSome (S.told shelf.old) (λ files.
         (EndsTraced (settings_of (texts words.now)) files result (W.written out.old) (W.written out.new) × (S.faults shelf.new ≡ S.faults shelf.old))
         ⊎ (Writes read_refused result (W.written out.old) (W.written out.new)
-        × RoseInTurn (settings_of (texts words.now)) files (S.faults shelf.old) (S.faults shelf.new))) }
+        × RoseIn (plan_of (settings_of (texts words.now))) files (S.faults shelf.old) (S.faults shelf.new))) }
 
     // Whether or not the orders are shown, the results that are reported tell for each block an order in which its committed
     // transactions run again one by one, with the same reads, writes and tables.
@@ -121,7 +122,7 @@ pub fn bcdb<R: Threads + Wait + Sync, S: Shelf, W: Sink, G: Gate>(
     // Where nothing is refused, the files well formed to their ends, and no call failed, the answer is whole, or memory ran out; and an answer is
     // whole only there, so that all input was read to its end.
     ensures complete { IfSome (S.told shelf.old) (λ files. IsWhole (settings_of (texts words.now)) files
-        → (RoseAtNamed (settings_of (texts words.now)) (S.faults shelf.old) (S.faults shelf.new) → ⊥) → (Rose (W.faults out.old) (W.faults out.new) → ⊥)
+        → (RoseAt (plan_of (settings_of (texts words.now))) (S.faults shelf.old) (S.faults shelf.new) → ⊥) → (Rose (W.faults out.old) (W.faults out.new) → ⊥)
         → (result ≡ Status.Done) ⊎ (result ≡ Status.NoMemory)) }
     ensures done { result ≡ Status.Done → IfSome (S.told shelf.old) (IsWhole (settings_of (texts words.now))) }
 
@@ -131,7 +132,7 @@ pub fn bcdb<R: Threads + Wait + Sync, S: Shelf, W: Sink, G: Gate>(
 
     // A failure has its cause, and each failure is reported: where a count of failed reads rose the status is `ReadFault`, and where
     // that of failed writes did it is `WriteFault`, which goes first.
-    ensures read { result ≡ Status.ReadFault → RoseAtNamed (settings_of (texts words.now)) (S.faults shelf.old) (S.faults shelf.new) }
+    ensures read { result ≡ Status.ReadFault → RoseAt (plan_of (settings_of (texts words.now))) (S.faults shelf.old) (S.faults shelf.new) }
     ensures counted { (S.faults shelf.new ≡ S.faults shelf.old) ⊎ Writes read_refused result (W.written out.old) (W.written out.new) }
     ensures write { result ≡ Status.WriteFault → Rose (W.faults out.old) (W.faults out.new) }
     ensures quiet { (result ≡ Status.WriteFault) ⊎ (W.faults out.new ≡ W.faults out.old) }

@@ -1,5 +1,5 @@
 use Rattle.std.proofs.Common.{length, ◌-◌, ◌≡◌, ◌≤◌}
-use Rattle.bcdb.specs.Causes.{AllowsBlocks}
+use Rattle.bcdb.specs.Plan.{AllowsBlocks}
 use Rattle.bcdb.specs.Reading.{IsRead}
 use Rattle.chain_file.specs.Text.{longest_draft}
 use Rattle.bcdb.proofs.blocks.read_through.Given as goal

@@ -1,9 +1,9 @@
 use Rattle.std.proofs.Common.{IfSome, List, None, Option, Some, ℕ}
 use Rattle.std.specs.Prelude.{Result}
 use Rattle.bcdb.proofs.sealing.seal_file.Goals as goal
-use Rattle.bcdb.specs.Answer.{sealed}
+use Rattle.bcdb.specs.SealAnswer.{sealed}
 use Rattle.bcdb.specs.Reply.{Means}
-use Rattle.bcdb.specs.declared.decide.Reply.{Reply}
+use Rattle.bcdb.specs.declared.reply.Reply.{Reply}
 use Rattle.chain_file.specs.Chain.{chain}
 use Rattle.chain_file.specs.Sealed.{SealsAs}
 use Rattle.edge_traits.specs.Shelf.{Files}

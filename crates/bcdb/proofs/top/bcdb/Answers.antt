@@ -5,7 +5,7 @@ use Rattle.bcdb.specs.Answer.{Writes, read_refused}
 use Rattle.bcdb.proofs.Agreeing.{told_as_run}
 use Rattle.bcdb.proofs.Orders.{told_in_order}
 use Rattle.bcdb.proofs.Whole.{completed_refused, completed_told, ends_by_words, whole_refused, whole_told}
-use Rattle.bcdb.specs.Causes.{RoseAtNamed, RoseInTurn}
+use Rattle.bcdb.specs.Plan.{RoseAt, RoseIn, plan_of}
 use Rattle.bcdb.specs.declared.status.Status.TheVariants.{ReadFault}
 use Rattle.bcdb.specs.Traced.{EndsTraced}
 use Rattle.cli_words.specs.Language.{settings_of, texts}
@@ -18,7 +18,7 @@ returns-in-Ok-clause-ends g c =
     let was = g.S.Shelf.faults c.args.shelf.now in
     let is = g.S.Shelf.faults c.serve.new.shelf in
     subst (λ (found : Option Settings). IfSome (g.S.Shelf.told c.args.shelf.now) (λ files.
-    (EndsTraced found files c.serve.result before now × (is ≡ was)) ⊎ (Writes read_refused c.serve.result before now × RoseInTurn found files was is))) (sym c.in-Ok.ensures.ok) c.serve.ensures.ends
+    (EndsTraced found files c.serve.result before now × (is ≡ was)) ⊎ (Writes read_refused c.serve.result before now × RoseIn (plan_of found) files was is))) (sym c.in-Ok.ensures.ok) c.serve.ensures.ends
 
 pub returns-in-Ok-clause-complete : goal.returns-in-Ok-clause-complete
 returns-in-Ok-clause-complete g c =
@@ -26,7 +26,7 @@ returns-in-Ok-clause-complete g c =
     let is = g.S.Shelf.faults c.serve.new.shelf in
     completed_told _ (g.S.Shelf.told c.args.shelf.now) c.serve.result (g.W.Sink.written c.args.out.now) (g.W.Sink.written c.serve.new.out) was is _
     (returns-in-Ok-clause-ends g c)
-    (subst (λ (found : Option Settings). c.serve.result ≡ ReadFault → RoseAtNamed found was is) (sym c.in-Ok.ensures.ok) c.serve.ensures.read)
+    (subst (λ (found : Option Settings). c.serve.result ≡ ReadFault → RoseAt (plan_of found) was is) (sym c.in-Ok.ensures.ok) c.serve.ensures.read)
     c.serve.ensures.write
 
 pub returns-in-Ok-clause-done : goal.returns-in-Ok-clause-done
@@ -59,7 +59,7 @@ pub returns-in-Ok-clause-read : goal.returns-in-Ok-clause-read
 returns-in-Ok-clause-read g c =
     let was = g.S.Shelf.faults c.args.shelf.now in
     let is = g.S.Shelf.faults c.serve.new.shelf in
-    subst (λ (found : Option Settings). c.serve.result ≡ ReadFault → RoseAtNamed found was is) (sym c.in-Ok.ensures.ok) c.serve.ensures.read
+    subst (λ (found : Option Settings). c.serve.result ≡ ReadFault → RoseAt (plan_of found) was is) (sym c.in-Ok.ensures.ok) c.serve.ensures.read
 
 pub returns-in-Err-clause-ends : goal.returns-in-Err-clause-ends
 returns-in-Err-clause-ends g c =

@@ -1,7 +1,8 @@
 use Rattle.std.proofs.Common.{List, Some, refl, rules, subst, ◌≡◌, ℕ}
 use Rattle.bcdb.proofs.Ends.{told_short, told_traced}
 use Rattle.bcdb.proofs.top.serve.Goals as goal
-use Rattle.bcdb.specs.Answer.{Writes, says}
+use Rattle.bcdb.specs.Answer.{Writes}
+use Rattle.bcdb.specs.ProgramAnswer.{says}
 
 pub returns-in-Ok-clause-ends : goal.returns-in-Ok-clause-ends
 returns-in-Ok-clause-ends g c =
@@ -14,5 +15,5 @@ returns-in-Ok-clause-ends g c =
 pub returns-in-Err-NoMemory-clause-ends : goal.returns-in-Err-NoMemory-clause-ends
 returns-in-Err-NoMemory-clause-ends g c =
     let before = g.W.Sink.written c.args.out.now in
-    let kept : g.S.Shelf.faults c.decide.new.shelf ≡ g.S.Shelf.faults c.args.shelf.now = search rules in
+    let kept : g.S.Shelf.faults c.reply_to.new.shelf ≡ g.S.Shelf.faults c.args.shelf.now = search rules in
     told_short (Some c.args.settings) (g.S.Shelf.told c.args.shelf.now) before before _ _ refl kept

@@ -1,0 +1,42 @@
+use Rattle.std.proofs.Common.{IfOk, IfSome, List, Some, refl, subst, sym, ℕ}
+use Rattle.bcdb.proofs.Replying.{replies_told}
+use Rattle.bcdb.proofs.commands.reply_to.Goals as goal
+use Rattle.bcdb.specs.Accepted.{accepted}
+use Rattle.bcdb.specs.Reply.{Means}
+use Rattle.bcdb.specs.SimulationAnswer.{over_simulation}
+use Rattle.bcdb.specs.Sources.{run_sources, simulation_sources}
+use Rattle.bcdb.specs.Traced.{Replies, RepliesRun}
+use Rattle.bcdb.specs.VersionsAnswer.{over_query}
+use Rattle.bcdb.specs.declared.sources.Sources.{Sources}
+use Rattle.cli_words.specs.declared.settings.Settings.TheVariants.{Provenance, Simulate}
+use Rattle.cli_words.specs.declared.settings.Settings.{Settings}
+use Rattle.report_text.specs.declared.look.Look.{Look}
+
+pub returns-in-Run-clause-told : goal.returns-in-Run-clause-told
+returns-in-Run-clause-told g c =
+    let told = g.S.Shelf.told c.args.shelf.now in
+    let result = c.answer_run-reply.result in
+    subst (λ (settings : Settings). IfOk result (λ reply. IfSome told (λ files. Replies (Some settings) files reply))) (sym c.in-Run.is)
+    (subst (λ (look : Look). IfOk result (λ reply. IfSome told (λ files. RepliesRun look (run_sources c.in-Run.app c.in-Run.blocks c.in-Run.arrivals c.in-Run.nodes) (accepted (files c.in-Run.app)) files reply))) c.look_of.ensures
+    (subst (λ (asked : Sources). IfOk result (λ reply. IfSome told (λ files. RepliesRun c.look_of.result asked (accepted (files asked.app)) files reply))) c.of_run-asked.ensures
+    c.answer_run-reply.ensures.told))
+
+pub returns-in-Simulate-clause-told : goal.returns-in-Simulate-clause-told
+returns-in-Simulate-clause-told g c =
+    let told = g.S.Shelf.told c.args.shelf.now in
+    let result = c.answer_simulation-reply.result in
+    subst (λ (settings : Settings). IfOk result (λ reply. IfSome told (λ files. Replies (Some settings) files reply))) (sym c.in-Simulate.is)
+    (replies_told (Simulate c.in-Simulate.app c.in-Simulate.blocks c.in-Simulate.schedule c.in-Simulate.arrivals c.in-Simulate.flags) told result (λ files. refl)
+    (subst (λ (look : Look). IfOk result (λ reply. IfSome told (λ files. Means (over_simulation look (simulation_sources c.in-Simulate.app c.in-Simulate.blocks c.in-Simulate.schedule c.in-Simulate.arrivals) (accepted (files c.in-Simulate.app)) files) reply))) c.look_of-in-Simulate.ensures
+    (subst (λ (asked : Sources). IfOk result (λ reply. IfSome told (λ files. Means (over_simulation c.look_of-in-Simulate.result asked (accepted (files asked.app)) files) reply)))
+    c.of_simulation-asked.ensures c.answer_simulation-reply.ensures.told)))
+
+pub returns-in-Provenance-clause-told : goal.returns-in-Provenance-clause-told
+returns-in-Provenance-clause-told g c =
+    let told = g.S.Shelf.told c.args.shelf.now in
+    let result = c.answer_query-reply.result in
+    subst (λ (settings : Settings). IfOk result (λ reply. IfSome told (λ files. Replies (Some settings) files reply))) (sym c.in-Provenance.is)
+    (replies_told (Provenance c.in-Provenance.app c.in-Provenance.blocks c.in-Provenance.query) told result (λ files. refl)
+    (subst (λ (query : List ℕ). IfOk result (λ reply. IfSome told (λ files. Means (over_query query (accepted (files c.in-Provenance.app)) (files c.in-Provenance.blocks)) reply))) c.as_str.ensures
+    (subst (λ (asked : Sources). IfOk result (λ reply. IfSome told (λ files. Means (over_query c.as_str.result.now (accepted (files asked.app)) (files asked.blocks)) reply)))
+    c.of_query-asked.ensures c.answer_query-reply.ensures.told)))

@@ -1,0 +1,164 @@
+//! What a command is given: its files, read one after another, each only once the one before it is what it must be.
+
+ghost use Rattle.std.specs.Prelude.{◌≡◌, IfOk, IfSome, IsErrOf, Ok, length};
+ghost use Rattle.std.specs.List.{AllByRecursion};
+ghost use Rattle.bcdb.specs.Accepted.{accepted};
+ghost use Rattle.bcdb.specs.ArrivalFiles.{all_arrived};
+ghost use Rattle.bcdb.specs.Given.{AreGiven};
+ghost use Rattle.bcdb.specs.Plan.{AllowsPlan, BlocksFile, Counted, RoseAt, RoseIn, plan_from_arrivals, plan_from_schedule, planned, sources_plan};
+ghost use Rattle.bcdb.specs.Taking.{GivesApp};
+ghost use Rattle.chain_file.specs.Chain.{chain};
+ghost use Rattle.chain_file.specs.Numbered.{NumberedFrom};
+ghost use Rattle.schedule_sim.specs.Steps.{IsStep};
+
+use crate::application::fetch_application;
+use crate::blocks::read_blocks;
+use crate::fault::FilesFault;
+use crate::node_arrivals::read_all_arrivals;
+use crate::refusal::{BadArrivals, Refusal};
+use crate::schedule::read_steps;
+use crate::sources::Sources;
+use chain_file::Fed;
+use edge_traits::Shelf;
+use proc_check::Checked;
+use proc_syntax::Tx;
+use rel_base::List;
+use schedule_sim::Schedule;
+use std::alloc::Global;
+
+/// What was read of the files of a command.
+#[derive(Drop)]
+pub struct Given {
+    pub app: Checked,
+    /// For each node, what arrives at it.
+    pub arrivals: List<List<Tx>>,
+    /// The steps of the schedule, which are none where no schedule is named.
+    pub schedule: Schedule,
+    /// The blocks of the block file before its first fault, and that fault.
+    pub read: Fed,
+}
+
+/// Which file is refused first, and why.
+#[derive(Clone, Copy, Debug, PartialEq, Eq)]
+pub enum BadSource {
+    App(Refusal),
+    Arrivals(BadArrivals),
+    /// The schedule, for its first bad line.
+    Schedule(u64),
+}
+
+// What is given once all but the blocks was read.
+fn read_last<S: Shelf>(
+    alloc: Global,
+    shelf: &mut S,
+    asked: &Sources,
+    app: Checked,
+    arrivals: List<List<Tx>>,
+    schedule: Schedule,
+) -> Result<Given, FilesFault>
+    requires allowed { AllowsPlan (planned BlocksFile asked.now.blocks) (S.told shelf.old) (S.may_read shelf.old) }
+    ensures told { IfOk result (λ given. IfSome (S.told shelf.old) (λ files. chain (files asked.now.blocks) ≡ (given.read.blocks, given.read.fault))) }
+    ensures same { IfOk result (λ given. (given.app ≡ app) × (given.arrivals ≡ arrivals) × (given.schedule ≡ schedule)) }
+    ensures numbered { IfOk result (λ given. NumberedFrom 1 given.read.blocks) }
+    ensures counted { Counted result (RoseAt (planned BlocksFile asked.now.blocks) (S.faults shelf.old) (S.faults shelf.new)) (S.faults shelf.old) (S.faults shelf.new) }
+{
+    match read_blocks(alloc, shelf, asked.blocks.as_str()) {
+        Ok(read) => Ok(Given {
+            app,
+            arrivals,
+            schedule,
+            read,
+        }),
+        Err(fault) => {
+            drop(app);
+            drop(arrivals);
+            drop(schedule);
+            Err(fault)
+        }
+    }
+}
+
+// What is given besides an application and what arrives: the schedule, and then the blocks.
+fn read_from_schedule<S: Shelf>(
+    alloc: Global,
+    shelf: &mut S,
+    asked: &Sources,
+    app: Checked,
+    arrivals: List<List<Tx>>,
+) -> Result<Result<Given, BadSource>, FilesFault>
+    requires allowed { AllowsPlan (plan_from_schedule asked.now) (S.told shelf.old) (S.may_read shelf.old) }
+    ensures told { IfOk result (λ read. IfSome (S.told shelf.old) (λ files. accepted (files asked.now.app) ≡ Ok app.app
+        → all_arrived asked.now.arrivals 1 asked.now.nodes files ≡ Ok arrivals → AreGiven read asked.now files)) }
+    ensures all { IfOk result (λ read. IfOk read (λ given. length given.arrivals ≡ length arrivals)) }
+    ensures actors { IfOk result (λ read. IfOk read (λ given. AllByRecursion IsStep given.schedule.steps)) }
+    ensures numbered { IfOk result (λ read. IfOk read (λ given. NumberedFrom 1 given.read.blocks)) }
+    ensures turn { IsErrOf result FilesFault.Failed → IfSome (S.told shelf.old) (λ files. RoseIn (plan_from_schedule asked.now) files (S.faults shelf.old) (S.faults shelf.new)) }
+    ensures counted { Counted result (RoseAt (plan_from_schedule asked.now) (S.faults shelf.old) (S.faults shelf.new)) (S.faults shelf.old) (S.faults shelf.new) }
+{
+    match read_steps(alloc, shelf, &asked.schedule) {
+        Ok(Ok(schedule)) => {
+            let given = read_last(alloc, shelf, asked, app, arrivals, schedule)?;
+            Ok(Ok(given))
+        }
+        Ok(Err(line)) => {
+            drop(app);
+            drop(arrivals);
+            Ok(Err(BadSource::Schedule(line)))
+        }
+        Err(fault) => {
+            drop(app);
+            drop(arrivals);
+            Err(fault)
+        }
+    }
+}
+
+// What is given besides an accepted application: what arrives, and then the schedule and the blocks.
+fn read_from_arrivals<S: Shelf>(
+    alloc: Global,
+    shelf: &mut S,
+    asked: &Sources,
+    app: Checked,
+) -> Result<Result<Given, BadSource>, FilesFault>
+    requires allowed { AllowsPlan (plan_from_arrivals asked.now) (S.told shelf.old) (S.may_read shelf.old) }
+    ensures told { IfOk result (λ read. IfSome (S.told shelf.old) (λ files. accepted (files asked.now.app) ≡ Ok app.app → AreGiven read asked.now files)) }
+    ensures all { IfOk result (λ read. IfOk read (λ given. length given.arrivals ≡ asked.now.nodes)) }
+    ensures actors { IfOk result (λ read. IfOk read (λ given. AllByRecursion IsStep given.schedule.steps)) }
+    ensures numbered { IfOk result (λ read. IfOk read (λ given. NumberedFrom 1 given.read.blocks)) }
+    ensures turn { IsErrOf result FilesFault.Failed → IfSome (S.told shelf.old) (λ files. RoseIn (plan_from_arrivals asked.now) files (S.faults shelf.old) (S.faults shelf.new)) }
+    ensures counted { Counted result (RoseAt (plan_from_arrivals asked.now) (S.faults shelf.old) (S.faults shelf.new)) (S.faults shelf.old) (S.faults shelf.new) }
+{
+    match read_all_arrivals(alloc, shelf, &asked.arrivals, asked.nodes) {
+        Ok(Ok(arrivals)) => read_from_schedule(alloc, shelf, asked, app, arrivals),
+        Ok(Err(bad)) => {
+            drop(app);
+            Ok(Err(BadSource::Arrivals(bad)))
+        }
+        Err(fault) => {
+            drop(app);
+            Err(fault)
+        }
+    }
+}
+
+/// What a command is given, or the first of its files that is refused. The files are read one after another, the application, what
+/// arrives at each node, the schedule and the blocks, each only once the one before it is what it must be.
+pub fn read_given<S: Shelf>(
+    alloc: Global,
+    shelf: &mut S,
+    asked: &Sources,
+) -> Result<Result<Given, BadSource>, FilesFault>
+    requires allowed { AllowsPlan (sources_plan asked.now) (S.told shelf.old) (S.may_read shelf.old) }
+    ensures told { IfOk result (λ read. IfSome (S.told shelf.old) (λ files. AreGiven read asked.now files)) }
+    ensures all { IfOk result (λ read. IfOk read (λ given. length given.arrivals ≡ asked.now.nodes)) }
+    ensures actors { IfOk result (λ read. IfOk read (λ given. AllByRecursion IsStep given.schedule.steps)) }
+    ensures numbered { IfOk result (λ read. IfOk read (λ given. NumberedFrom 1 given.read.blocks)) }
+    ensures turn { IsErrOf result FilesFault.Failed → IfSome (S.told shelf.old) (λ files. RoseIn (sources_plan asked.now) files (S.faults shelf.old) (S.faults shelf.new)) }
+    ensures counted { Counted result (RoseAt (sources_plan asked.now) (S.faults shelf.old) (S.faults shelf.new)) (S.faults shelf.old) (S.faults shelf.new) }
+{
+    match fetch_application(alloc, shelf, asked.app.as_str()) {
+        Ok(Ok(app)) => read_from_arrivals(alloc, shelf, asked, app),
+        Ok(Err(refusal)) => Ok(Err(BadSource::App(refusal))),
+        Err(fault) => Err(fault),
+    }
+}
