@@ -5,13 +5,16 @@ Examples: in README.md, docs/GUIDE.md, docs/ABORTS.md and docs/FORMATS.md each f
 is, `<!-- case: NAME FILE -->`, or `<!-- case: NAME FILE 5-9 -->` for some lines of one, and is those bytes. Where FILE is `words`, the
 example is the command line, `bcdb` and the words. A fence of the language `sh` without a comment is a command and no example. The code of a
 result in docs/FORMATS.md has the digest that a case shows.
-Outcomes: each row of the table of docs/ABORTS.md has the report's words, a case whose report has them, and a definition, a function and
-a clause that stand in the files to which they are linked.
+Outcomes: each row of the table of docs/ABORTS.md has the report's words, what to do now, a case whose report has the words, and a definition,
+a function and a clause that stand in the files to which they are linked.
 Crates: crates.txt has each crate under the comment of its level, docs/DESIGN.md has a row for each crate in the order of levels,
 docs/PROVED.md has one too, and docs/crates.svg is what docs/draw_crates.py draws.
 Names: each name in code in a row of docs/PROVED.md stands in that row's crate, and in the argument of that page in some crate; each definition of
 docs/DEFINITIONS.md stands in the crates that its heading or its file names.
 Links: each file that a page links to is there.
+Statuses: the tables of README.md and docs/FORMATS.md have the numbers of crates/bcdb/src/status.rt and specs/Numbers.antt, and no more.
+Reading: docs/READING.md is what docs/reading_path.py writes, and README.md has the sizes that it counts.
+Form: lines have at most 120 columns and sentences at most 40 words (tests/prose.py), and words that are not used any more stand nowhere.
 Usage: tests/check_docs.py
 """
 import difflib
@@ -19,6 +22,7 @@ import functools
 import hashlib
 import os
 import re
+import shlex
 import sys
 
 ROOT = os.path.dirname(os.path.dirname(os.path.abspath(__file__)))
@@ -27,9 +31,12 @@ sys.dont_write_bytecode = True
 sys.path.insert(0, os.path.join(ROOT, "docs"))
 
 import draw_crates
+import prose
+import reading_path
 
 WITH_EXAMPLES = ["README.md", "docs/GUIDE.md", "docs/ABORTS.md", "docs/FORMATS.md"]
 FENCE = "`" * 3
+UNUSED = ["want of memory"]
 NAMED = re.compile(r"<!-- case: (\S+) (\S+)(?: (\d+)-(\d+))? -->")
 
 
@@ -75,7 +82,7 @@ def text_of_case(name, file, first, last):
         return f"(no file {name}/{file} in tests/cases)"
     text = read(path)
     if file == "words":
-        return "bcdb " + " ".join(text.split("\n")[:-1]) + "\n"
+        return "bcdb " + shlex.join(text.split("\n")[:-1]) + "\n"
     if first is None:
         return text
     return "".join(line + "\n" for line in text.split("\n")[int(first) - 1 : int(last)])
@@ -145,7 +152,7 @@ def clause_stands(path, function, clause):
 def check_outcomes(tally):
     rows = rows_of("docs/ABORTS.md", "## The outcomes")
     tally.note(len(rows) > 0, "docs/ABORTS.md: no table of outcomes")
-    for words, _, example, definition, function, clause in rows:
+    for words, _, advice, example, definition, function, clause in rows:
         words = words.strip("`")
         for name, path in linked(example):
             report = os.path.join(path, "stdout")
@@ -155,8 +162,8 @@ def check_outcomes(tally):
         for name, path in linked(function):
             is_there = clause_stands(path, name, clause.strip("`"))
             tally.note(is_there, f"docs/ABORTS.md: no {name} in {path} with the clause {clause}")
-        full = linked(example) and linked(definition) and linked(function)
-        tally.note(full, f"docs/ABORTS.md: `{words}` has no example, definition or function")
+        full = advice and linked(example) and linked(definition) and linked(function)
+        tally.note(full, f"docs/ABORTS.md: `{words}` has no advice, example, definition or function")
 
 
 def levels_by_comment():
@@ -235,6 +242,35 @@ def check_links(tally):
                 tally.note(os.path.exists(os.path.join(ROOT, path)), f"{page}: a link to {target}, which is not there")
 
 
+def check_statuses(tally):
+    code = set(re.findall(r"^    (\w+) = (\d+),$", read("crates/bcdb/src/status.rt"), re.MULTILINE))
+    defined = set(re.findall(r"^number_of_status (\w+) = (\d+)$", read("crates/bcdb/specs/Numbers.antt"), re.MULTILINE))
+    tally.note(code == defined and code, "crates/bcdb: status.rt and Numbers.antt have other numbers")
+    numbers = sorted(int(number) for _, number in code)
+    for page, heading in (("README.md", "## Commands and statuses"), ("docs/FORMATS.md", "## Statuses (`bcdb`)")):
+        shown = [int(row[0]) for row in rows_of(page, heading) if row[0].isdigit()]
+        tally.note(shown == numbers, f"{page}: the table of statuses has {shown}, and there are {numbers}")
+
+
+def check_reading(tally):
+    tally.note(read("docs/READING.md") == reading_path.page(), "docs/READING.md is not what docs/reading_path.py writes")
+    page = " ".join(read("README.md").split())
+    for files, lines in reading_path.sizes():
+        is_there = re.search(rf"\b{files} files (?:of definitions )?with {lines:,} lines", page)
+        tally.note(is_there, f"README.md: the sizes of the definitions are {files} files with {lines:,} lines")
+
+
+def check_form(tally):
+    for page in pages():
+        text = read(page)
+        for number in prose.wide_lines(text):
+            tally.note(False, f"{page}:{number}: the line has more than {prose.WIDEST} columns")
+        for number, sentence in prose.long_sentences(text):
+            tally.note(False, f"{page}:{number}: a sentence has more than {prose.LONGEST} words: {sentence[:100]}")
+        for words in UNUSED:
+            tally.note(words not in " ".join(text.lower().split()), f"{page}: `{words}` is not used any more")
+
+
 def main():
     tally = Tally()
     check_examples(tally)
@@ -243,6 +279,9 @@ def main():
     check_crates(tally)
     check_names(tally)
     check_links(tally)
+    check_statuses(tally)
+    check_reading(tally)
+    check_form(tally)
     print(f"{tally.passed} passed, {tally.failed} failed")
     sys.exit(1 if tally.failed or not tally.passed else 0)
 

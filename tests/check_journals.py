@@ -4,8 +4,10 @@
 The report of each run has to be that of one node without executors, byte for byte, once for each node; and each journal has to be one that the rule of
 the node's steps allows, here written anew from docs/DEFINITIONS.md: a job is made by an arrival or a delivery, claimed once its height is sealed, read and
 finished or released by its holder, and a transaction is committed at its turn once its job is done. Which rows a read gives is not looked at.
+In all runs together, an arrival and an entry of an executor have to be seen at each number that a node may have.
 Usage: check_journals.py PROGRAM [COUNT] [SEED]
 """
+import collections
 import os
 import random
 import re
@@ -17,6 +19,7 @@ from draw_schedules import CASES, HERE, arrivals_of, blocks_of, changed, read
 
 EARLY = ("aborted duplicate-id", "aborted future-height", "aborted unknown-procedure", "aborted bad-arguments")
 MOST_READS = 100000
+MOST_NODES = 3
 
 
 KINDS = {"int": re.compile(r"-?[0-9]+"), "text": re.compile(r'"(?:[^"\\]|\\.)*"'), "bool": re.compile("true|false"), "bytes": re.compile(r'x"(?:[0-9a-f]{2})*"')}
@@ -211,10 +214,24 @@ def late_or_never(draw, blocks):
     return lines
 
 
-def draw_run(program, draw, folder, case):
+def note_actors(seen, place, lines, executors):
+    """Counts the entries of a node's executors, and of the one that makes its arrivals."""
+    for line in lines:
+        actor = int(line.split(" ")[0])
+        if actor > 0:
+            seen[place + 1, "arrival" if actor > executors else "entry of an executor"] += 1
+
+
+def missing(seen):
+    """What was seen in no run, at a number that a node may have."""
+    wanted = [(place + 1, what) for place in range(MOST_NODES) for what in ("arrival", "entry of an executor")]
+    return [f"no {what} was seen at node {node}" for node, what in wanted if not seen[node, what]]
+
+
+def draw_run(program, draw, folder, case, seen):
     app, draft = os.path.join(HERE, "cases", case, "a.app"), os.path.join(HERE, "cases", case, "b.draft")
     procedures, blocks = Procedures(read(app)), blocks_of(read(draft))
-    nodes, executors = draw.randrange(1, 4), draw.choice([0, 1, 2, 4, 16])
+    nodes, executors = draw.randrange(1, MOST_NODES + 1), draw.choice([0, 1, 2, 4, 16])
     arrivals = [late_or_never(draw, blocks) for _ in range(nodes)]
     for place, lines in enumerate(arrivals):
         with open(os.path.join(folder, f"arrivals{place + 1}"), "w") as out:
@@ -224,24 +241,28 @@ def draw_run(program, draw, folder, case):
     words = ["--nodes", str(nodes), "--executors", str(executors), "--arrivals", os.path.join(folder, "arrivals"), "--trace"]
     report, journals = split_trace(output(program, ["run", *files, *words]), nodes)
     need(report == expected(plain, nodes), "another report")
-    for lines, arrived in zip(journals, arrivals):
+    for place, (lines, arrived) in enumerate(zip(journals, arrivals)):
         check_journal(lines, blocks, outcomes_of(plain), filter(procedures.takes, arrived), executors)
+        note_actors(seen, place, lines, executors)
 
 
 def main():
     program = os.path.abspath(sys.argv[1])
     count = int(sys.argv[2]) if len(sys.argv) > 2 else 300
     seed = int(sys.argv[3]) if len(sys.argv) > 3 else random.randrange(2 ** 32)
-    draw, failed = random.Random(seed), 0
+    draw, failed, seen = random.Random(seed), 0, collections.Counter()
     with tempfile.TemporaryDirectory() as folder:
         for number in range(count):
             case = draw.choice(CASES)
             try:
-                draw_run(program, draw, folder, case)
+                draw_run(program, draw, folder, case, seen)
             except (Illegal, subprocess.TimeoutExpired) as fault:
                 failed += 1
                 print(f"run {number} of seed {seed}, {case}: {fault}")
-    print(f"{count - failed} passed, {failed} failed")
+    for fault in missing(seen):
+        failed += 1
+        print(f"seed {seed}: {fault}")
+    print(f"{count + 2 * MOST_NODES - failed} passed, {failed} failed")
     sys.exit(1 if failed else 0)
 
 

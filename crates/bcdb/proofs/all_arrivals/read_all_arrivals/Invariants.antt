@@ -1,9 +1,0 @@
-use Rattle.std.proofs.Common.{◌≡◌, ℕ}
-use Rattle.bcdb.proofs.Gathering.{Gathers}
-use Rattle.bcdb.proofs.all_arrivals.read_all_arrivals.Given as goal
-
--- what arrives at the nodes before this one was read, no read has failed, and the shelf stands as at first
-abbrev pub invariant-loop-node : goal.invariant-loop-node
-invariant-loop-node g l = (g.S.Shelf.told l.shelf ≡ g.S.Shelf.told l.fn.shelf)
-    × (g.S.Shelf.faults l.shelf ≡ g.S.Shelf.faults l.fn.shelf)
-    × ((left : ℕ) × Gathers l.asked (g.S.Shelf.told l.fn.shelf) (g.S.Shelf.may_read l.shelf) l.node l.all left)

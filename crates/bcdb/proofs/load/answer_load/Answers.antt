@@ -1,7 +1,0 @@
-use Rattle.std.proofs.Common.{subst, sym}
-use Rattle.bcdb.proofs.Loads.{loads_numbered}
-use Rattle.bcdb.proofs.load.answer_load.Goals as goal
-use Rattle.chain_file.specs.Numbered.{NumberedFrom}
-
-pub run_load-reply-requires-clause-blocks : goal.run_load-reply-requires-clause-blocks
-run_load-reply-requires-clause-blocks g c κs within = subst (NumberedFrom 1) (sym c.in_ok-load.ensures.blocks) (loads_numbered c.args.number)
