@@ -13,7 +13,7 @@ import sys
 
 ROOT = os.path.dirname(os.path.dirname(os.path.abspath(__file__)))
 PICTURE = os.path.join(ROOT, "docs", "crates.svg")
-WIDTH, LEFT, RIGHT = 900, 70, 884
+WIDTH, LEFT, RIGHT = 920, 70, 904
 BAND, BOX, TOP = 66, 28, 44
 LETTER, PADDING, GAP, LANE = 6.7, 8, 10, 2
 WIDEST = 640

@@ -1,0 +1,7 @@
+pub mod Blocks
+pub mod Filled
+pub mod Merge
+pub mod Orders
+pub mod Rule
+pub mod Standing
+pub mod Works
