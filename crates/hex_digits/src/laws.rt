@@ -1,0 +1,15 @@
+//! What is written is read back, and what is read was written so: each the contract of a function that does nothing.
+
+ghost use Rattle.hex_digits.specs.Laws.{BytesComeBack, BytesHaveOneSpelling, HashesComeBack, HashesHaveOneSpelling};
+
+/// Bytes are read back from their digits, and have no others.
+pub fn bytes_have_digits()
+    ensures back { BytesComeBack }
+    ensures one { BytesHaveOneSpelling }
+{}
+
+/// Hashes are read back from their digits, and have no others.
+pub fn hashes_have_digits()
+    ensures back { HashesComeBack }
+    ensures one { HashesHaveOneSpelling }
+{}

@@ -1,0 +1,10 @@
+mod Paths
+mod Members
+mod Sizes
+mod Ways
+mod Halves
+mod Apart
+mod Verified
+mod Member
+mod Roots
+mod Heads

@@ -1,0 +1,5 @@
+pub mod Shape
+pub mod Tree
+pub mod Head
+pub mod Proofs
+pub mod Laws

@@ -1,0 +1,21 @@
+//! A Merkle tree over the writes of a block, and proofs that a write stands in it.
+//!
+//! Who holds the head of a block's writes, 32 bytes, can be shown with a path of at most 32 hashes that a write stands at an index
+//! among them. The tree has the shape of RFC 6962.
+#![tactic(auto)]
+
+mod climb;
+mod collision;
+mod explaining;
+mod hashes;
+pub mod laws;
+pub mod proof;
+mod proving;
+mod root;
+mod verifying;
+
+pub use explaining::{Verdict, explain};
+pub use proof::Proof;
+pub use proving::prove;
+pub use root::head_of;
+pub use verifying::verify;

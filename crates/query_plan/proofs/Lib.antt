@@ -1,0 +1,12 @@
+pub mod Cells
+pub mod Extends
+pub mod Wide
+pub mod KindAt
+pub mod Going
+pub mod Grouped
+pub mod Plainly
+pub mod Grouply
+pub mod Sorting
+pub mod Heights
+pub mod StepsFit
+pub mod Asking

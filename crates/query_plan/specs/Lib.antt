@@ -1,0 +1,9 @@
+pub mod Tuples
+pub mod Cells
+pub mod Walk
+pub mod Reads
+pub mod Fits
+pub mod Answer
+pub mod Plan
+pub mod Tallies
+pub mod Ready
