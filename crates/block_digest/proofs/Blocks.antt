@@ -1,21 +1,22 @@
 -- The codes of blocks are exact.
-use Rattle.std.proofs.Common.{◌≡◌, ◌<◌, ◌≤◌, ◌^◌, ℕ, List, true, refl, sym, ◌∙◌, ap, arith, length}
+use Rattle.std.proofs.Common.{◌≡◌, ◌<◌, ◌≤◌, ◌^◌, ℕ, ℤ, List, true, refl, sym, ◌∙◌, ap, arith, length}
 use Rattle.std.specs.Int.{w64}
-use Rattle.std.specs.Prelude.{nat_le}
+use Rattle.std.specs.Prelude.{FitsSigned, int_le, nat_le, pos}
 use Rattle.std.proofs.lemmas.Bool.{and_from, and_parts, le-leb, leb-true}
 use Rattle.canon_code.specs.Codes.{be_code, short_code, counted, HasCounted}
 use Rattle.canon_code.specs.Parts.{number_at, counted_at}
+use Rattle.canon_code.specs.Values.{int_at, int_code}
 use Rattle.canon_code.specs.Writes.{write_code, HasWriteCode, write_at}
 use Rattle.canon_code.proofs.Exact.{IsExact, u64_exact, counted_exact}
-use Rattle.canon_code.proofs.Things.{write_exact}
+use Rattle.canon_code.proofs.Things.{int_exact, write_exact}
 use Rattle.node_model.specs.BlockCode.{small_code, outcome_code, told_code, block_code}
 use Rattle.node_model.specs.declared.result.BlockResult.{BlockResult}
 use Rattle.node_model.specs.declared.result.Told.{Told}
 use Rattle.rel_base.specs.Text.{has_id_form}
 use Rattle.rel_base.specs.declared.access.Placed.{Placed}
-use Rattle.block_digest.specs.Grammar.{most_counted, most_outcomes, IsSmall, IsPosition, HasOutcomeCode, HasToldCode, HasPlacedCode, HaveCodes, HasBlockCode}
+use Rattle.block_digest.specs.Grammar.{most_counted, most_outcomes, IsSmall, IsPosition, IsTime, HasOutcomeCode, HasToldCode, HasPlacedCode, HaveCodes, HasBlockCode}
 use Rattle.block_digest.specs.Joined.{Reading, then_at, then_by}
-use Rattle.block_digest.specs.Readings.{small_at, id_at, outcome_at, told_with, told_at, is_position, position_at, placed_at, rise, outcomes_at, order_at, writes_at, block_of, block_at}
+use Rattle.block_digest.specs.Readings.{small_at, id_at, outcome_at, told_with, told_at, is_position, position_at, placed_at, rise, outcomes_at, order_at, writes_at, time_at, head_at, block_of, block_at}
 use Rattle.block_digest.proofs.Joins.{form_exact, held_exact, tested_exact, pair_code, HasPairCode, then_exact, made_exact}
 use Rattle.block_digest.proofs.Outcomes.{HasBoth, both_exact, small_exact, outcome_exact}
 use Rattle.block_digest.proofs.Rising.{sorted_from_rise, rise_from_sorted}
@@ -84,45 +85,59 @@ writes_exact count =
 abbrev IsWide : ℕ → Type 0
 IsWide n = n < 2 ^ 64
 
--- the number and the transactions
-abbrev head_code : ℕ × List Told → List ℕ
-head_code = pair_code (be_code w64) (counted small_code told_code)
+-- a time
+time_exact : IsExact int_code IsTime time_at
+time_exact = tested_exact int_code (FitsSigned w64) int_at (int_le (pos 0)) int_exact
 
-abbrev HasHeadCode : ℕ × List Told → Type 0
-HasHeadCode = HasBoth IsWide (HasCounted most_outcomes HasToldCode)
+-- the number and the time
+abbrev number_code : ℕ × ℤ → List ℕ
+number_code = pair_code (be_code w64) int_code
 
-head_exact : IsExact head_code HasHeadCode (then_at (number_at w64) outcomes_at)
-head_exact = both_exact (be_code w64) IsWide (number_at w64) (counted small_code told_code) (HasCounted most_outcomes HasToldCode) outcomes_at u64_exact outcomes_exact
+abbrev HasNumberCode : ℕ × ℤ → Type 0
+HasNumberCode = HasBoth IsWide IsTime
+
+number_exact : IsExact number_code HasNumberCode head_at
+number_exact = both_exact (be_code w64) IsWide (number_at w64) int_code IsTime time_at u64_exact time_exact
+
+-- with the transactions after them
+abbrev head_code : (ℕ × ℤ) × List Told → List ℕ
+head_code = pair_code number_code (counted small_code told_code)
+
+abbrev HasHeadCode : (ℕ × ℤ) × List Told → Type 0
+HasHeadCode = HasBoth HasNumberCode (HasCounted most_outcomes HasToldCode)
+
+head_exact : IsExact head_code HasHeadCode (then_at head_at outcomes_at)
+head_exact = both_exact number_code HasNumberCode head_at (counted small_code told_code) (HasCounted most_outcomes HasToldCode) outcomes_at number_exact outcomes_exact
 
 -- with the order after them
-abbrev ordered_code : (ℕ × List Told) × List ℕ → List ℕ
+abbrev ordered_code : ((ℕ × ℤ) × List Told) × List ℕ → List ℕ
 ordered_code = pair_code head_code (counted small_code small_code)
 
-abbrev IsOrderOf : ℕ × List Told → List ℕ → Type 0
+abbrev IsOrderOf : (ℕ × ℤ) × List Told → List ℕ → Type 0
 IsOrderOf head order = HasCounted most_counted (IsPosition (length head.1)) order
 
-abbrev HasOrderedCode : (ℕ × List Told) × List ℕ → Type 0
+abbrev HasOrderedCode : ((ℕ × ℤ) × List Told) × List ℕ → Type 0
 HasOrderedCode = HasPairCode HasHeadCode IsOrderOf
 
-abbrev ordered_at : Reading ((ℕ × List Told) × List ℕ)
-ordered_at = then_by (then_at (number_at w64) outcomes_at) (λ found. order_at (length found.1))
+abbrev ordered_at : Reading (((ℕ × ℤ) × List Told) × List ℕ)
+ordered_at = then_by (then_at head_at outcomes_at) (λ found. order_at (length found.1))
 
 ordered_exact : IsExact ordered_code HasOrderedCode ordered_at
 ordered_exact =
-    then_exact head_code HasHeadCode (then_at (number_at w64) outcomes_at) (counted small_code small_code) IsOrderOf (λ found. order_at (length found.1))
+    then_exact head_code HasHeadCode (then_at head_at outcomes_at) (counted small_code small_code) IsOrderOf (λ found. order_at (length found.1))
     head_exact (λ head has. order_exact (length head.1) has.1.0)
 
 -- with the writes after them
-abbrev parts_code : ((ℕ × List Told) × List ℕ) × List Placed → List ℕ
+abbrev parts_code : (((ℕ × ℤ) × List Told) × List ℕ) × List Placed → List ℕ
 parts_code = pair_code ordered_code (counted small_code write_code)
 
-abbrev AreWritesOf : (ℕ × List Told) × List ℕ → List Placed → Type 0
+abbrev AreWritesOf : ((ℕ × ℤ) × List Told) × List ℕ → List Placed → Type 0
 AreWritesOf ordered writes = HaveCodes (length ordered.0.1) writes
 
-abbrev HavePartsCode : ((ℕ × List Told) × List ℕ) × List Placed → Type 0
+abbrev HavePartsCode : (((ℕ × ℤ) × List Told) × List ℕ) × List Placed → Type 0
 HavePartsCode = HasPairCode HasOrderedCode AreWritesOf
 
-abbrev parts_at : Reading (((ℕ × List Told) × List ℕ) × List Placed)
+abbrev parts_at : Reading ((((ℕ × ℤ) × List Told) × List ℕ) × List Placed)
 parts_at = then_by ordered_at (λ found. writes_at (length found.0.1))
 
 parts_exact : IsExact parts_code HavePartsCode parts_at
@@ -130,17 +145,17 @@ parts_exact =
     then_exact ordered_code HasOrderedCode ordered_at (counted small_code write_code) AreWritesOf (λ found. writes_at (length found.0.1))
     ordered_exact (λ ordered has. writes_exact (length ordered.0.1))
 
-abbrev block_parts : BlockResult → ((ℕ × List Told) × List ℕ) × List Placed
-block_parts block = (((block.number, block.outcomes), block.order), block.writes)
+abbrev block_parts : BlockResult → (((ℕ × ℤ) × List Told) × List ℕ) × List Placed
+block_parts block = ((((block.number, block.time), block.outcomes), block.order), block.writes)
 
 made_again : (block : BlockResult) → HasBlockCode block → block_of (block_parts block) ≡ block
 made_again block has =
-    ap (λ time. record (block_of (block_parts block)) { time = time }) (sym has.time) ∙ ap (λ digest. record block { digest = digest }) (sym has.digest)
+    ap (λ digest. record block { digest = digest }) (sym has.digest)
 
 pub block_exact : IsExact block_code HasBlockCode block_at
 block_exact = made_exact block_of block_parts parts_code HavePartsCode parts_at block_code HasBlockCode parts_exact (record {
-  has_parts = λ block has. (((has.number, has.outcomes), has.order), has.writes);
+  has_parts = λ block has. ((((has.number, has.time), has.outcomes), has.order), has.writes);
   again = made_again;
-  has_code = λ found has. record { number = has.0.0.0; time = refl; outcomes = has.0.0.1; order = has.0.1; writes = has.1; digest = refl };
+  has_code = λ found has. record { number = has.0.0.0.0; time = has.0.0.0.1; outcomes = has.0.0.1; order = has.0.1; writes = has.1; digest = refl };
   coded = λ found has. refl;
 })

@@ -1,5 +1,5 @@
--- The grammar of codes: what the result of a block holds that a code is read as. A code says nothing of a block's time and digest, so
--- these are 0 there.
+-- The grammar of codes: what the result of a block holds that a code is read as. A code says nothing of a block's digest, so this is 0
+-- there.
 use Rattle.canon_code.specs.Codes.{HasCounted}
 use Rattle.canon_code.specs.Rows.{HasRowCode}
 use Rattle.canon_code.specs.Values.{is_text}
@@ -19,7 +19,8 @@ use Rattle.rel_base.specs.Text.{has_id_form}
 use Rattle.rel_base.specs.declared.access.Placed.{Placed}
 use Rattle.std.specs.List.Sorted.{IsStrictlySortedBy}
 use Rattle.std.specs.Ordering.{nat_cmp, ordering_then}
-use Rattle.std.specs.Prelude.{List, length, pos, replicate, true, ◌<◌, ◌^◌, ◌≡◌, ◌≤◌, ℕ}
+use Rattle.std.specs.Int.{w64}
+use Rattle.std.specs.Prelude.{FitsSigned, List, int_le, length, pos, replicate, true, ◌<◌, ◌^◌, ◌≡◌, ◌≤◌, ℕ, ℤ}
 use Rattle.std.specs.declared.cmp.Ordering.{Ordering}
 
 -- the most transactions of a block
@@ -93,9 +94,13 @@ pub record HaveCodes (count : ℕ) (writes : List Placed) : Type 0 where
   pub each : HasCounted most_counted (HasPlacedCode count) writes
   pub rising : IsStrictlySortedBy placed_cmp writes
 
+-- whole seconds from 0 on that have 64 bits
+abbrev pub IsTime : ℤ → Type 0
+IsTime time = FitsSigned w64 time × (int_le (pos 0) time ≡ true)
+
 pub record HasBlockCode (block : BlockResult) : Type 0 where
   pub number : block.number < 2 ^ 64
-  pub time : block.time ≡ pos 0
+  pub time : IsTime block.time
   pub outcomes : HasCounted most_outcomes HasToldCode block.outcomes
   pub order : HasCounted most_counted (IsPosition (length block.outcomes)) block.order
   pub writes : HaveCodes (length block.outcomes) block.writes

@@ -6,17 +6,17 @@ use Rattle.rel_base.specs.declared.reading.ReadFault.TheVariants as fault
 use Rattle.rel_base.specs.declared.reading.ReadFault.{ReadFault}
 use Rattle.node_model.specs.BlockCode.{block_code, digest_of}
 use Rattle.node_model.specs.declared.result.BlockResult.{BlockResult}
-use Rattle.std.specs.Prelude.{List, MatchResult, Result, pos, replicate, ◌≡◌, ℕ}
+use Rattle.std.specs.Prelude.{List, MatchResult, Result, replicate, ◌≡◌, ℕ}
 
--- a result without its time and its digest
+-- a result without its digest
 abbrev pub bare : BlockResult → BlockResult
-bare block = record block { time = pos 0; digest = replicate 32 0 }
+bare block = record block { digest = replicate 32 0 }
 
--- neither has a part in a code or in a digest
+-- which has no part in a code, nor in the digest that follows
 abbrev pub IsOfBare : Type 0
 IsOfBare = (previous : List ℕ) (block : BlockResult) → (block_code block ≡ block_code (bare block)) × (digest_of previous block ≡ digest_of previous (bare block))
 
--- so results with one code differ in their times and digests alone
+-- so results with one code differ in their digests alone
 abbrev pub CodesTell : Type 0
 CodesTell = (x y : BlockResult) → HasBlockCode (bare x) → HasBlockCode (bare y) → block_code x ≡ block_code y → bare x ≡ bare y
 

@@ -3,7 +3,7 @@ use Rattle.block_digest.specs.Grammar.{most_counted, most_outcomes, placed_cmp}
 use Rattle.block_digest.specs.Joined.{Reading, made_at, tested_at, then_at, then_by}
 use Rattle.canon_code.specs.Parts.{counted_at, number_at, short_at}
 use Rattle.canon_code.specs.Rows.{row_at}
-use Rattle.canon_code.specs.Values.{text_at}
+use Rattle.canon_code.specs.Values.{int_at, text_at}
 use Rattle.canon_code.specs.Writes.{write_at}
 use Rattle.node_model.specs.declared.danger.Danger.TheVariants as danger
 use Rattle.node_model.specs.declared.danger.Danger.{Danger}
@@ -20,7 +20,7 @@ use Rattle.rel_base.specs.declared.access.Placed.{Placed}
 use Rattle.rel_base.specs.declared.value.Value.{Value}
 use Rattle.std.specs.Int.{w32, w64}
 use Rattle.std.specs.Ordering.{is_lt}
-use Rattle.std.specs.Prelude.{Bool, List, None, Some, cond, false, length, nat_le, pos, replicate, true, [], ◌&&◌, ◌==◌, ◌∷◌, ℕ}
+use Rattle.std.specs.Prelude.{Bool, List, None, Some, cond, false, int_le, length, nat_le, pos, replicate, true, [], ◌&&◌, ◌==◌, ◌∷◌, ℕ, ℤ}
 
 abbrev pub small_at : Reading ℕ
 small_at bytes = number_at w32 bytes
@@ -120,17 +120,25 @@ order_at count = counted_at small_at most_counted (position_at count)
 abbrev pub writes_at : ℕ → Reading (List Placed)
 writes_at count = tested_at rise (counted_at small_at most_counted (placed_at count))
 
-abbrev pub block_of : ((ℕ × List Told) × List ℕ) × List Placed → BlockResult
+abbrev pub block_of : (((ℕ × ℤ) × List Told) × List ℕ) × List Placed → BlockResult
 block_of found = record {
-  number = found.0.0.0;
-  time = pos 0;
+  number = found.0.0.0.0;
+  time = found.0.0.0.1;
   outcomes = found.0.0.1;
   order = found.0.1;
   writes = found.1;
   digest = replicate 32 0;
 }
 
+-- a time, which is not negative
+abbrev pub time_at : Reading ℤ
+time_at = tested_at (int_le (pos 0)) int_at
+
+-- the number and the time
+abbrev pub head_at : Reading (ℕ × ℤ)
+head_at = then_at (number_at w64) time_at
+
 -- the block at the start of the bytes, and what follows it
 abbrev pub block_at : Reading BlockResult
 block_at =
-    made_at block_of (then_by (then_by (then_at (number_at w64) outcomes_at) (λ found. order_at (length found.1))) (λ found. writes_at (length found.0.1)))
+    made_at block_of (then_by (then_by (then_at head_at outcomes_at) (λ found. order_at (length found.1))) (λ found. writes_at (length found.0.1)))

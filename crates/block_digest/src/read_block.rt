@@ -9,7 +9,7 @@ ghost use Rattle.rel_base.specs.Text.{has_id_form};
 ghost use Rattle.block_digest.specs.Codable.{IsCodable};
 ghost use Rattle.block_digest.specs.Decoding.{Decodes};
 ghost use Rattle.block_digest.specs.Grammar.{most_outcomes, most_counted, placed_cmp, HasBlockCode};
-ghost use Rattle.block_digest.specs.Readings.{small_at, id_at, told_at, is_position, position_at, placed_at, rise_behind, rise, outcomes_at, order_at, writes_at, block_at};
+ghost use Rattle.block_digest.specs.Readings.{small_at, id_at, told_at, is_position, position_at, placed_at, rise_behind, rise, outcomes_at, order_at, writes_at, time_at, head_at, block_at};
 
 use crate::items::{Item, read_items};
 use crate::read_outcome::read_outcome;
@@ -189,17 +189,38 @@ fn read_writes(
     Ok((writes, rest))
 }
 
+/// Reads a time, which is not negative.
+fn read_time(bytes: &[u8]) -> Result<(i64, &[u8]), CodeFault>
+    ensures { Reads result (time_at bytes.now) }
+{
+    let (bits, rest) = read_u64(bytes)?;
+    let time = bits.cast_signed();
+    if time < 0 {
+        return Err(CodeFault::Bad);
+    }
+    Ok((time, rest))
+}
+
+/// Reads the number and the time of a block.
+fn read_head(bytes: &[u8]) -> Result<((u64, i64), &[u8]), CodeFault>
+    ensures { Reads result (head_at bytes.now) }
+{
+    let (number, rest) = read_u64(bytes)?;
+    let (time, rest) = read_time(rest)?;
+    Ok(((number, time), rest))
+}
+
 /// Reads the block whose code stands at the start of the bytes, and answers what follows it too.
 fn read_block(alloc: Global, bytes: &[u8]) -> Result<(BlockResult, &[u8]), CodeFault>
     ensures { Reads result (block_at bytes.now) }
 {
-    let (number, rest) = read_u64(bytes)?;
+    let ((number, time), rest) = read_head(bytes)?;
     let (outcomes, rest) = read_outcomes(alloc, rest)?;
     let (order, rest) = read_order(alloc, outcomes.len(), rest)?;
     let (writes, rest) = read_writes(alloc, outcomes.len(), rest)?;
     let block = BlockResult {
         number,
-        time: 0,
+        time,
         outcomes,
         order,
         writes,
@@ -208,7 +229,7 @@ fn read_block(alloc: Global, bytes: &[u8]) -> Result<(BlockResult, &[u8]), CodeF
     Ok((block, rest))
 }
 
-/// The block whose code the bytes are, with time 0 and a digest of zeros, since a code holds neither. `Bad` exactly where the whole
+/// The block whose code the bytes are, with a digest of zeros, since a code holds none. `Bad` exactly where the whole
 /// of the bytes is no code of a block of the grammar. Memory is taken for what was read alone, whatever the counts say.
 pub fn decode(alloc: Global, bytes: &[u8]) -> Result<BlockResult, CodeFault>
     ensures decoded { Decodes block_code HasBlockCode bytes.now result }

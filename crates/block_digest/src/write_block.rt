@@ -2,7 +2,9 @@
 
 ghost use Rattle.std.specs.Prelude.{◌≡◌, ◌<◌, ◌^◌, ◌++◌, All, length, IfOk, OnOk};
 ghost use Rattle.std.specs.List.{flat_map};
-ghost use Rattle.canon_code.specs.Codes.{counted};
+ghost use Rattle.std.specs.Int.{w64};
+ghost use Rattle.canon_code.specs.Codes.{be_code, counted};
+ghost use Rattle.canon_code.specs.Values.{int_code};
 ghost use Rattle.canon_code.specs.Writes.{write_code};
 ghost use Rattle.node_model.specs.BlockCode.{small_code, told_code, block_code};
 ghost use Rattle.block_digest.specs.Codable.{HasFewKey, IsFewWrite, IsCodable};
@@ -84,18 +86,33 @@ fn push_writes(out: &mut Vec<u8>, writes: &List<Placed>) -> Result<(), NoMemory>
     push_all_placed(out, writes.as_slice())
 }
 
+/// Writes a time at the end.
+fn push_time(out: &mut Vec<u8>, time: i64) -> Result<(), NoMemory>
+    ensures { OnOk result (out.new.items ≡ out.old.items ++ int_code time) }
+{
+    put_u64(out, time.cast_unsigned())
+}
+
+/// Writes the number and the time of a block at the end.
+fn push_head(out: &mut Vec<u8>, number: u64, time: i64) -> Result<(), NoMemory>
+    ensures { OnOk result (out.new.items ≡ out.old.items ++ (be_code w64 number ++ int_code time)) }
+{
+    put_u64(out, number)?;
+    push_time(out, time)
+}
+
 /// Writes the code of a block's result at the end, or a part of it where memory runs out.
 fn push_block(out: &mut Vec<u8>, block: &BlockResult) -> Result<(), NoMemory>
     requires { IsCodable block.now }
     ensures { OnOk result (out.new.items ≡ out.old.items ++ block_code block.now) }
 {
-    put_u64(out, block.number)?;
+    push_head(out, block.number, block.time)?;
     push_outcomes(out, &block.outcomes)?;
     push_order(out, &block.order)?;
     push_writes(out, &block.writes)
 }
 
-/// The code of a block's result, in which its time and its digest have no part. There are fewer than 2^32 outcomes, positions
+/// The code of a block's result, in which its digest has no part. There are fewer than 2^32 outcomes, positions
 /// and writes, and at most 32 values in each key and row. The only refusal is out of memory, which is taken for the code alone.
 pub fn encode(alloc: Global, block: &BlockResult) -> Result<List<u8>, NoMemory>
     requires { IsCodable block.now }

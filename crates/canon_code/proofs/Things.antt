@@ -40,7 +40,7 @@ int_written bytes n rest fits e =
     let same : a.0.0 ≡ cast_unsigned w64 n = sym (of_z-to_z w64 a.0.0 bits.0) ∙ ap (cast_unsigned w64) parts.0 in
     (subst (FitsSigned w64) parts.0 (signed_fits a.0.0 bits.0), bits.1 ∙ ap (λ k. be_code w64 k ++ a.0.1) same ∙ ap (λ xs. int_code n ++ xs) parts.1)
 
-int_exact : IsExact int_code (FitsSigned w64) int_at
+pub int_exact : IsExact int_code (FitsSigned w64) int_at
 int_exact = record { back = int_back; written = int_written }
 
 abbrev IsText : List ℕ → Type 0

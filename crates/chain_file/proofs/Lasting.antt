@@ -9,14 +9,14 @@ use Rattle.tx_text.specs.Lines.{tx_of}
 use Rattle.proc_syntax.specs.declared.chain_fault.ChainFault.{ChainFault}
 use Rattle.proc_syntax.specs.declared.chain_fault.ChainKind.{ChainKind}
 use Rattle.proc_syntax.specs.declared.chain_fault.ChainKind.TheVariants as kind
-use Rattle.chain_file.specs.declared.section.FileForm.{FileForm}
-use Rattle.chain_file.specs.declared.section.FileForm.TheVariants as form
+use Rattle.chain_file.specs.declared.form.FileForm.{FileForm}
 use Rattle.chain_file.specs.declared.section.Section.{Section}
 use Rattle.chain_file.specs.declared.section.Section.TheVariants as place
 use Rattle.chain_file.specs.declared.section.Taken.{Taken}
 use Rattle.tx_text.specs.Parts.{parts_of, is_long}
-use Rattle.chain_file.specs.Draft.{block_of}
-use Rattle.chain_file.specs.Steps.{goes_on, is_number, has_end, is_next, has_digits, numbered, begun_by, ends, end_block, add_tx, line_step, step}
+use Rattle.chain_file.specs.Blocks.{block_of}
+use Rattle.chain_file.specs.Headers.{form_said}
+use Rattle.chain_file.specs.Steps.{add_tx, begins, begun_by, end_block, ends, goes_on, has_digits, has_form, hash_part, is_next, line_step, next_time, numbered, step, time_part, timed}
 use Rattle.chain_file.specs.Chain.{Position, fault, told, take_line, onward, walk, walked, front, is_between, fault_at_end, is_cut, lasting}
 
 -- any other fault
@@ -24,43 +24,48 @@ abbrev Lasts : {A : Type 0} → Result A ChainKind → Type 0
 Lasts (Ok found) = Unit {0}
 Lasts (Err k) = is_cut k ≡ false
 
-header_lasts : (draft chain : Bool) → Lasts (cond draft (Ok (goes_on (place.Between form.Draft 0))) (cond chain (Ok (goes_on (place.Between form.Chain 0))) (Err kind.BadHeader)))
-header_lasts true chain = tt
-header_lasts false true = tt
-header_lasts false false = refl
+header_lasts : (form : Option FileForm) → Lasts (begins form)
+header_lasts None = refl
+header_lasts (Some f) = tt
 
-tested_lasts : (f : FileForm) (count : ℕ) (shape next same : Bool)
-    → Lasts (cond shape (cond next (cond same (Ok (goes_on (place.Within f count []))) (Err kind.WrongPrev)) (Err kind.WrongNumber)) (Err kind.BadLine))
-tested_lasts f count true true true = tt
-tested_lasts f count true true false = refl
-tested_lasts f count true false same = refl
-tested_lasts f count false next same = refl
+timed_lasts : (f : FileForm) (count : ℕ) (time : Option ℕ) → Lasts (timed f count time)
+timed_lasts f count None = refl
+timed_lasts f count (Some time) = tt
 
-begin_lasts : (f : FileForm) (count : ℕ) (digits : List ℕ) (rest : Option (List ℕ)) → Lasts (begun_by rest (numbered f count digits))
-begin_lasts f count digits None = refl
-begin_lasts f count digits (Some rest) =
-    tested_lasts f count (is_number (word rest) && has_end f (past_word rest)) (is_next count (word rest)) (has_digits f digits (past_word rest))
+fields_last : (f : FileForm) (count : ℕ) (time : Option ℕ) (has_form next same : Bool)
+    → Lasts (cond has_form (cond next (cond same (timed f count time) (Err kind.WrongPrev)) (Err kind.WrongNumber)) (Err kind.BadLine))
+fields_last f count time true true true = timed_lasts f count time
+fields_last f count time true true false = refl
+fields_last f count time true false same = refl
+fields_last f count time false next same = refl
 
-ends_lasts : (f : FileForm) (count : ℕ) (block : Option Block) → Lasts (ends f count block)
-ends_lasts f count None = refl
-ends_lasts f count (Some block) = tt
+begin_lasts : (f : FileForm) (count before : ℕ) (digits : List ℕ) (rest : Option (List ℕ)) → Lasts (begun_by rest (numbered f count before digits))
+begin_lasts f count before digits None = refl
+begin_lasts f count before digits (Some rest) =
+    let hash : List ℕ = hash_part f.kind (past_word rest) in
+    let time : List ℕ = time_part f.kind (past_word rest) in
+    fields_last f count (next_time f.version before time) (has_form f (word rest) hash time) (is_next count (word rest)) (has_digits f.kind digits hash)
 
-more_lasts : (f : FileForm) (count : ℕ) (txs : List Tx) (test : Bool) → Lasts (cond test (Ok (goes_on (place.Within f count txs))) (Err kind.TooManyTx))
-more_lasts f count txs true = tt
-more_lasts f count txs false = refl
+ends_lasts : (f : FileForm) (count time : ℕ) (block : Option Block) → Lasts (ends f count time block)
+ends_lasts f count time None = refl
+ends_lasts f count time (Some block) = tt
 
-tx_lasts : (f : FileForm) (count : ℕ) (txs : List Tx) (found : Option Tx) → Lasts (add_tx f count txs found)
-tx_lasts f count txs None = refl
-tx_lasts f count txs (Some tx) = more_lasts f count (txs ++ (tx ∷ [])) (nat_lt (length txs) 1024)
+more_lasts : (f : FileForm) (count time : ℕ) (txs : List Tx) (test : Bool) → Lasts (cond test (Ok (goes_on (place.Within f count time txs))) (Err kind.TooManyTx))
+more_lasts f count time txs true = tt
+more_lasts f count time txs false = refl
 
-inside_lasts : (f : FileForm) (count : ℕ) (txs : List Tx) (line : List ℕ) (test : Bool) → Lasts (cond test (end_block f count txs) (add_tx f count txs (tx_of line)))
-inside_lasts f count txs line true = ends_lasts f (count + 1) (block_of (count + 1) txs)
-inside_lasts f count txs line false = tx_lasts f count txs (tx_of line)
+tx_lasts : (f : FileForm) (count time : ℕ) (txs : List Tx) (found : Option Tx) → Lasts (add_tx f count time txs found)
+tx_lasts f count time txs None = refl
+tx_lasts f count time txs (Some tx) = more_lasts f count time (txs ++ (tx ∷ [])) (nat_lt (length txs) 1024)
+
+inside_lasts : (f : FileForm) (count time : ℕ) (txs : List Tx) (line : List ℕ) (test : Bool) → Lasts (cond test (end_block f count time txs) (add_tx f count time txs (tx_of line)))
+inside_lasts f count time txs line true = ends_lasts f (count + 1) time (block_of (count + 1) time txs)
+inside_lasts f count time txs line false = tx_lasts f count time txs (tx_of line)
 
 line_lasts : (at : Section) (digits line : List ℕ) → Lasts (line_step at digits line)
-line_lasts place.Start digits line = header_lasts (bytes_eq line (codes "draft 1")) (bytes_eq line (codes "chain 1"))
-line_lasts (place.Between f count) digits line = begin_lasts f count digits (after (codes "block ") line)
-line_lasts (place.Within f count txs) digits line = inside_lasts f count txs line (bytes_eq line (codes "end"))
+line_lasts place.Start digits line = header_lasts (form_said line)
+line_lasts (place.Between f count time) digits line = begin_lasts f count time digits (after (codes "block ") line)
+line_lasts (place.Within f count time txs) digits line = inside_lasts f count time txs line (bytes_eq line (codes "end"))
 
 step_lasts : (at : Section) (digits line : List ℕ) (long : Bool) → Lasts (cond long (Err kind.LineTooLong) (line_step at digits line))
 step_lasts at digits line true = refl

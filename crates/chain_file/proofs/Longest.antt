@@ -11,7 +11,7 @@ use Rattle.proc_syntax.specs.declared.chain_fault.ChainKind.TheVariants as kind
 use Rattle.chain_file.specs.declared.section.Section.{Section}
 use Rattle.chain_file.specs.declared.section.Taken.{Taken}
 use Rattle.tx_text.specs.Parts.{parts_of, line_text, is_long}
-use Rattle.chain_file.specs.Text.{longest_draft}
+use Rattle.chain_file.specs.Text.{longest_file}
 use Rattle.chain_file.specs.Near.{is_near}
 use Rattle.chain_file.specs.Steps.{line_step, step}
 use Rattle.chain_file.specs.Chain.{Position, chain, fault, front, lasting, onward, position_after, told, walk, walked}
@@ -26,7 +26,7 @@ taken_short at digits line taken false e told = ltb-false 4096 (length line) e
 -- so many bytes, but where a fault was met
 abbrev IsFew : ℕ → Result (Position × List ℕ) ChainFault → Type 0
 IsFew n (Err found) = Unit {0}
-IsFew n (Ok known) = n ≤ longest_draft
+IsFew n (Ok known) = n ≤ longest_file
 
 -- before this line stand n bytes
 record Stands (n : ℕ) (at : Position) : Type 0 where
@@ -60,11 +60,11 @@ walk_few [] n at stands = omega (arith, stands.low, near_few at.line at.place st
 walk_few (rest ∷ []) n at stands = last_few n at rest (is_long rest) stands refl
 walk_few (line ∷ part ∷ parts) n at stands = next_few n at line (part ∷ parts) (step at.place at.digits line) stands refl (walk_few (part ∷ parts))
 
-none_few : (n : ℕ) (read : Result (Position × List ℕ) ChainFault) → IsFew n read → fault_so_far read ≡ None → n ≤ longest_draft
+none_few : (n : ℕ) (read : Result (Position × List ℕ) ChainFault) → IsFew n read → fault_so_far read ≡ None → n ≤ longest_file
 none_few n (Err found) few none = absurd (cc)
 none_few n (Ok known) few none = few
 
-pub file_bounded : (bytes : List ℕ) → lasting (chain bytes).1 ≡ None → length bytes ≤ longest_draft
+pub file_bounded : (bytes : List ℕ) → lasting (chain bytes).1 ≡ None → length bytes ≤ longest_file
 file_bounded bytes none =
     let few : IsFew (0 + length (join_with_byte 10 (parts_of bytes))) (walked bytes).1 = walk_few (parts_of bytes) 0 front (record { near = refl; low = omega arith }) in
     let same : 0 + length (join_with_byte 10 (parts_of bytes)) ≡ length bytes = omega (arith, ap length (join_with_byte-slice_split 10 bytes)) in

@@ -10,8 +10,12 @@ use Rattle.chain_file.specs.declared.reader.State.TheVariants as state
 use Rattle.chain_file.specs.declared.reader.ReadBlocks.{ReadBlocks}
 use Rattle.tx_text.specs.Parts.{parts_of, onto}
 use Rattle.chain_file.specs.Chain.{Position, Walked, take_line, ended_blocks, with_blocks, onward, walk, walked, chain, lasting}
-use Rattle.chain_file.specs.Following.{StandsAt, KeepsChain, Reads, fault_met}
+use Rattle.chain_file.specs.Following.{Answers, StandsAt, KeepsChain, Reads, fault_met}
+use Rattle.chain_file.specs.declared.reader.Fed.{Fed}
 use Rattle.chain_file.proofs.Lasting.{fault_so_far, so_far_lasts}
+use Rattle.chain_file.specs.declared.form.FileForm.{FileForm}
+use Rattle.chain_file.specs.Headers.{file_form, form_after}
+use Rattle.chain_file.proofs.Forms.{form_open}
 use Rattle.chain_file.proofs.Pieces.{goes_on, walk_line, walked_on}
 use Rattle.tx_text.proofs.Glued.{onto_parts, parts_some}
 
@@ -75,7 +79,20 @@ pub fed_open : (bytes piece : List ℕ) (standing : Standing) (held : List ℕ) 
 fed_open bytes piece standing held read keeps reads =
     fed_along bytes piece read (walk keeps.0 (parts_of (held ++ piece))) (walked_more bytes piece held keeps.0 keeps.3 keeps.2) (reads keeps.0 keeps.1)
 
-keeps_stopped : (s : State) (found : ChainFault) (bytes : List ℕ) → s ≡ state.Stopped found → KeepsChain s (walked bytes).1 → (walked bytes).1 ≡ Err found
+pub fed_from : (s : State) (bytes piece : List ℕ) (standing : Standing) (held lent : List ℕ) (read : ReadBlocks) → s ≡ state.Open standing held → lent ≡ held → KeepsChain s (walked bytes).1
+    → ((at : Position) → StandsAt standing at → Reads read (walk at (parts_of (lent ++ piece)))) → FedOn bytes piece read
+fed_from s bytes piece standing held lent read is same keeps reads =
+    fed_open bytes piece standing held read (subst (λ (x : State). KeepsChain x (walked bytes).1) is keeps)
+    (subst (λ (all : List ℕ). (at : Position) → StandsAt standing at → Reads read (walk at (parts_of (all ++ piece)))) same reads)
+
+-- and the form of the file then
+pub form_from : (s : State) (bytes piece : List ℕ) (standing : Standing) (held lent : List ℕ) (old new : Option FileForm) → s ≡ state.Open standing held → lent ≡ held → KeepsChain s (walked bytes).1
+    → old ≡ file_form bytes → new ≡ form_after old (lent ++ piece) → new ≡ file_form (bytes ++ piece)
+form_from s bytes piece standing held lent old new is same keeps known after =
+    let kept : KeepsChain (state.Open standing held) (walked bytes).1 = subst (λ (x : State). KeepsChain x (walked bytes).1) is keeps in
+    after ∙ ap (λ all. form_after old (all ++ piece)) same ∙ ap (λ f. form_after f (held ++ piece)) known ∙ form_open bytes piece held kept.0 kept.3
+
+pub keeps_stopped : (s : State) (found : ChainFault) (bytes : List ℕ) → s ≡ state.Stopped found → KeepsChain s (walked bytes).1 → (walked bytes).1 ≡ Err found
 keeps_stopped s found bytes is keeps = subst (λ (x : State). KeepsChain x (walked bytes).1) is keeps
 
 -- a reader that met a fault answers it again
@@ -89,3 +106,7 @@ gives_no_more s found bytes piece given is keeps none =
     let told : (walked bytes).1 ≡ Err found = keeps_stopped s found bytes is keeps in
     let same : walked (bytes ++ piece) ≡ walked bytes = walked_stopped bytes piece found told in
     (ap (λ w. w.0) same ∙ sym (append-nil (walked bytes).0) ∙ ap (λ more. (walked bytes).0 ++ more) (sym none), sym (ap (λ w. fault_so_far w.1) same ∙ ap fault_so_far told) ∙ so_far_lasts (bytes ++ piece))
+
+-- what was given before, and what a piece gives
+pub given_more : (bytes piece : List ℕ) (fed : Fed) (given now : List Block) → Answers bytes piece fed → (chain bytes).0 ≡ given → now ≡ given ++ fed.blocks → (chain (bytes ++ piece)).0 ≡ now
+given_more bytes piece fed given now answers same grown = answers.0 ∙ ap (λ blocks. blocks ++ fed.blocks) same ∙ sym grown

@@ -35,8 +35,8 @@ hash_digits bytes = encode_lower (sha256 bytes)
 -- only a block that has begun has bytes
 abbrev pub bytes_in : Section → List ℕ → List ℕ
 bytes_in place.Start bytes = []
-bytes_in (place.Between f count) bytes = []
-bytes_in (place.Within f count txs) bytes = bytes
+bytes_in (place.Between f count time) bytes = []
+bytes_in (place.Within f count time txs) bytes = bytes
 
 -- what is known before a line of this number, by whether the line before ended a block, of which these are the bytes so far
 abbrev pub position_after : ℕ → List ℕ → List ℕ → Section → Option Block → Position
@@ -82,8 +82,8 @@ walk at (line ∷ part ∷ parts) = onward (take_line at line) (λ next. walk ne
 -- the file may end between blocks
 abbrev pub is_between : Section → Bool
 is_between place.Start = false
-is_between (place.Between f count) = true
-is_between (place.Within f count txs) = false
+is_between (place.Between f count time) = true
+is_between (place.Within f count time txs) = false
 
 -- the first fault, where the bytes are the whole file
 abbrev pub fault_at_end : Result (Position × List ℕ) ChainFault → Option ChainFault

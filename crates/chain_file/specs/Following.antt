@@ -3,8 +3,8 @@ use Rattle.std.specs.Prelude.{◌≡◌, ℕ, List, ◌∷◌, [], ◌++◌, Opt
 use Rattle.sha2.specs.Hashers.{Holds256}
 use Rattle.proc_syntax.specs.declared.call.Block.{Block}
 use Rattle.proc_syntax.specs.declared.chain_fault.ChainFault.{ChainFault}
-use Rattle.chain_file.specs.declared.section.FileForm.{FileForm}
-use Rattle.chain_file.specs.declared.section.FileForm.TheVariants as form
+use Rattle.chain_file.specs.declared.form.FileKind.{FileKind}
+use Rattle.chain_file.specs.declared.form.FileKind.TheVariants as file
 use Rattle.chain_file.specs.declared.section.Section.{Section}
 use Rattle.chain_file.specs.declared.section.Section.TheVariants as place
 use Rattle.chain_file.specs.declared.hash.Hashes.{Hashes}
@@ -18,23 +18,24 @@ use Rattle.chain_file.specs.declared.reader.ReadBlocks.{ReadBlocks}
 use Rattle.chain_file.specs.declared.reader.Fed.{Fed}
 use Rattle.chain_file.specs.declared.reader.Reader.{Reader}
 use Rattle.tx_text.specs.Parts.{line_text, parts_of}
+use Rattle.chain_file.specs.Headers.{file_form}
 use Rattle.chain_file.specs.Chain.{Position, Walked, bytes_in, chain, hash_digits, lasting, walked}
 
--- the form of the file; before the header a chain, which it may become
-abbrev pub form_of : Section → FileForm
-form_of place.Start = form.Chain
-form_of (place.Between f count) = f
-form_of (place.Within f count txs) = f
+-- the kind of the file; before the header a chain, which it may become
+abbrev pub kind_of : Section → FileKind
+kind_of place.Start = file.Chain
+kind_of (place.Between f count time) = f.kind
+kind_of (place.Within f count time txs) = f.kind
 
 -- of a chain the code knows the digits of the hash of the block before, and keeps the hash of the bytes of the block that has
 -- begun; of a draft it knows nothing
-abbrev pub Knows : FileForm → Hashes → List ℕ → List ℕ → Type 0
-Knows form.Draft h digits bytes = Unit {0}
-Knows form.Chain h digits bytes = (h.digits ≡ digits) × Holds256 h.block bytes
+abbrev pub Knows : FileKind → Hashes → List ℕ → List ℕ → Type 0
+Knows file.Draft h digits bytes = Unit {0}
+Knows file.Chain h digits bytes = (h.digits ≡ digits) × Holds256 h.block bytes
 
 -- the code knows this before a line
 abbrev pub Stands : LinePoint → Hashes → Position → Type 0
-Stands s h at = (s.line ≡ at.line) × (s.place ≡ at.place) × (bytes_in at.place at.bytes ≡ at.bytes) × Knows (form_of at.place) h at.digits at.bytes
+Stands s h at = (s.line ≡ at.line) × (s.place ≡ at.place) × (bytes_in at.place at.bytes ≡ at.bytes) × Knows (kind_of at.place) h at.digits at.bytes
 
 abbrev pub StandsAt : Standing → Position → Type 0
 StandsAt s at = Stands s.spot s.hashes at
@@ -43,8 +44,8 @@ StandsAt s at = Stands s.spot s.hashes at
 abbrev pub hashed : Section → Option Block → List ℕ → List ℕ → List ℕ
 hashed next (Some block) bytes line = []
 hashed place.Start None bytes line = bytes
-hashed (place.Between f count) None bytes line = bytes
-hashed (place.Within f count txs) None bytes line = bytes ++ line_text line
+hashed (place.Between f count time) None bytes line = bytes
+hashed (place.Within f count time txs) None bytes line = bytes ++ line_text line
 
 -- and the digits of the hash of the block before
 abbrev pub digits_behind : Option Block → List ℕ → List ℕ → List ℕ
@@ -54,7 +55,7 @@ digits_behind (Some block) digits bytes = hash_digits bytes
 -- so the hashes change with the line
 abbrev pub IsHashed : Hashes → Hashes → Section → Option Block → List ℕ → Type 0
 IsHashed old new next ended line =
-    (digits bytes : List ℕ) → Knows (form_of next) old digits bytes → Knows (form_of next) new (digits_behind ended digits (bytes ++ line_text line)) (hashed next ended bytes line)
+    (digits bytes : List ℕ) → Knows (kind_of next) old digits bytes → Knows (kind_of next) new (digits_behind ended digits (bytes ++ line_text line)) (hashed next ended bytes line)
 
 -- what the code says after a line, unless memory ran out
 abbrev pub TakesLine : Result (LinePoint × Option Block) LineStop → Hashes → Result (Position × Option Block) ChainFault → Type 0
@@ -68,8 +69,9 @@ KeepsChain (state.Open s held) meant = (at : Position) × StandsAt s at × (part
 KeepsChain (state.Stopped found) meant = meant ≡ Err found
 
 -- the reader was fed these bytes
-abbrev pub WasFed : Reader → List ℕ → Type 0
-WasFed reader bytes = KeepsChain reader.state (walked bytes).1
+pub record WasFed (reader : Reader) (bytes : List ℕ) : Type 0 where
+  pub keeps : KeepsChain reader.state (walked bytes).1
+  pub form : reader.form ≡ file_form bytes
 
 -- the fault that the reader met
 abbrev pub fault_met : State → Option ChainFault

@@ -1,13 +1,13 @@
-pub mod Draft
-pub mod Numbered
-pub mod Text
+pub mod Headers
+pub mod Blocks
 pub mod Steps
 pub mod Near
 pub mod Chain
+pub mod Numbered
+pub mod Text
 pub mod Following
 pub mod Onward
 pub mod Resumed
 pub mod ChainText
-pub mod Agree
 pub mod Files
 pub mod Sealed

@@ -51,8 +51,8 @@ fn hash_line(hashes: &mut Hashes, taken: &Taken, text: &[u8])
     ensures { IsHashed hashes.old hashes.new taken.now.place taken.now.ended text.now }
 {
     match (&taken.ended, &taken.place) {
-        (Some(_), place) => hashes.end(place.form(), text),
-        (None, Section::Within { form, .. }) => hashes.add(*form, text),
+        (Some(_), place) => hashes.end(place.kind(), text),
+        (None, Section::Within { form, .. }) => hashes.add(form.kind, text),
         (None, _) => {}
     }
 }

@@ -4,11 +4,13 @@
 
 ghost use Rattle.std.specs.Prelude.{◌≡◌, ◌≤◌, ◌<◌, ◌∷◌, ◌++◌, ℕ, List, [], length, Ok, IfOk, OnErr};
 ghost use Rattle.tx_text.specs.Parts.{parts_of};
-ghost use Rattle.chain_file.specs.Draft.{block_of};
+ghost use Rattle.chain_file.specs.Blocks.{block_of};
+ghost use Rattle.chain_file.specs.Steps.{most_time};
 ghost use Rattle.chain_file.specs.Chain.{Walked, ended_blocks};
 ghost use Rattle.chain_file.specs.Following.{Knows, Reads};
 ghost use Rattle.chain_file.specs.Resumed.{Fits, Resumes, going_at, txs_in};
 
+use crate::block::block_of;
 use crate::going::Going;
 use crate::reader::{ReadBlocks, State};
 use crate::resume::More;
@@ -29,13 +31,19 @@ fn take_txs(spot: &mut LinePoint, more: List<Tx>) -> Result<List<Tx>, NoMemory>
         Section::Within {
             form,
             count,
+            time,
             mut txs,
         } => {
             let appended = txs.append(more);
             if appended.is_ok() {
                 return Ok(txs);
             }
-            let place = Section::Within { form, count, txs };
+            let place = Section::Within {
+                form,
+                count,
+                time,
+                txs,
+            };
             *spot = LinePoint { line, place };
             Err(NoMemory)
         }
@@ -51,19 +59,25 @@ fn keep_going(
     held: List<u8>,
 ) -> Result<ReadBlocks, NoMemory>
     requires { going.before ≡ length (txs_in spot.old.place) }
-    ensures reads { (digits bytes : List ℕ) → Knows going.form going.hashes digits bytes → parts_of held ≡ held ∷ [] → IfOk result (λ read. Reads read ([], Ok (going_at (txs_in spot.old.place) going digits bytes, held))) }
+    ensures reads { (digits bytes : List ℕ) → Knows going.form.kind going.hashes digits bytes → parts_of held ≡ held ∷ [] → IfOk result (λ read. Reads read ([], Ok (going_at (txs_in spot.old.place) going digits bytes, held))) }
     ensures err { OnErr result (spot.new ≡ spot.old) }
 {
     let Going {
         form,
         count,
+        time,
         line,
         hashes,
         txs,
         ..
     } = going;
     let txs = take_txs(spot, txs)?;
-    let place = Section::Within { form, count, txs };
+    let place = Section::Within {
+        form,
+        count,
+        time,
+        txs,
+    };
     let spot = LinePoint { line, place };
     let standing = Standing { spot, hashes };
     Ok(ReadBlocks {
@@ -73,16 +87,17 @@ fn keep_going(
 }
 
 /// Puts a block of these transactions into the first place.
-fn put_block(blocks: &mut List<Block>, number: u64, txs: List<Tx>)
+fn put_block(blocks: &mut List<Block>, number: u64, time: u64, txs: List<Tx>)
     requires few { length txs ≤ 1024 }
     requires place { 0 < length blocks.old }
-    ensures { (blank : Block) (following : List Block) → blocks.old ≡ blank ∷ following → blocks.new ≡ ended_blocks (block_of number txs) ++ following }
+    requires time { time ≤ most_time }
+    ensures { (blank : Block) (following : List Block) → blocks.old ≡ blank ∷ following → blocks.new ≡ ended_blocks (block_of number time txs) ++ following }
 {
-    match Block::new(number, 0, txs) {
-        Ok(block) => {
+    match block_of(number, time, txs) {
+        Some(block) => {
             let _blank = blocks.replace(0, block);
         }
-        Err(_) => unreachable!(),
+        None => unreachable!(),
     }
 }
 
@@ -101,12 +116,13 @@ pub fn finish(alloc: Global, spot: &mut LinePoint, more: More) -> Result<ReadBlo
         More::Goes { going, held } => keep_going(alloc, spot, going, held),
         More::Ends {
             number,
+            time,
             txs,
             mut blocks,
             state,
         } => {
             let all = take_txs(spot, txs)?;
-            put_block(&mut blocks, number, all);
+            put_block(&mut blocks, number, time, all);
             Ok(ReadBlocks { blocks, state })
         }
     }

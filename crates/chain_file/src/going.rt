@@ -5,8 +5,8 @@ ghost use Rattle.tx_text.specs.Parts.{line_text};
 ghost use Rattle.chain_file.specs.Following.{Knows};
 ghost use Rattle.chain_file.specs.Near.{is_within_near};
 
+use crate::form::FileForm;
 use crate::hash::Hashes;
-use crate::section::FileForm;
 use proc_syntax::Tx;
 use rel_base::{List, NoMemory};
 
@@ -17,6 +17,7 @@ pub struct Going {
     pub form: FileForm,
     /// How many blocks ended before it.
     pub count: u64,
+    pub time: u64,
     /// How many transactions it had before.
     pub before: usize,
     /// The next line's number, from 1.
@@ -24,7 +25,7 @@ pub struct Going {
     pub hashes: Hashes,
     /// Its transactions in the bytes.
     pub txs: List<Tx>,
-    ghost near: { is_within_near line count (before + length txs) ≡ true },
+    ghost near: { is_within_near line count time (before + length txs) ≡ true },
 }
 
 impl Going {
@@ -40,14 +41,14 @@ impl Going {
     #[tactic(auto, using(crate::proofs::Near::going_low, crate::proofs::Near::going_more))]
     pub fn add_tx(&mut self, tx: Tx, text: &[u8]) -> Result<(), NoMemory>
         requires { self.old.before + length self.old.txs < 1024 }
-        ensures place { OnOk result ((self.new.form ≡ self.old.form) × (self.new.count ≡ self.old.count) × (self.new.before ≡ self.old.before)) }
+        ensures place { OnOk result ((self.new.form ≡ self.old.form) × (self.new.count ≡ self.old.count) × (self.new.time ≡ self.old.time) × (self.new.before ≡ self.old.before)) }
         ensures line { OnOk result (self.new.line ≡ self.old.line + 1) }
         ensures txs { OnOk result (self.new.txs ≡ self.old.txs ++ tx ∷ []) }
-        ensures hashes { (digits bytes : List ℕ) → Knows self.old.form self.old.hashes digits bytes → OnOk result (Knows self.old.form self.new.hashes digits (bytes ++ line_text text.now)) }
+        ensures hashes { (digits bytes : List ℕ) → Knows self.old.form.kind self.old.hashes digits bytes → OnOk result (Knows self.old.form.kind self.new.hashes digits (bytes ++ line_text text.now)) }
     {
         self.txs.push(tx)?;
         self.line += 1;
-        self.hashes.add(self.form, text);
+        self.hashes.add(self.form.kind, text);
         Ok(())
     }
 }

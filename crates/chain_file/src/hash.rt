@@ -7,7 +7,7 @@ ghost use Rattle.tx_text.specs.Parts.{line_text};
 ghost use Rattle.chain_file.specs.Chain.{hash_digits, no_digits};
 ghost use Rattle.chain_file.specs.Following.{Knows};
 
-use crate::section::FileForm;
+use crate::form::FileKind;
 use rel_base::NoMemory;
 use sha2::{Digest, Sha256};
 
@@ -26,7 +26,7 @@ pub struct Hashes {
 impl Hashes {
     /// Before the first block.
     pub fn front() -> Hashes
-        ensures { Knows FileForm.Chain result no_digits [] }
+        ensures { Knows FileKind.Chain result no_digits [] }
     {
         Hashes {
             digits: NO_DIGITS,
@@ -45,22 +45,22 @@ impl Hashes {
     }
 
     /// Takes a line of the block that has begun.
-    pub fn add(&mut self, form: FileForm, line: &[u8])
-        ensures { (digits bytes : List ℕ) → Knows form self.old digits bytes → Knows form self.new digits (bytes ++ line_text line.now) }
+    pub fn add(&mut self, kind: FileKind, line: &[u8])
+        ensures { (digits bytes : List ℕ) → Knows kind self.old digits bytes → Knows kind self.new digits (bytes ++ line_text line.now) }
     {
-        match form {
-            FileForm::Draft => {}
-            FileForm::Chain => add_line(&mut self.block, line),
+        match kind {
+            FileKind::Draft => {}
+            FileKind::Chain => add_line(&mut self.block, line),
         }
     }
 
     /// Takes the last line of the block that has begun.
-    pub fn end(&mut self, form: FileForm, line: &[u8])
-        ensures { (digits bytes : List ℕ) → Knows form self.old digits bytes → Knows form self.new (hash_digits (bytes ++ line_text line.now)) [] }
+    pub fn end(&mut self, kind: FileKind, line: &[u8])
+        ensures { (digits bytes : List ℕ) → Knows kind self.old digits bytes → Knows kind self.new (hash_digits (bytes ++ line_text line.now)) [] }
     {
-        match form {
-            FileForm::Draft => {}
-            FileForm::Chain => {
+        match kind {
+            FileKind::Draft => {}
+            FileKind::Chain => {
                 add_line(&mut self.block, line);
                 let block = std::mem::replace(&mut self.block, Sha256::new());
                 self.digits = digits_of(block);

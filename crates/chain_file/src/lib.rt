@@ -2,8 +2,9 @@
 #![tactic(auto)]
 
 pub mod advance;
-pub mod draft;
+pub mod block;
 pub mod finish;
+pub mod form;
 pub mod going;
 pub mod hash;
 pub mod laws;
@@ -15,7 +16,7 @@ pub mod section;
 pub mod standing;
 pub mod step;
 
-pub use draft::{LONGEST_DRAFT, read_draft};
+pub use form::ChainVersion;
 pub use reader::{Fed, Reader, read_pieces};
 pub use sealer::Sealer;
 pub use sealing::seal;

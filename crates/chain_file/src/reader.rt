@@ -5,10 +5,12 @@ ghost use Rattle.std.specs.List.{flat_map};
 ghost use Rattle.std.specs.Prelude.{Option};
 ghost use Rattle.tx_text.specs.Parts.{parts_of};
 ghost use Rattle.chain_file.specs.Chain.{Position, chain, ended_blocks, fault_at_end, is_between, open_length, walk, walked};
+ghost use Rattle.chain_file.specs.Headers.{file_form, form_after, version_of};
 ghost use Rattle.chain_file.specs.Following.{Answers, EndsAs, WasFed, KeepsChain, Reads, StandsAt, fault_met};
 
 use crate::advance::{LineStop, take_line};
 use crate::finish::finish;
+use crate::form::{ChainVersion, FileForm, file_form};
 use crate::resume::{Before, before_piece, read_more};
 use crate::section::Section;
 use crate::standing::Standing;
@@ -130,6 +132,25 @@ fn read_piece(
     read_on(alloc, standing, &bytes)
 }
 
+/// The form of a file after a piece more, where bytes stand before it after the last newline.
+fn form_after(
+    alloc: Global,
+    form: Option<FileForm>,
+    held: &[u8],
+    piece: &[u8],
+) -> Result<Option<FileForm>, NoMemory>
+    ensures { IfOk result (λ now. now ≡ form_after form (held.now ++ piece.now)) }
+{
+    if form.is_some() {
+        return Ok(form);
+    }
+    if held.is_empty() {
+        return Ok(file_form(piece));
+    }
+    let bytes = joined(alloc, held, piece)?;
+    Ok(file_form(&bytes))
+}
+
 /// The fault that was met.
 fn fault_met(state: &State) -> Option<ChainFault>
     ensures { result ≡ fault_met state.now }
@@ -167,6 +188,8 @@ fn fault_at_end(state: &State) -> Option<ChainFault>
 pub struct Reader {
     alloc: Global,
     state: State,
+    /// The form of the file, where its header was read.
+    form: Option<FileForm>,
 }
 
 impl Reader {
@@ -180,7 +203,22 @@ impl Reader {
                 standing: Standing::front(),
                 held: List::new(alloc),
             },
+            form: None,
         }
+    }
+
+    /// The form of the file: none exactly where no whole first line was fed, or it is no header.
+    pub fn form(&self) -> Option<FileForm>
+        ensures { (bytes : List ℕ) → WasFed self.now bytes → result ≡ file_form bytes }
+    {
+        self.form
+    }
+
+    /// The version of the file: none exactly where no whole first line was fed, or it is no header.
+    pub fn version(&self) -> Option<ChainVersion>
+        ensures { (bytes : List ℕ) → WasFed self.now bytes → result ≡ version_of bytes }
+    {
+        self.form.map(|form| form.version)
     }
 
     /// How many bytes stand after the last newline, which the reader keeps: at most 4,096, and none after a fault.
@@ -210,10 +248,13 @@ impl Reader {
                 fault: Some(*fault),
             }),
             State::Open { standing, held } => {
-                let read = read_piece(self.alloc, standing, held.as_slice(), piece)?;
+                let held = held.as_slice();
+                let form = form_after(self.alloc, self.form, held, piece)?;
+                let read = read_piece(self.alloc, standing, held, piece)?;
                 let ReadBlocks { blocks, state } = read;
                 let fault = fault_met(&state);
                 self.state = state;
+                self.form = form;
                 Ok(Fed { blocks, fault })
             }
         }

@@ -4,14 +4,15 @@
 
 ghost use Rattle.std.specs.Prelude.{◌≡◌, ◌+◌, ◌∷◌, ◌++◌, ℕ, List, [], length, IfOk};
 ghost use Rattle.tx_text.specs.Parts.{line_text, parts_of};
-ghost use Rattle.chain_file.specs.Draft.{block_of};
+ghost use Rattle.chain_file.specs.Blocks.{block_of};
 ghost use Rattle.chain_file.specs.Chain.{Position, ended_blocks, walk, with_blocks};
 ghost use Rattle.chain_file.specs.Following.{Knows, StandsAt};
 ghost use Rattle.chain_file.specs.Resumed.{Begins, Counts, Fits, Resumes, behind_end, going_at, txs_in};
 
+use crate::form::FileForm;
 use crate::going::Going;
 use crate::reader::{ReadBlocks, State, read_lines};
-use crate::section::{FileForm, Section};
+use crate::section::Section;
 use crate::standing::{LinePoint, Standing};
 use crate::step::{StepFault, told_within};
 use proc_syntax::{Block, ChainFault, ChainKind, Tx};
@@ -36,9 +37,10 @@ pub enum More {
         going: Going,
         held: List<u8>,
     },
-    /// The block of this number ended, with these transactions of the piece. The blocks that follow it stand after a place for it.
+    /// The block of this number and time ended, with these transactions of the piece. The blocks that follow it stand after a place for it.
     Ends {
         number: u64,
+        time: u64,
         txs: List<Tx>,
         blocks: List<Block>,
         state: State,
@@ -66,15 +68,17 @@ fn begun(
     standing: &Standing,
     form: FileForm,
     count: u64,
+    time: u64,
     txs: &List<Tx>,
 ) -> Result<Going, NoMemory>
-    requires { standing.now.spot.place ≡ Section.Within form count txs.now }
-    ensures begins { (at : Position) → StandsAt standing.now at → IfOk result (λ going. (at ≡ going_at (txs_in standing.now.spot.place) going at.digits at.bytes) × Knows going.form going.hashes at.digits at.bytes) }
+    requires { standing.now.spot.place ≡ Section.Within form count time txs.now }
+    ensures begins { (at : Position) → StandsAt standing.now at → IfOk result (λ going. (at ≡ going_at (txs_in standing.now.spot.place) going at.digits at.bytes) × Knows going.form.kind going.hashes at.digits at.bytes) }
     ensures before { IfOk result (λ going. going.before ≡ length (txs_in standing.now.spot.place)) }
 {
     Ok(Going {
         form,
         count,
+        time,
         before: txs.len(),
         line: standing.spot.line,
         hashes: standing.hashes.copy()?,
@@ -92,13 +96,18 @@ pub fn before_piece(alloc: Global, standing: &Standing) -> Result<Before, NoMemo
             let twin = outside(standing, Section::Start)?;
             Ok(Before::Between(twin))
         }
-        Section::Between { form, count } => {
-            let (form, count) = (*form, *count);
-            let twin = outside(standing, Section::Between { form, count })?;
+        Section::Between { form, count, time } => {
+            let (form, count, time) = (*form, *count, *time);
+            let twin = outside(standing, Section::Between { form, count, time })?;
             Ok(Before::Between(twin))
         }
-        Section::Within { form, count, txs } => {
-            let going = begun(alloc, standing, *form, *count, txs)?;
+        Section::Within {
+            form,
+            count,
+            time,
+            txs,
+        } => {
+            let going = begun(alloc, standing, *form, *count, *time, txs)?;
             Ok(Before::Within(going))
         }
     }
@@ -126,21 +135,22 @@ fn behind(alloc: Global, first: Block, following: List<Block>) -> Result<List<Bl
 #[tactic(auto, using(crate::proofs::Near::going_low, crate::proofs::Near::going_count, crate::proofs::Near::going_ended, crate::proofs::Near::going_few))]
 fn end_going(alloc: Global, going: Going, line: &[u8], after: &[u8]) -> Result<More, NoMemory>
     ensures fits { (kept : List Tx) → going.before ≡ length kept → IfOk result (λ more. Fits kept more) }
-    ensures resumes { (kept : List Tx) (digits bytes : List ℕ) → Knows going.form going.hashes digits bytes → IfOk result (λ more. Resumes kept more (with_blocks (ended_blocks (block_of (going.count + 1) (kept ++ going.txs))) (walk (behind_end going (bytes ++ line_text line.now)) (parts_of after.now)))) }
+    ensures resumes { (kept : List Tx) (digits bytes : List ℕ) → Knows going.form.kind going.hashes digits bytes → IfOk result (λ more. Resumes kept more (with_blocks (ended_blocks (block_of (going.count + 1) going.time (kept ++ going.txs))) (walk (behind_end going (bytes ++ line_text line.now)) (parts_of after.now)))) }
 {
     let Going {
         form,
         count,
+        time,
         line: number,
         mut hashes,
         txs,
         ..
     } = going;
-    hashes.end(form, line);
+    hashes.end(form.kind, line);
     let count = count + 1;
     let spot = LinePoint {
         line: number + 1,
-        place: Section::Between { form, count },
+        place: Section::Between { form, count, time },
     };
     let standing = Standing { spot, hashes };
     let read = read_lines(alloc, standing, after)?;
@@ -151,6 +161,7 @@ fn end_going(alloc: Global, going: Going, line: &[u8], after: &[u8]) -> Result<M
     let blocks = behind(alloc, blank_block(alloc, count), following)?;
     Ok(More::Ends {
         number: count,
+        time,
         txs,
         blocks,
         state,
@@ -161,7 +172,7 @@ fn end_going(alloc: Global, going: Going, line: &[u8], after: &[u8]) -> Result<M
 fn hold_going(alloc: Global, going: Going, rest: &[u8]) -> Result<More, NoMemory>
     requires { parts_of rest.now ≡ rest.now ∷ [] }
     ensures fits { (kept : List Tx) → going.before ≡ length kept → IfOk result (λ more. Fits kept more) }
-    ensures resumes { (kept : List Tx) (digits bytes : List ℕ) → Knows going.form going.hashes digits bytes → IfOk result (λ more. Resumes kept more (walk (going_at kept going digits bytes) (rest.now ∷ []))) }
+    ensures resumes { (kept : List Tx) (digits bytes : List ℕ) → Knows going.form.kind going.hashes digits bytes → IfOk result (λ more. Resumes kept more (walk (going_at kept going digits bytes) (rest.now ∷ []))) }
 {
     if rest.len() > MOST_LINE_BYTES {
         return Ok(More::Stopped(ChainFault {
@@ -176,7 +187,7 @@ fn hold_going(alloc: Global, going: Going, rest: &[u8]) -> Result<More, NoMemory
 /// Reads lines that go on with a block.
 pub fn read_more(alloc: Global, going: Going, bytes: &[u8]) -> Result<More, NoMemory>
     ensures fits { (kept : List Tx) → going.before ≡ length kept → IfOk result (λ more. Fits kept more) }
-    ensures resumes { (kept : List Tx) (digits known : List ℕ) → going.before ≡ length kept → Knows going.form going.hashes digits known → IfOk result (λ more. Resumes kept more (walk (going_at kept going digits known) (parts_of bytes.now))) }
+    ensures resumes { (kept : List Tx) (digits known : List ℕ) → going.before ≡ length kept → Knows going.form.kind going.hashes digits known → IfOk result (λ more. Resumes kept more (walk (going_at kept going digits known) (parts_of bytes.now))) }
 {
     let mut block = going;
     let mut rest = bytes;

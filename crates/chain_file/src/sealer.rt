@@ -2,21 +2,23 @@
 
 ghost use Rattle.std.specs.Prelude.{◌≡◌, ◌++◌, List, [], ℕ, None, IfOk, OnOk};
 ghost use Rattle.chain_file.specs.Chain.{chain, lasting};
-ghost use Rattle.chain_file.specs.ChainText.{chain_text};
+ghost use Rattle.chain_file.specs.ChainText.{sealed_text};
+ghost use Rattle.chain_file.specs.Headers.{file_form, version_of};
 ghost use Rattle.chain_file.specs.Sealed.{Holds, Seals, SealsAs};
 
+use crate::form::{FileForm, FileKind};
 use crate::reader::{Fed, Reader};
 use crate::sealing::ChainText;
 use proc_syntax::{Block, ChainFault};
 use rel_base::{List, NoMemory};
 use std::alloc::Global;
-use tx_text::held::{copy_of, extend};
+use tx_text::held::extend;
 
 /// What is written of a file.
 #[derive(Drop)]
 enum Sealed {
-    /// Nothing, since nothing was read.
-    Front,
+    /// The bytes that were read, in which no header ended.
+    Front(List<u8>),
     /// The bytes that were read of a file that begins as a chain. Without a fault it is its own sealed text, so no block is hashed
     /// again.
     Same(List<u8>),
@@ -24,29 +26,45 @@ enum Sealed {
     Anew(ChainText),
 }
 
-/// What is written of a file that begins with these bytes, which have these blocks.
-fn keep_first(alloc: Global, blocks: &List<Block>, piece: &[u8]) -> Result<Sealed, NoMemory>
-    ensures { (chain piece.now).0 ≡ blocks.now → IfOk result (λ sealed. Holds sealed piece.now) }
+/// What is written of a file of this form, whose bytes so far have these blocks.
+fn begun(
+    alloc: Global,
+    form: Option<FileForm>,
+    text: List<u8>,
+    blocks: &List<Block>,
+) -> Result<Sealed, NoMemory>
+    ensures { form ≡ file_form text → (chain text).0 ≡ blocks.now → IfOk result (λ sealed. Holds sealed text) }
 {
-    if piece.strip_prefix(b"chain 1\n").is_some() {
-        return Ok(Sealed::Same(copy_of(alloc, piece)?));
+    let Some(form) = form else {
+        return Ok(Sealed::Front(text));
+    };
+    match form.kind {
+        FileKind::Chain => Ok(Sealed::Same(text)),
+        FileKind::Draft => {
+            let mut chain = ChainText::new(alloc, form.version)?;
+            chain.push_all(blocks.as_slice())?;
+            Ok(Sealed::Anew(chain))
+        }
     }
-    let mut chain = ChainText::new(alloc)?;
-    chain.push_all(blocks.as_slice())?;
-    Ok(Sealed::Anew(chain))
 }
 
-/// Writes the next piece of a file, in which these blocks ended.
+/// Writes the next piece of a file of this form, in which these blocks ended.
+#[tactic(auto, using(crate::proofs::Forms::no_blocks))]
 fn keep(
     alloc: Global,
     sealed: &mut Sealed,
+    form: Option<FileForm>,
     blocks: &List<Block>,
     piece: &[u8],
 ) -> Result<(), NoMemory>
-    ensures { (bytes : List ℕ) → Holds sealed.old bytes → (chain (bytes ++ piece.now)).0 ≡ (chain bytes).0 ++ blocks.now → OnOk result (Holds sealed.new (bytes ++ piece.now)) }
+    ensures { (bytes : List ℕ) → Holds sealed.old bytes → form ≡ file_form (bytes ++ piece.now) → (chain (bytes ++ piece.now)).0 ≡ (chain bytes).0 ++ blocks.now → OnOk result (Holds sealed.new (bytes ++ piece.now)) }
 {
     match sealed {
-        Sealed::Front => *sealed = keep_first(alloc, blocks, piece)?,
+        Sealed::Front(text) => {
+            extend(alloc, text, piece)?;
+            let whole = std::mem::replace(text, List::new(alloc));
+            *sealed = begun(alloc, form, whole, blocks)?;
+        }
         Sealed::Same(text) => extend(alloc, text, piece)?,
         Sealed::Anew(chain) => chain.push_all(blocks.as_slice())?,
     }
@@ -54,12 +72,12 @@ fn keep(
 }
 
 /// The chain file of the blocks of a file without a fault.
-#[tactic(auto, using(crate::proofs::Written::same_spelled))]
+#[tactic(auto, using(crate::proofs::Written::same_spelled, crate::proofs::Written::none_spelled, crate::proofs::Written::anew_spelled))]
 fn finished(alloc: Global, sealed: Sealed) -> List<u8>
-    ensures { (bytes : List ℕ) → Holds sealed bytes → (chain bytes).1 ≡ None → result ≡ chain_text (chain bytes).0 }
+    ensures { (bytes : List ℕ) → Holds sealed bytes → (chain bytes).1 ≡ None → result ≡ sealed_text (version_of bytes) (chain bytes).0 }
 {
     match sealed {
-        Sealed::Front => List::new(alloc),
+        Sealed::Front(_) => List::new(alloc),
         Sealed::Same(text) => text,
         Sealed::Anew(chain) => chain.finish(),
     }
@@ -83,7 +101,7 @@ impl Sealer {
         Sealer {
             alloc,
             reader: Reader::new(alloc),
-            sealed: Sealed::Front,
+            sealed: Sealed::Front(List::new(alloc)),
         }
     }
 
@@ -95,13 +113,15 @@ impl Sealer {
     {
         let fed = self.reader.feed(piece)?;
         let Fed { blocks, fault } = fed;
-        keep(self.alloc, &mut self.sealed, &blocks, piece)?;
+        let form = self.reader.form();
+        keep(self.alloc, &mut self.sealed, form, &blocks, piece)?;
         Ok(fault)
     }
 
-    /// Ends the file: the chain file of its blocks where the bytes so far are a whole file, and else its first fault.
+    /// Ends the file: the chain file of its blocks, of the version that was read, where the bytes so far are a whole file, and else
+    /// its first fault.
     pub fn end(self) -> Result<List<u8>, ChainFault>
-        ensures { (bytes : List ℕ) → Seals self bytes → SealsAs result (chain bytes) }
+        ensures { (bytes : List ℕ) → Seals self bytes → SealsAs result (version_of bytes) (chain bytes) }
     {
         let Sealer {
             alloc,

@@ -1,46 +1,40 @@
 //! Where the lines of a block file stand.
 
 ghost use Rattle.std.specs.Prelude.{◌≡◌};
-ghost use Rattle.chain_file.specs.Following.{form_of};
+ghost use Rattle.chain_file.specs.Following.{kind_of};
 
+use crate::form::{FileForm, FileKind};
 use proc_syntax::{Block, Tx};
 use rel_base::List;
-
-/// The two forms of a block file.
-#[derive(Clone, Copy, Debug, PartialEq, Eq)]
-pub enum FileForm {
-    /// The blocks have numbers alone.
-    Draft,
-    /// Each block names the hash of the one before.
-    Chain,
-}
 
 /// Where a line stands in a file.
 #[derive(Drop)]
 pub enum Section {
     /// At the start, where the header stands.
     Start,
-    /// Between blocks, so many of which ended.
+    /// Between blocks, so many of which ended, the last with this time.
     Between {
         form: FileForm,
         count: u64,
+        time: u64,
     },
-    /// In the block that follows so many, which has these transactions so far.
+    /// In the block that follows so many, which has this time, and these transactions so far.
     Within {
         form: FileForm,
         count: u64,
+        time: u64,
         txs: List<Tx>,
     },
 }
 
 impl Section {
-    /// The form of the file; before the header a chain, which it may become.
-    pub fn form(&self) -> FileForm
-        ensures { result ≡ form_of self.now }
+    /// The kind of the file; before the header a chain, which it may become.
+    pub fn kind(&self) -> FileKind
+        ensures { result ≡ kind_of self.now }
     {
         match self {
-            Section::Start => FileForm::Chain,
-            Section::Between { form, .. } | Section::Within { form, .. } => *form,
+            Section::Start => FileKind::Chain,
+            Section::Between { form, .. } | Section::Within { form, .. } => form.kind,
         }
     }
 }

@@ -1,18 +1,19 @@
 //! The lines of a block file, one at a time.
 
-ghost use Rattle.std.specs.Prelude.{◌≡◌, ◌<◌, ◌&&◌, ◌≤◌, length, Some, None, Ok, Err, IfOk, IfSome, cond};
+ghost use Rattle.std.specs.Prelude.{◌≡◌, ◌<◌, ◌^◌, ◌&&◌, ◌≤◌, length, Some, None, Ok, Err, IfOk, IfSome, cond, nat_lt};
 ghost use Rattle.chain_file.specs.Onward.{GivesTold, next_tx, told_within};
-ghost use Rattle.chain_file.specs.Steps.{GivesStep, add_tx, begin, end_block, has_digits, has_end, header, is_hash_field, is_hex, is_next, is_number, HasRoomInChain, line_step, numbered, step, within};
+ghost use Rattle.chain_file.specs.Steps.{GivesStep, add_tx, begin, end_block, fields_say, has_digits, has_form, has_hash, has_time, hash_part, header, is_hash_field, is_hex, is_next, is_number, is_number_field, HasRoomInChain, line_step, most_time, next_time, numbered, said_time, step, time_part, timed, within};
 ghost use Rattle.std.specs.Char.{is_ascii_digit};
 ghost use Rattle.std.specs.List.{list_all};
 ghost use Rattle.tx_text.specs.Lines.{tx_of};
 
-use crate::draft::MOST_BLOCKS;
-use crate::section::{FileForm, Section, Taken};
+use crate::block::{MOST_TIME, block_of};
+use crate::form::{ChainVersion, FileForm, FileKind, form_said};
+use crate::section::{Section, Taken};
 use itoa::Buffer;
-use literals::number::is_canonical;
+use literals::number::{is_canonical, number_of};
 use proc_syntax::call::MOST_TRANSACTIONS;
-use proc_syntax::{Block, ChainKind, Tx};
+use proc_syntax::{ChainKind, Tx};
 use rel_base::{List, NoMemory};
 use std::alloc::Global;
 use tx_text::field::split_word;
@@ -38,7 +39,10 @@ impl From<NoMemory> for StepFault {
     }
 }
 
-/// The most digits of a block's number.
+/// The number of blocks that a file may have.
+pub const MOST_BLOCKS: usize = 1_000_000;
+
+/// The most digits of a block's number, and of its time.
 const MOST_DIGITS: usize = 20;
 
 /// The number of hexadecimal digits of a hash.
@@ -48,15 +52,15 @@ const HASH_DIGITS: usize = 64;
 fn header(line: &[u8]) -> Result<Taken, StepFault>
     ensures { GivesStep result (header line.now) }
 {
-    let form = if line == b"draft 1".as_slice() {
-        FileForm::Draft
-    } else if line == b"chain 1".as_slice() {
-        FileForm::Chain
-    } else {
+    let Some(form) = form_said(line) else {
         return Err(StepFault::Kind(ChainKind::BadHeader));
     };
     Ok(Taken {
-        place: Section::Between { form, count: 0 },
+        place: Section::Between {
+            form,
+            count: 0,
+            time: 0,
+        },
         ended: None,
     })
 }
@@ -99,14 +103,56 @@ fn is_hash_field(rest: &[u8]) -> bool
     }
 }
 
-/// Whether a `block` line of the form ends so after its number.
-fn has_end(form: FileForm, rest: &[u8]) -> bool
-    ensures { result ≡ has_end form rest.now }
+/// Whether the bytes are a space and a number.
+fn is_number_field(rest: &[u8]) -> bool
+    ensures { result ≡ is_number_field rest.now }
 {
-    match form {
-        FileForm::Draft => rest.is_empty(),
-        FileForm::Chain => is_hash_field(rest),
+    match rest {
+        [b' ', digits @ ..] => is_number(digits),
+        _ => false,
     }
+}
+
+/// The texts of the hash and of the time, of what stands after the number of a block.
+#[tactic(auto, using(crate::proofs::Fields::short_hash, crate::proofs::Fields::short_time))]
+fn split_fields(kind: FileKind, rest: &[u8]) -> (&[u8], &[u8])
+    ensures hash { result.0.now ≡ hash_part kind rest.now }
+    ensures time { result.1.now ≡ time_part kind rest.now }
+{
+    match kind {
+        FileKind::Draft => (&[], rest),
+        FileKind::Chain => match rest.split_at_checked(1 + HASH_DIGITS) {
+            Some(fields) => fields,
+            None => (rest, &[]),
+        },
+    }
+}
+
+/// Whether the hash of a block has its form.
+fn has_hash(kind: FileKind, hash: &[u8]) -> bool
+    ensures { result ≡ has_hash kind hash.now }
+{
+    match kind {
+        FileKind::Draft => true,
+        FileKind::Chain => is_hash_field(hash),
+    }
+}
+
+/// Whether the time of a block has its form.
+fn has_time(version: ChainVersion, time: &[u8]) -> bool
+    ensures { result ≡ has_time version time.now }
+{
+    match version {
+        ChainVersion::One => time.is_empty(),
+        ChainVersion::Two => is_number_field(time),
+    }
+}
+
+/// Whether the fields of a `block` line have their forms.
+fn has_form(form: FileForm, number: &[u8], hash: &[u8], time: &[u8]) -> bool
+    ensures { result ≡ has_form form number.now hash.now time.now }
+{
+    is_number(number) && has_hash(form.kind, hash) && has_time(form.version, time)
 }
 
 /// Whether the bytes are the number of the block that follows so many.
@@ -120,14 +166,49 @@ fn is_next(count: u64, text: &[u8]) -> bool
     text == buffer.format(count + 1).as_bytes()
 }
 
-/// Whether a `block` line of the form has these digits after its number.
-fn has_digits(form: FileForm, digits: &[u8], rest: &[u8]) -> bool
-    ensures { result ≡ has_digits form digits.now rest.now }
+/// Whether the hash has these digits.
+fn has_digits(kind: FileKind, digits: &[u8], hash: &[u8]) -> bool
+    ensures { result ≡ has_digits kind digits.now hash.now }
 {
-    match form {
-        FileForm::Draft => true,
-        FileForm::Chain => rest.strip_prefix(b" ") == Some(digits),
+    match kind {
+        FileKind::Draft => true,
+        FileKind::Chain => hash.strip_prefix(b" ") == Some(digits),
     }
+}
+
+/// The time of a block, where it has 64 bits.
+fn said_time(version: ChainVersion, time: &[u8]) -> Option<u64>
+    ensures { result ≡ cond (nat_lt (said_time version time.now) (2 ^ 64)) (Some (said_time version time.now)) None }
+{
+    match version {
+        ChainVersion::One => Some(0),
+        ChainVersion::Two => number_of(time.get(1..).unwrap_or(&[])),
+    }
+}
+
+/// The time of a block, where it is not below that of the block before, and an i64.
+fn next_time(version: ChainVersion, before: u64, time: &[u8]) -> Option<u64>
+    ensures { result ≡ next_time version before time.now }
+{
+    said_time(version, time).filter(|time| before <= *time && *time <= MOST_TIME)
+}
+
+/// A block that begins, by its time.
+fn timed(alloc: Global, form: FileForm, count: u64, time: Option<u64>) -> Result<Taken, StepFault>
+    ensures { GivesStep result (timed form count time) }
+{
+    let Some(time) = time else {
+        return Err(StepFault::Kind(ChainKind::WrongTime));
+    };
+    Ok(Taken {
+        place: Section::Within {
+            form,
+            count,
+            time,
+            txs: List::new(alloc),
+        },
+        ended: None,
+    })
 }
 
 /// A `block` line, from its number on.
@@ -135,29 +216,24 @@ fn numbered(
     alloc: Global,
     form: FileForm,
     count: u64,
+    before: u64,
     digits: &[u8],
     rest: &[u8],
 ) -> Result<Taken, StepFault>
-    ensures { GivesStep result (numbered form count digits.now rest.now) }
+    ensures { GivesStep result (numbered form count before digits.now rest.now) }
 {
-    let (number, end) = split_word(rest);
-    if !is_number(number) || !has_end(form, end) {
+    let (number, fields) = split_word(rest);
+    let (hash, time) = split_fields(form.kind, fields);
+    if !has_form(form, number, hash, time) {
         return Err(StepFault::Kind(ChainKind::BadLine));
     }
     if !is_next(count, number) {
         return Err(StepFault::Kind(ChainKind::WrongNumber));
     }
-    if !has_digits(form, digits, end) {
+    if !has_digits(form.kind, digits, hash) {
         return Err(StepFault::Kind(ChainKind::WrongPrev));
     }
-    Ok(Taken {
-        place: Section::Within {
-            form,
-            count,
-            txs: List::new(alloc),
-        },
-        ended: None,
-    })
+    timed(alloc, form, count, next_time(form.version, before, time))
 }
 
 /// A line between blocks.
@@ -165,32 +241,30 @@ fn begin(
     alloc: Global,
     form: FileForm,
     count: u64,
+    before: u64,
     digits: &[u8],
     line: &[u8],
 ) -> Result<Taken, StepFault>
-    ensures { GivesStep result (begin form count digits.now line.now) }
+    ensures { GivesStep result (begin form count before digits.now line.now) }
 {
     match line.strip_prefix(b"block ") {
-        Some(rest) => numbered(alloc, form, count, digits, rest),
+        Some(rest) => numbered(alloc, form, count, before, digits, rest),
         None => Err(StepFault::Kind(ChainKind::BadLine)),
     }
 }
 
 /// The end of a block.
-#[tactic(auto, using(crate::proofs::Blocks::no_block))]
-fn end_block(form: FileForm, count: u64, txs: List<Tx>) -> Result<Taken, StepFault>
-    requires { count < 1000000 }
-    ensures { GivesStep result (end_block form count txs) }
+fn end_block(form: FileForm, count: u64, time: u64, txs: List<Tx>) -> Result<Taken, StepFault>
+    requires { (count < 1000000) × (time ≤ most_time) }
+    ensures { GivesStep result (end_block form count time txs) }
 {
-    match Block::new(count + 1, 0, txs) {
-        Ok(block) => Ok(Taken {
-            place: Section::Between {
-                form,
-                count: count + 1,
-            },
+    let count = count + 1;
+    match block_of(count, time, txs) {
+        Some(block) => Ok(Taken {
+            place: Section::Between { form, count, time },
             ended: Some(block),
         }),
-        Err(_) => Err(StepFault::Kind(ChainKind::TooManyTx)),
+        None => Err(StepFault::Kind(ChainKind::TooManyTx)),
     }
 }
 
@@ -229,10 +303,11 @@ fn add_tx(
     alloc: Global,
     form: FileForm,
     count: u64,
+    time: u64,
     mut txs: List<Tx>,
     line: &[u8],
 ) -> Result<Taken, StepFault>
-    ensures { GivesStep result (add_tx form count txs (tx_of line.now)) }
+    ensures { GivesStep result (add_tx form count time txs (tx_of line.now)) }
 {
     let tx = match read_tx(alloc, line) {
         Ok(tx) => tx,
@@ -244,7 +319,12 @@ fn add_tx(
     }
     txs.push(tx)?;
     Ok(Taken {
-        place: Section::Within { form, count, txs },
+        place: Section::Within {
+            form,
+            count,
+            time,
+            txs,
+        },
         ended: None,
     })
 }
@@ -254,16 +334,17 @@ fn within(
     alloc: Global,
     form: FileForm,
     count: u64,
+    time: u64,
     txs: List<Tx>,
     line: &[u8],
 ) -> Result<Taken, StepFault>
-    requires { count < 1000000 }
-    ensures { GivesStep result (within form count txs line.now) }
+    requires { (count < 1000000) × (time ≤ most_time) }
+    ensures { GivesStep result (within form count time txs line.now) }
 {
     if line == b"end".as_slice() {
-        end_block(form, count, txs)
+        end_block(form, count, time, txs)
     } else {
-        add_tx(alloc, form, count, txs, line)
+        add_tx(alloc, form, count, time, txs, line)
     }
 }
 
@@ -274,8 +355,13 @@ fn line_step(alloc: Global, place: Section, digits: &[u8], line: &[u8]) -> Resul
 {
     match place {
         Section::Start => header(line),
-        Section::Between { form, count } => begin(alloc, form, count, digits, line),
-        Section::Within { form, count, txs } => within(alloc, form, count, txs, line),
+        Section::Between { form, count, time } => begin(alloc, form, count, time, digits, line),
+        Section::Within {
+            form,
+            count,
+            time,
+            txs,
+        } => within(alloc, form, count, time, txs, line),
     }
 }
 

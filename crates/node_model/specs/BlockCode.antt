@@ -3,6 +3,7 @@
 -- code is this project's own.)
 use Rattle.canon_code.specs.Codes.{be_code, counted, short_code}
 use Rattle.canon_code.specs.Rows.{key_code}
+use Rattle.canon_code.specs.Values.{int_code}
 use Rattle.canon_code.specs.Writes.{write_code}
 use Rattle.node_model.specs.declared.danger.Danger.TheVariants as danger
 use Rattle.node_model.specs.declared.danger.Danger.{Danger}
@@ -62,10 +63,10 @@ outcome_code (outcome.Danger danger) = 9 ∷ danger_code danger
 abbrev pub told_code : Told → List ℕ
 told_code told = short_code told.id ++ outcome_code told.outcome
 
--- the result of a block: its number, its outcomes, its serial order and its writes, each list after its count
+-- the result of a block: its number, its time in 8 bytes, its outcomes, its serial order and its writes, each list after its count
 abbrev pub block_code : BlockResult → List ℕ
 block_code block =
-    be_code w64 block.number ++ counted small_code told_code block.outcomes ++ counted small_code small_code block.order
+    be_code w64 block.number ++ int_code block.time ++ counted small_code told_code block.outcomes ++ counted small_code small_code block.order
     ++ counted small_code write_code block.writes
 
 -- the digest of a block's result, where the block before has a digest

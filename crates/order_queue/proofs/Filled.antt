@@ -4,13 +4,17 @@ use Rattle.proc_syntax.specs.declared.call.Block.{Block}
 use Rattle.std.specs.Int.{div_ceil}
 use Rattle.std.proofs.lemmas.Bool.{cases_lt}
 use Rattle.std.proofs.lemmas.Grind.{div_ceil_times, common_steps}
-use Rattle.chain_file.specs.Numbered.{NumberedFrom}
+use Rattle.chain_file.specs.Numbered.{HaveNoTimes, NumberedFrom}
 use Rattle.order_queue.specs.Blocks.{FilledBy, joined}
 use Rattle.order_queue.specs.Filled.{AllFull}
 
-pub numbered_end : (n : ℕ) (blocks : List Block) (block : Block) → NumberedFrom n blocks → block.number ≡ n + length blocks → block.time ≡ pos 0 → NumberedFrom n (blocks ++ block ∷ [])
-numbered_end n [] block h number time = (omega arith, time, tt)
-numbered_end n (b ∷ bs) block h number time = (h.0, h.1, numbered_end (n + 1) bs block h.2 (omega arith) time)
+pub numbered_end : (n : ℕ) (blocks : List Block) (block : Block) → NumberedFrom n blocks → block.number ≡ n + length blocks → NumberedFrom n (blocks ++ block ∷ [])
+numbered_end n [] block h number = (omega arith, tt)
+numbered_end n (b ∷ bs) block h number = (h.0, numbered_end (n + 1) bs block h.1 (omega arith))
+
+pub times_end : (blocks : List Block) (block : Block) → HaveNoTimes blocks → block.time ≡ pos 0 → HaveNoTimes (blocks ++ block ∷ [])
+times_end [] block h time = (time, tt)
+times_end (b ∷ bs) block h time = (h.0, times_end bs block h.1 time)
 
 pub full_end : (most : ℕ) (blocks : List Block) (block : Block) → AllFull most blocks → length block.txs ≡ most → AllFull most (blocks ++ block ∷ [])
 full_end most [] block h e = (e, tt)

@@ -5,3 +5,4 @@ pub mod Lined
 pub mod Merged
 pub mod Moves
 pub mod Submitted
+pub mod Drafted

@@ -3,7 +3,7 @@ use Rattle.std.specs.Prelude.{◌≡◌, ℕ, ◌<◌, List, [], ◌∷◌, ◌+
 use Rattle.proc_syntax.specs.declared.call.Block.{Block}
 use Rattle.proc_syntax.specs.declared.call.Tx.{Tx}
 use Rattle.order_queue.specs.declared.bins.Filling.{Filling}
-use Rattle.chain_file.specs.Numbered.{NumberedFrom}
+use Rattle.chain_file.specs.Numbered.{HaveNoTimes, NumberedFrom}
 use Rattle.order_queue.specs.Blocks.{joined}
 
 -- each block has `most` transactions
@@ -17,5 +17,6 @@ all_of f = joined f.full.items ++ f.next
 
 pub record IsFilling (most : ℕ) (f : Filling) : Type 0 where
   pub numbered : NumberedFrom 1 f.full.items
+  pub times : HaveNoTimes f.full.items
   pub full : AllFull most f.full.items
   pub few : length f.next < most

@@ -1,4 +1,5 @@
 pub mod Blocks
+pub mod Drafts
 pub mod Filled
 pub mod Merge
 pub mod Orders

@@ -7,8 +7,8 @@ use Rattle.tx_text.specs.Arrivals.{arrivals}
 use Rattle.tx_text.specs.Lines.{HasLine}
 use Rattle.chain_file.specs.Chain.{chain}
 use Rattle.chain_file.specs.Numbered.{NumberedFrom}
-use Rattle.chain_file.specs.Text.{draft_text}
 use Rattle.order_queue.specs.Blocks.{FilledBy, joined}
+use Rattle.order_queue.specs.Drafts.{draft_text}
 use Rattle.order_queue.specs.Merge.{IsMerge}
 
 -- what a client may submit: at most 1,000,000 transactions, each with a line

@@ -1,7 +1,7 @@
 // The clients' transactions in a given order of clients, in blocks.
 ghost use Rattle.std.specs.Prelude.{◌≡◌, ℕ, ◌==◌, ◌+◌, ◌<◌, ◌≤◌, [], length, slice_index_or, All, IfOk};
 ghost use Rattle.std.specs.List.{count_by, sum_by};
-ghost use Rattle.chain_file.specs.Numbered.{NumberedFrom};
+ghost use Rattle.chain_file.specs.Numbered.{HaveNoTimes, NumberedFrom};
 ghost use Rattle.order_queue.specs.Blocks.{FilledBy, joined};
 ghost use Rattle.order_queue.specs.Merge.{IsMerge};
 
@@ -24,6 +24,7 @@ pub fn deal(
     ensures merge { IfOk result (λ blocks. IsMerge remaining from.now (joined blocks)) }
     ensures all { IfOk result (λ blocks. length (joined blocks) ≡ sum_by length remaining) }
     ensures numbered { IfOk result (λ blocks. NumberedFrom 1 blocks) }
+    ensures times { IfOk result HaveNoTimes }
     ensures filled { IfOk result (λ blocks. FilledBy most blocks) }
 {
     let mut filling = Filling::new(alloc);

@@ -4,8 +4,9 @@ ghost use Rattle.std.specs.List.{flat_map, AllByRecursion};
 ghost use Rattle.tx_text.specs.Lines.{HasLine};
 ghost use Rattle.tx_text.specs.Parts.{line_text};
 ghost use Rattle.chain_file.specs.Chain.{chain};
-ghost use Rattle.chain_file.specs.Numbered.{NumberedFrom};
-ghost use Rattle.chain_file.specs.Text.{block_text, draft_text, tx_line};
+ghost use Rattle.chain_file.specs.Numbered.{HaveNoTimes, NumberedFrom};
+ghost use Rattle.chain_file.specs.Text.{tx_line};
+ghost use Rattle.order_queue.specs.Drafts.{draft_block, draft_text};
 
 use literals::push_number;
 use proc_syntax::{Block, Tx};
@@ -36,7 +37,7 @@ fn push_first(out: &mut Vec<u8>, number: u64) -> Result<(), NoMemory>
 
 // Writes the lines of a block at the end.
 fn push_block(out: &mut Vec<u8>, block: &Block) -> Result<(), NoMemory>
-    ensures text { OnOk result (out.new.items ≡ out.old.items ++ block_text block.now) }
+    ensures text { OnOk result (out.new.items ≡ out.old.items ++ draft_block block.now) }
 {
     push_first(out, block.number)?;
     push_txs(out, block.txs.as_slice())?;
@@ -46,7 +47,7 @@ fn push_block(out: &mut Vec<u8>, block: &Block) -> Result<(), NoMemory>
 
 // Writes the lines of blocks at the end.
 fn push_blocks(out: &mut Vec<u8>, blocks: &[Block]) -> Result<(), NoMemory>
-    ensures text { OnOk result (out.new.items ≡ out.old.items ++ flat_map block_text blocks.now) }
+    ensures text { OnOk result (out.new.items ≡ out.old.items ++ flat_map draft_block blocks.now) }
 {
     for block in blocks {
         push_block(out, block)?;
@@ -57,6 +58,7 @@ fn push_blocks(out: &mut Vec<u8>, blocks: &[Block]) -> Result<(), NoMemory>
 /// The draft file of blocks, which is read as these blocks, with no fault. It fails only where memory runs out.
 pub fn draft(alloc: Global, blocks: &List<Block>) -> Result<List<u8>, NoMemory>
     requires numbered { NumberedFrom 1 blocks.now }
+    requires times { HaveNoTimes blocks.now }
     requires few { length blocks.now ≤ 1000000 }
     requires lines { AllByRecursion (λ block. AllByRecursion HasLine block.txs) blocks.now }
     ensures text { IfOk result (λ text. text ≡ draft_text blocks.now) }

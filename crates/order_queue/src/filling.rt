@@ -1,7 +1,7 @@
 // Blocks that are filled one after the other.
 ghost use Rattle.std.specs.Prelude.{◌≡◌, ◌+◌, ◌<◌, ◌≤◌, [], ◌∷◌, ◌++◌, length, pos, IfOk, OnOk};
 ghost use Rattle.proc_syntax.specs.declared.call.Block.{Block};
-ghost use Rattle.chain_file.specs.Numbered.{NumberedFrom};
+ghost use Rattle.chain_file.specs.Numbered.{HaveNoTimes, NumberedFrom};
 ghost use Rattle.order_queue.specs.Blocks.{FilledBy, joined};
 ghost use Rattle.order_queue.specs.Filled.{IsFilling, all_of};
 
@@ -58,6 +58,7 @@ impl Filling {
         requires most { (1 ≤ most) × (most ≤ 1024) }
         requires filling { IsFilling most self }
         ensures numbered { IfOk result (λ blocks. NumberedFrom 1 blocks) }
+        ensures times { IfOk result HaveNoTimes }
         ensures filled { IfOk result (λ blocks. FilledBy most blocks) }
         ensures all { IfOk result (λ blocks. joined blocks ≡ all_of self) }
     {

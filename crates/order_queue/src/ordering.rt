@@ -3,7 +3,7 @@
 ghost use Rattle.std.specs.Prelude.{◌≡◌, ◌≤◌, ◌<◌, ◌+◌, ◌*◌, All, IfOk, length, map};
 ghost use Rattle.std.specs.Int.{div_ceil};
 ghost use Rattle.std.specs.List.{sum_by};
-ghost use Rattle.chain_file.specs.Numbered.{NumberedFrom};
+ghost use Rattle.chain_file.specs.Numbered.{HaveNoTimes, NumberedFrom};
 ghost use Rattle.order_queue.specs.Blocks.{FilledBy, joined};
 ghost use Rattle.order_queue.specs.Merge.{IsMerge};
 ghost use Rattle.order_queue.specs.Orders.{IsSubmission, IsOrdered};
@@ -77,6 +77,7 @@ pub fn order_all<R: Threads + Wait + Sync, P: Pace>(
     requires blocks { div_ceil (sum_by length clients) most ≤ 1000000 }
     ensures merge { IfOk result (λ ordered. IsMerge clients ordered.from (joined ordered.blocks)) }
     ensures numbered { IfOk result (λ ordered. NumberedFrom 1 ordered.blocks) }
+    ensures times { IfOk result (λ ordered. HaveNoTimes ordered.blocks) }
     ensures filled { IfOk result (λ ordered. FilledBy most ordered.blocks) }
     ensures count { IfOk result (λ ordered. length ordered.blocks ≡ div_ceil (sum_by length clients) most) }
 {

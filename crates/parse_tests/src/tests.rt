@@ -107,8 +107,8 @@ fn prints_have_lines(rt: HostRuntime) -> Result<(), Fail> {
             "proc p() {\n  for r in acct span on id from 1 to 9 {\n    delete acct key (r.id);\n  }\n  for r in acct span on id {\n  }\n}\n",
         ),
         (
-            "proc p() { let a = not (1 = 1 or 1 != 1 and 1 <= 1); a = 1 - 1 * 1 / 1 % 1; a = \"\" ++ x\"00ff\"; insert t (true, false); }",
-            "proc p() {\n  let a = not (1 = 1 or 1 != 1 and 1 <= 1);\n  a = 1 - 1 * 1 / 1 % 1;\n  a = \"\" ++ x\"00ff\";\n  insert t (true, false);\n}\n",
+            "proc p() { let a = not (1 = 1 or 1 != 1 and 1 <= 1); a = now - 1 * 1 / 1 % 1; a = \"\" ++ x\"00ff\"; insert t (true, false); }",
+            "proc p() {\n  let a = not (1 = 1 or 1 != 1 and 1 <= 1);\n  a = now - 1 * 1 / 1 % 1;\n  a = \"\" ++ x\"00ff\";\n  insert t (true, false);\n}\n",
         ),
         (
             "proc p() { let a = (1 + 1 + 1 + 1 + 1 + 1 + 1 + 1 + 1 + 1 + 1 + 1 + 1 + 1 + 1 + 1 + 1 + 1 + 1 + 1 + 1 + 1 + 1 + 1 + 1 + 1 + 1 + 1 + 1 + 1 + 1 + 1 + 1) + 1 + 1 + 1 + 1 + 1 + 1 + 1 + 1 + 1 + 1 + 1 + 1 + 1 + 1 + 1 + 1 + 1 + 1 + 1 + 1 + 1 + 1 + 1 + 1 + 1 + 1 + 1 + 1 + 1 + 1 + 1 + 1; }",

@@ -23,7 +23,6 @@ use Rattle.proc_syntax.specs.declared.fault.Fault.TheVariants as fault
 use Rattle.proc_syntax.specs.declared.run.Binding.TheVariants.{Plain, Held}
 use Rattle.proc_syntax.specs.declared.run.Stop.{Stop}
 use Rattle.proc_syntax.specs.declared.run.Stop.TheVariants as stop
-use Rattle.proc_syntax.specs.declared.run.Variable.{Variable as Bound}
 use Rattle.proc_syntax.specs.declared.tree.Change.{Change}
 use Rattle.proc_syntax.specs.declared.tree.Expr.{Expr}
 use Rattle.proc_syntax.specs.declared.tree.Named.{Named}
@@ -34,7 +33,7 @@ use Rattle.proc_syntax.specs.Declaring.{declare}
 use Rattle.proc_syntax.specs.Meaning.{State, Progress, Going, Stopped, then_do, step_then, with_value, with_some, bound, wrote, asked, point_of, span_of, end_has, row_fits, key_for, row_under, set_columns, insert_at, update_at, delete_at, get_at, visit, in_turn, in_turn_if, with_rows, act_step, act}
 use Rattle.rel_base.specs.OwnWrites.{merged}
 use Rattle.rel_base.proofs.Lists.{not_some}
-use Rattle.proc_syntax.specs.Scope.{table_named, column_in, value_of, values_of, end_of, changes_of}
+use Rattle.proc_syntax.specs.Scope.{Environment, table_named, column_in, value_of, values_of, end_of, changes_of}
 use Rattle.proc_syntax.specs.Values.{has_kind, have_kinds, flag_of}
 use Rattle.proc_syntax.proofs.Fits.{kinds_held, kinds_hold}
 use Rattle.proc_syntax.proofs.Sound.{all_more}
@@ -106,26 +105,26 @@ all_fit_is kind tables scope name places values ok =
     )
 
 -- a table and the values of a key of it
-record Keyed (tables : List TableText) (variables : List Bound) (name : List ℕ) (values : List Expr) (number : ℕ) : Type 0 where
+record Keyed (tables : List TableText) (environment : Environment) (name : List ℕ) (values : List Expr) (number : ℕ) : Type 0 where
   pub known : Known tables name number
-  pub fits : Of (λ vs. have_kinds (map (kind_at (declare known.text)) (declare known.text).key) vs ≡ true) (values_of (map declare tables) values variables)
+  pub fits : Of (λ vs. have_kinds (map (kind_at (declare known.text)) (declare known.text).key) vs ≡ true) (values_of (map declare tables) values environment)
 
-keyed_at : (tables : List TableText) (scope : List Variable) (variables : List Bound) → Agrees (map declare tables) scope variables → (name : Named) (values : List Expr) (number : ℕ) (text : TableText) → slice_get tables number ≡ Some text
+keyed_at : (tables : List TableText) (scope : List Variable) (environment : Environment) → Agrees (map declare tables) scope environment.variables → (name : Named) (values : List Expr) (number : ℕ) (text : TableText) → slice_get tables number ≡ Some text
     → all_fit (λ column. column_kind (columns_of tables number) column.name) tables scope name (key_of tables number) values ≡ Ok tt
-    → Of (λ vs. have_kinds (map (kind_at (declare text)) (declare text).key) vs ≡ true) (values_of (map declare tables) values variables)
-keyed_at tables scope variables agrees name values number text here ok =
+    → Of (λ vs. have_kinds (map (kind_at (declare text)) (declare text).key) vs ≡ true) (values_of (map declare tables) values environment)
+keyed_at tables scope environment agrees name values number text here ok =
     let of_text : all_fit (λ column. column_kind text.columns column.name) tables scope name text.key values ≡ Ok tt =
     subst (λ t. all_fit (λ column. column_kind (columns_in t) column.name) tables scope name (key_in t) values ≡ Ok tt) here ok in
     let fits = all_fit_is (λ column. column_kind text.columns column.name) tables scope name text.key values of_text in
-    key_typed tables scope variables agrees text.columns text.key values fits.0 fits.1
+    key_typed tables scope environment agrees text.columns text.key values fits.0 fits.1
 
-keyed_is : (tables : List TableText) (scope : List Variable) (variables : List Bound) → Agrees (map declare tables) scope variables → (name : Named) (values : List Expr) (number : ℕ) → keyed tables scope name values ≡ Ok number
-    → Keyed tables variables name.name values number
-keyed_is tables scope variables agrees name values number ok =
+keyed_is : (tables : List TableText) (scope : List Variable) (environment : Environment) → Agrees (map declare tables) scope environment.variables → (name : Named) (values : List Expr) (number : ℕ) → keyed tables scope name values ≡ Ok number
+    → Keyed tables environment name.name values number
+keyed_is tables scope environment agrees name values number ok =
     let table = ok_then (known_table tables name) (λ t. all_fit (λ column. column_kind (columns_of tables t) column.name) tables scope name (key_of tables t) values >>= λ _. Ok t) number ok in
     let fits = ok_then (all_fit (λ column. column_kind (columns_of tables table.0) column.name) tables scope name (key_of tables table.0) values) (λ _. Ok table.0) number table.2 in
     let known = known_is tables name table.0 table.1 in
-    subst (Keyed tables variables name.name values) (ok_is fits.2) (record { known = known; fits = keyed_at tables scope variables agrees name values table.0 known.text known.here fits.1 })
+    subst (Keyed tables environment name.name values) (ok_is fits.2) (record { known = known; fits = keyed_at tables scope environment agrees name values table.0 known.text known.here fits.1 })
 
 -- ---- reads
 
@@ -155,7 +154,7 @@ module _ (tables : List TableText) (S : Tables) (fit : AllByRecursion (Stands (m
 
   -- the names in scope stand for what the check takes them to, and what was written fits
   pub record Good (scope : List Variable) (st : State) : Type 0 where
-    pub agrees : Agrees declared scope st.variables
+    pub agrees : Agrees declared scope st.environment.variables
     pub own : AllByRecursion (OwnStands declared) (finite.entries st.own)
 
   abbrev pub IsSafe : List Variable → Progress → Type 0
@@ -171,7 +170,7 @@ module _ (tables : List TableText) (S : Tables) (fit : AllByRecursion (Stands (m
 
   -- names that leave the scope take nothing away
   less : (scope more : List Variable) (o : Progress) → Safe (scope ++ more) o → Safe scope o
-  less scope more (Going st) s = record { is = record { agrees = agrees_less declared scope more st.variables s.is.agrees; own = s.is.own } }
+  less scope more (Going st) s = record { is = record { agrees = agrees_less declared scope more st.environment.variables s.is.agrees; own = s.is.own } }
   less scope more (Stopped st why) s = record { is = s.is }
 
   step_safe : (scope after : List Variable) (st : State) (f : State → Progress) → Good scope st → ((st : State) → Good scope st → Safe after (f st)) → Safe after (step_then st f)
@@ -204,7 +203,7 @@ module _ (tables : List TableText) (S : Tables) (fit : AllByRecursion (Stands (m
   row_good : (scope : List Variable) (name : Named) (number : ℕ) (row : List Value) (st : State) → look_up scope name.name ≡ None → RowOf declared number row → Good scope st
       → Good (scope ++ variable_of name (sort.Row number) ∷ []) (bound st name.name (Held number row))
   row_good scope name number row st none fits good =
-      record { agrees = agrees_more declared scope st.variables (variable_of name (sort.Row number)) (Held number row) good.agrees none (refl, fits); own = good.own }
+      record { agrees = agrees_more declared scope st.environment.variables (variable_of name (sort.Row number)) (Held number row) good.agrees none (refl, fits); own = good.own }
 
   get_safe : (scope : List Variable) (name : Named) (number : ℕ) (found absent : State → Progress) → look_up scope name.name ≡ None
       → ((st : State) → Good (scope ++ variable_of name (sort.Row number) ∷ []) st → Safe (scope ++ variable_of name (sort.Row number) ∷ []) (found st))
@@ -301,38 +300,38 @@ module _ (tables : List TableText) (S : Tables) (fit : AllByRecursion (Stands (m
       of_sort line (sort.Value kind) k h = ap sort.Value (ok_is h)
       of_sort line (sort.Row number) k h = absurd (err_ok h)
 
-  let_safe : (name : Named) (e : Expr) → Holds (λ scope. walk_let tables scope name e >>= λ k. Ok (Some (variable_of name (sort.Value k)))) (λ st. with_value (value_of declared e st.variables) st (λ v. Going (bound st name.name (Plain v))))
+  let_safe : (name : Named) (e : Expr) → Holds (λ scope. walk_let tables scope name e >>= λ k. Ok (Some (variable_of name (sort.Value k)))) (λ st. with_value (value_of declared e st.environment) st (λ v. Going (bound st name.name (Plain v))))
   let_safe name e scope brought ok st good =
       let walked = ok_then (walk_let tables scope name e) (λ k. Ok (Some (variable_of name (sort.Value k)))) brought ok in
       let new = ok_then (new_name scope name) (λ _. (type_of tables scope e).kind) walked.0 walked.1 in
-      brings scope (variable_of name (sort.Value walked.0)) brought (with_value (value_of declared e st.variables) st (λ v. Going (bound st name.name (Plain v)))) walked.2
-      (value_safe (λ v. has_kind walked.0 v ≡ true) (scope ++ variable_of name (sort.Value walked.0) ∷ []) (value_of declared e st.variables) st (λ v. Going (bound st name.name (Plain v)))
-      (expr_typed tables scope st.variables good.agrees e walked.0 new.2)
-      (λ v of_v. record { is = record { agrees = agrees_more declared scope st.variables (variable_of name (sort.Value walked.0)) (Plain v) good.agrees (new_is scope name new.1) of_v; own = good.own } }))
+      brings scope (variable_of name (sort.Value walked.0)) brought (with_value (value_of declared e st.environment) st (λ v. Going (bound st name.name (Plain v)))) walked.2
+      (value_safe (λ v. has_kind walked.0 v ≡ true) (scope ++ variable_of name (sort.Value walked.0) ∷ []) (value_of declared e st.environment) st (λ v. Going (bound st name.name (Plain v)))
+      (expr_typed tables scope st.environment good.agrees e walked.0 new.2)
+      (λ v of_v. record { is = record { agrees = agrees_more declared scope st.environment.variables (variable_of name (sort.Value walked.0)) (Plain v) good.agrees (new_is scope name new.1) of_v; own = good.own } }))
 
-  assign_safe : (name : Named) (e : Expr) → Holds (λ scope. walk_assign tables scope name e >>= λ _. Ok None) (λ st. with_value (value_of declared e st.variables) st (λ v. Going (bound st name.name (Plain v))))
+  assign_safe : (name : Named) (e : Expr) → Holds (λ scope. walk_assign tables scope name e >>= λ _. Ok None) (λ st. with_value (value_of declared e st.environment) st (λ v. Going (bound st name.name (Plain v))))
   assign_safe name e scope brought ok st good =
       let walked = ok_then (walk_assign tables scope name e) (λ _. Ok None) brought ok in
       let known = ok_then (value_kind scope name) (λ k. need (Some k) (type_of tables scope e)) tt walked.1 in
-      quiet scope brought (with_value (value_of declared e st.variables) st (λ v. Going (bound st name.name (Plain v)))) walked.2
-      (value_safe (λ v. has_kind known.0 v ≡ true) scope (value_of declared e st.variables) st (λ v. Going (bound st name.name (Plain v)))
-      (expr_typed tables scope st.variables good.agrees e known.0 (needed_kind known.0 (type_of tables scope e) known.2))
-      (λ v of_v. record { is = record { agrees = agrees_set declared scope st.variables name.name known.0 v good.agrees (value_is scope name known.0 known.1) of_v; own = good.own } }))
+      quiet scope brought (with_value (value_of declared e st.environment) st (λ v. Going (bound st name.name (Plain v)))) walked.2
+      (value_safe (λ v. has_kind known.0 v ≡ true) scope (value_of declared e st.environment) st (λ v. Going (bound st name.name (Plain v)))
+      (expr_typed tables scope st.environment good.agrees e known.0 (needed_kind known.0 (type_of tables scope e) known.2))
+      (λ v of_v. record { is = record { agrees = agrees_set declared scope st.environment.variables name.name known.0 v good.agrees (value_is scope name known.0 known.1) of_v; own = good.own } }))
 
   -- the two blocks of an `if`
   if_safe : (test : Expr) (body : List (Such HoldsOf)) (other : Option (List (Such HoldsOf))) → (scope : List Variable) (brought : Option Variable)
       → (need (Some kind.Bool) (type_of tables scope test) >>= λ _. block (map (walk_stmt tables) (map bare body)) scope >>= λ _.
       maybe_block (option_map (map (walk_stmt tables)) (option_map (map bare) other)) scope >>= λ _. Ok None) ≡ Ok brought
       → (st : State) → Good scope st → Safe (scope ++ option_to_list brought)
-      (with_value (value_of declared test st.variables) st (λ v. with_value (flag_of v) st (λ holds. cond holds (in_turn (map (act declared S) (map bare body)) st) (in_turn_if (option_map (map (act declared S)) (option_map (map bare) other)) st))))
+      (with_value (value_of declared test st.environment) st (λ v. with_value (flag_of v) st (λ holds. cond holds (in_turn (map (act declared S) (map bare body)) st) (in_turn_if (option_map (map (act declared S)) (option_map (map bare) other)) st))))
   if_safe test body other scope brought ok st good =
       let tested = ok_then (need (Some kind.Bool) (type_of tables scope test)) (λ _. block (map (walk_stmt tables) (map bare body)) scope >>= λ _.
       maybe_block (option_map (map (walk_stmt tables)) (option_map (map bare) other)) scope >>= λ _. Ok None) brought ok in
       let walked = ok_then (block (map (walk_stmt tables) (map bare body)) scope) (λ _. maybe_block (option_map (map (walk_stmt tables)) (option_map (map bare) other)) scope >>= λ _. Ok None) brought tested.2 in
       let rest = ok_then (maybe_block (option_map (map (walk_stmt tables)) (option_map (map bare) other)) scope) (λ _. Ok None) brought walked.2 in
       quiet scope brought _ rest.2
-      (value_safe (λ v. has_kind kind.Bool v ≡ true) scope (value_of declared test st.variables) st _
-      (expr_typed tables scope st.variables good.agrees test kind.Bool (needed_kind kind.Bool (type_of tables scope test) tested.1))
+      (value_safe (λ v. has_kind kind.Bool v ≡ true) scope (value_of declared test st.environment) st _
+      (expr_typed tables scope st.environment good.agrees test kind.Bool (needed_kind kind.Bool (type_of tables scope test) tested.1))
       (λ v of_v. branch_safe scope v st (in_turn (map (act declared S) (map bare body)) st) (in_turn_if (option_map (map (act declared S)) (option_map (map bare) other)) st) of_v
       (in_turn_safe body scope walked.1 st good) (maybe_safe other rest.1)))
     where
@@ -345,7 +344,7 @@ module _ (tables : List TableText) (S : Tables) (fit : AllByRecursion (Stands (m
       → (walk_get tables scope name table key >>= λ number. block (map (walk_stmt tables) (map bare found)) (scope ++ variable_of name (sort.Row number) ∷ []) >>= λ _.
       block (map (walk_stmt tables) (map bare absent)) scope >>= λ _. Ok None) ≡ Ok brought
       → (st : State) → Good scope st → Safe (scope ++ option_to_list brought)
-      (with_some (table_named declared table.name) st (λ named. with_value (values_of declared key st.variables) st (λ key. with_some (point_of named.1 named.0 key) st (λ read.
+      (with_some (table_named declared table.name) st (λ named. with_value (values_of declared key st.environment) st (λ key. with_some (point_of named.1 named.0 key) st (λ read.
       with_rows S named.1 read st (get_at named.0 name.name (in_turn (map (act declared S) (map bare found))) (in_turn (map (act declared S) (map bare absent))))))))
   get_holds name table key found absent scope brought ok st good =
       let walked = ok_then (walk_get tables scope name table key) (λ number. block (map (walk_stmt tables) (map bare found)) (scope ++ variable_of name (sort.Row number) ∷ []) >>= λ _.
@@ -353,29 +352,29 @@ module _ (tables : List TableText) (S : Tables) (fit : AllByRecursion (Stands (m
       let new = ok_then (new_name scope name) (λ _. keyed tables scope table key) walked.0 walked.1 in
       let one = ok_then (block (map (walk_stmt tables) (map bare found)) (scope ++ variable_of name (sort.Row walked.0) ∷ [])) (λ _. block (map (walk_stmt tables) (map bare absent)) scope >>= λ _. Ok None) brought walked.2 in
       let two = ok_then (block (map (walk_stmt tables) (map bare absent)) scope) (λ _. Ok None) brought one.2 in
-      let k = keyed_is tables scope st.variables good.agrees table key walked.0 new.2 in
+      let k = keyed_is tables scope st.environment good.agrees table key walked.0 new.2 in
       let def = declare k.known.text in
       quiet scope brought _ two.2
       (some_safe scope (table_named declared table.name) (walked.0, def) st _ k.known.named
-      (value_safe (λ vs. have_kinds (map (kind_at def) def.key) vs ≡ true) scope (values_of declared key st.variables) st _ k.fits (λ vs fits.
+      (value_safe (λ vs. have_kinds (map (kind_at def) def.key) vs ≡ true) scope (values_of declared key st.environment) st _ k.fits (λ vs fits.
       some_safe scope (point_of def walked.0 vs) (Point walked.0 vs) st _ (point_is def walked.0 vs fits)
       (get_safe scope name walked.0 (in_turn (map (act declared S) (map bare found))) (in_turn (map (act declared S) (map bare absent))) (new_is scope name new.1)
       (in_turn_safe found (scope ++ variable_of name (sort.Row walked.0) ∷ []) one.1) (in_turn_safe absent scope two.1)
       _ (point_fit scope walked.0 k.known.text k.known.here st good vs) _ (asked_good scope st (Point walked.0 vs) (rows def (Point walked.0 vs) S) good)))))
 
   -- the span of a `for`
-  record Spanned (scope : List Variable) (variables : List Bound) (text : TableText) (column : Named) (low high : Option Expr) : Type 0 where
+  record Spanned (scope : List Variable) (environment : Environment) (text : TableText) (column : Named) (low high : Option Expr) : Type 0 where
     pub kind : Kind
     pub number : ℕ
     pub is_in : column_in (declare text) column.name ≡ Some number
     pub indexed : list_any (λ c. c == number) (span_columns (declare text)) ≡ true
     pub of_kind : kind_at (declare text) number ≡ kind
-    pub of_low : Of (λ v. end_has kind v ≡ true) (end_of declared low variables)
-    pub of_high : Of (λ v. end_has kind v ≡ true) (end_of declared high variables)
+    pub of_low : Of (λ v. end_has kind v ≡ true) (end_of declared low environment)
+    pub of_high : Of (λ v. end_has kind v ≡ true) (end_of declared high environment)
 
-  spanned_is : (scope : List Variable) (variables : List Bound) → Agrees declared scope variables → (number : ℕ) (text : TableText) → slice_get tables number ≡ Some text → (column : Named) (low high : Option Expr)
-      → walk_span tables scope number column low high ≡ Ok tt → Spanned scope variables text column low high
-  spanned_is scope variables agrees number text here column low high ok =
+  spanned_is : (scope : List Variable) (environment : Environment) → Agrees declared scope environment.variables → (number : ℕ) (text : TableText) → slice_get tables number ≡ Some text → (column : Named) (low high : Option Expr)
+      → walk_span tables scope number column low high ≡ Ok tt → Spanned scope environment text column low high
+  spanned_is scope environment agrees number text here column low high ok =
       let known = ok_then (known_column tables number column) (λ k. refuse (not (is_spanned tables number column.name)) column.line NoIndex >>= λ _. end_fits tables scope k low >>= λ _. end_fits tables scope k high) tt ok in
       let on = ok_then (refuse (not (is_spanned tables number column.name)) column.line NoIndex) (λ _. end_fits tables scope known.0 low >>= λ _. end_fits tables scope known.0 high) tt known.2 in
       let ends = ok_then (end_fits tables scope known.0 low) (λ _. end_fits tables scope known.0 high) tt on.2 in
@@ -390,14 +389,14 @@ module _ (tables : List TableText) (S : Tables) (fit : AllByRecursion (Stands (m
         is_in = run_number text.columns column.name at_number.0 at_number.1;
         indexed = spanned text column.name at_number.0 at_number.1 on_text;
         of_kind = get_or_from_slice_get (kinds_of text.columns) at_number.0 known.0 kind.Int at_number.2;
-        of_low = end_typed tables scope variables agrees known.0 low ends.1;
-        of_high = end_typed tables scope variables agrees known.0 high ends.2;
+        of_low = end_typed tables scope environment agrees known.0 low ends.1;
+        of_high = end_typed tables scope environment agrees known.0 high ends.2;
       }
 
   for_holds : (name table column : Named) (low high : Option Expr) (body : List (Such HoldsOf)) → (scope : List Variable) (brought : Option Variable)
       → (walk_for tables scope name table column low high >>= λ number. block (map (walk_stmt tables) (map bare body)) (scope ++ variable_of name (sort.Row number) ∷ []) >>= λ _. Ok None) ≡ Ok brought
       → (st : State) → Good scope st → Safe (scope ++ option_to_list brought)
-      (with_some (table_named declared table.name) st (λ named. with_value (end_of declared low st.variables) st (λ low. with_value (end_of declared high st.variables) st (λ high.
+      (with_some (table_named declared table.name) st (λ named. with_value (end_of declared low st.environment) st (λ low. with_value (end_of declared high st.environment) st (λ high.
       with_some (span_of named.1 named.0 (column_in named.1 column.name) low high) st (λ read. with_rows S named.1 read st (visit named.0 name.name (in_turn (map (act declared S) (map bare body)))))))))
   for_holds name table column low high body scope brought ok st good =
       let walked = ok_then (walk_for tables scope name table column low high) (λ number. block (map (walk_stmt tables) (map bare body)) (scope ++ variable_of name (sort.Row number) ∷ []) >>= λ _. Ok None) brought ok in
@@ -407,17 +406,17 @@ module _ (tables : List TableText) (S : Tables) (fit : AllByRecursion (Stands (m
       let inner = ok_then (block (map (walk_stmt tables) (map bare body)) (scope ++ variable_of name (sort.Row walked.0) ∷ [])) (λ _. Ok None) brought walked.2 in
       let known = subst (Known tables table.name) (ok_is span.2) (known_is tables table named.0 named.1) in
       let def = declare known.text in
-      let s = spanned_is scope st.variables good.agrees walked.0 known.text known.here column low high (subst (λ n. walk_span tables scope n column low high ≡ Ok tt) (ok_is span.2) span.1) in
+      let s = spanned_is scope st.environment good.agrees walked.0 known.text known.here column low high (subst (λ n. walk_span tables scope n column low high ≡ Ok tt) (ok_is span.2) span.1) in
       quiet scope brought _ inner.2
       (some_safe scope (table_named declared table.name) (walked.0, def) st _ known.named
-      (value_safe (λ v. end_has s.kind v ≡ true) scope (end_of declared low st.variables) st _ s.of_low (λ l of_low.
-      value_safe (λ v. end_has s.kind v ≡ true) scope (end_of declared high st.variables) st _ s.of_high (λ h of_high.
+      (value_safe (λ v. end_has s.kind v ≡ true) scope (end_of declared low st.environment) st _ s.of_low (λ l of_low.
+      value_safe (λ v. end_has s.kind v ≡ true) scope (end_of declared high st.environment) st _ s.of_high (λ h of_high.
       some_safe scope (span_of def walked.0 (column_in def column.name) l h) (Span walked.0 s.number l h) st _ (span_is known.text walked.0 column.name s.number s.kind l h s.is_in s.indexed s.of_kind of_low of_high)
       (visit_safe scope name walked.0 (in_turn (map (act declared S) (map bare body))) (new_is scope name new.1) (in_turn_safe body (scope ++ variable_of name (sort.Row walked.0) ∷ []) inner.1)
       _ (span_fit scope walked.0 known.text known.here st good s.number l h) _ (asked_good scope st (Span walked.0 s.number l h) (rows def (Span walked.0 s.number l h) S) good))))))
 
   insert_holds : (table : Named) (values : List Expr) → Holds (λ scope. walk_insert tables scope table values >>= λ _. Ok None)
-      (λ st. with_some (table_named declared table.name) st (λ named. with_value (values_of declared values st.variables) st (λ row. with_some (key_for named.1 row) st (λ key.
+      (λ st. with_some (table_named declared table.name) st (λ named. with_value (values_of declared values st.environment) st (λ row. with_some (key_for named.1 row) st (λ key.
       with_rows S named.1 (Point named.0 key) st (insert_at named.0 key row)))))
   insert_holds table values scope brought ok st good =
       let walked = ok_then (walk_insert tables scope table values) (λ _. Ok None) brought ok in
@@ -428,35 +427,35 @@ module _ (tables : List TableText) (S : Tables) (fit : AllByRecursion (Stands (m
       (subst (λ t. all_fit (λ column. Some column.kind) tables scope table (columns_in t) values ≡ Ok tt) known.here named.2) in
       quiet scope brought _ walked.2
       (some_safe scope (table_named declared table.name) (named.0, def) st _ known.named
-      (value_safe (λ row. row_fits def row ≡ true) scope (values_of declared values st.variables) st _ (insert_typed tables scope st.variables good.agrees known.text.columns values fits.0 fits.1) (λ row of_row.
+      (value_safe (λ row. row_fits def row ≡ true) scope (values_of declared values st.environment) st _ (insert_typed tables scope st.environment good.agrees known.text.columns values fits.0 fits.1) (λ row of_row.
       some_safe scope (key_for def row) (key_of_row def row) st _ (ap (λ b. cond b (Some (key_of_row def row)) None) of_row)
       (insert_safe scope named.0 known.text known.here st good (key_of_row def row) row (kinds_hold (map (λ column. column.kind) def.columns) row of_row, refl) _))))
 
   update_holds : (table : Named) (key : List Expr) (changes : List Change) → Holds (λ scope. walk_update tables scope table key changes >>= λ _. Ok None)
-      (λ st. with_some (table_named declared table.name) st (λ named. with_value (values_of declared key st.variables) st (λ key. with_value (changes_of declared named.1 changes st.variables) st (λ changes.
+      (λ st. with_some (table_named declared table.name) st (λ named. with_value (values_of declared key st.environment) st (λ key. with_value (changes_of declared named.1 changes st.environment) st (λ changes.
       with_some (point_of named.1 named.0 key) st (λ read. with_rows S named.1 read st (update_at named.1 named.0 key changes))))))
   update_holds table key changes scope brought ok st good =
       let walked = ok_then (walk_update tables scope table key changes) (λ _. Ok None) brought ok in
       let named = ok_then (keyed tables scope table key) (λ number. in_order (walk_change tables scope number) [] changes) tt walked.1 in
-      let k = keyed_is tables scope st.variables good.agrees table key named.0 named.1 in
+      let k = keyed_is tables scope st.environment good.agrees table key named.0 named.1 in
       let def = declare k.known.text in
       quiet scope brought _ walked.2
       (some_safe scope (table_named declared table.name) (named.0, def) st _ k.known.named
-      (value_safe (λ vs. have_kinds (map (kind_at def) def.key) vs ≡ true) scope (values_of declared key st.variables) st _ k.fits (λ vs fits.
-      value_safe (AllByRecursion (IsChange def)) scope (changes_of declared def changes st.variables) st _ (changes_typed tables scope st.variables good.agrees named.0 k.known.text k.known.here [] changes named.2) (λ cs all.
+      (value_safe (λ vs. have_kinds (map (kind_at def) def.key) vs ≡ true) scope (values_of declared key st.environment) st _ k.fits (λ vs fits.
+      value_safe (AllByRecursion (IsChange def)) scope (changes_of declared def changes st.environment) st _ (changes_typed tables scope st.environment good.agrees named.0 k.known.text k.known.here [] changes named.2) (λ cs all.
       some_safe scope (point_of def named.0 vs) (Point named.0 vs) st _ (point_is def named.0 vs fits)
       (update_safe scope named.0 k.known.text k.known.here st good vs cs all _ (point_under scope named.0 k.known.text k.known.here st good vs))))))
 
   delete_holds : (table : Named) (key : List Expr) → Holds (λ scope. keyed tables scope table key >>= λ _. Ok None)
-      (λ st. with_some (table_named declared table.name) st (λ named. with_value (values_of declared key st.variables) st (λ key.
+      (λ st. with_some (table_named declared table.name) st (λ named. with_value (values_of declared key st.environment) st (λ key.
       with_some (point_of named.1 named.0 key) st (λ read. with_rows S named.1 read st (delete_at named.0 key)))))
   delete_holds table key scope brought ok st good =
       let walked = ok_then (keyed tables scope table key) (λ _. Ok None) brought ok in
-      let k = keyed_is tables scope st.variables good.agrees table key walked.0 walked.1 in
+      let k = keyed_is tables scope st.environment good.agrees table key walked.0 walked.1 in
       let def = declare k.known.text in
       quiet scope brought _ walked.2
       (some_safe scope (table_named declared table.name) (walked.0, def) st _ k.known.named
-      (value_safe (λ vs. have_kinds (map (kind_at def) def.key) vs ≡ true) scope (values_of declared key st.variables) st _ k.fits (λ vs fits.
+      (value_safe (λ vs. have_kinds (map (kind_at def) def.key) vs ≡ true) scope (values_of declared key st.environment) st _ k.fits (λ vs fits.
       some_safe scope (point_of def walked.0 vs) (Point walked.0 vs) st _ (point_is def walked.0 vs fits)
       (delete_safe scope walked.0 k.known.text k.known.here st good vs _))))
 

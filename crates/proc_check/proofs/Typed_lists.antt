@@ -19,7 +19,6 @@ use Rattle.rel_base.specs.Schema.{RowFits, key_of_row, span_columns}
 use Rattle.rel_base.specs.Value.{kind_of}
 use Rattle.rel_base.proofs.Bytes.{bytes_same, equal_bytes}
 use Rattle.rel_base.proofs.Bits.{or_first, or_right, or_second}
-use Rattle.proc_syntax.specs.declared.run.Variable.{Variable as Bound}
 use Rattle.proc_syntax.specs.declared.tree.Change.{Change}
 use Rattle.proc_syntax.specs.declared.tree.ColumnText.{ColumnText}
 use Rattle.proc_syntax.specs.declared.tree.Expr.{Expr}
@@ -27,7 +26,7 @@ use Rattle.proc_syntax.specs.declared.tree.Named.{Named}
 use Rattle.proc_syntax.specs.declared.tree.TableText.{TableText}
 use Rattle.proc_syntax.specs.Declaring.{declare, column_number, with_number, known_columns}
 use Rattle.proc_syntax.specs.Meaning.{set_columns}
-use Rattle.proc_syntax.specs.Scope.{column_in, value_of, values_of, end_of, change_of, changes_of}
+use Rattle.proc_syntax.specs.Scope.{Environment, column_in, value_of, values_of, end_of, change_of, changes_of}
 use Rattle.proc_syntax.specs.Values.{has_kind}
 use Rattle.proc_syntax.proofs.Fits.{kind_holds}
 use Rattle.proc_check.specs.declared.fault.BadKind.TheVariants.{UnknownName, KeySet, NameTwice}
@@ -128,9 +127,9 @@ set_all def key (change ∷ changes) row all under = set_all def key changes (sl
 
 -- ---- values
 
-module _ (tables : List TableText) (scope : List Variable) (variables : List Bound) (agrees : Agrees (map declare tables) scope variables) where
+module _ (tables : List TableText) (scope : List Variable) (environment : Environment) (agrees : Agrees (map declare tables) scope environment.variables) where
   pub key_typed : (columns : List ColumnText) (names : List Named) (values : List Expr) → length values ≡ length names → each_fits (λ name. column_kind columns name.name) tables scope names values ≡ Ok tt
-      → GivesKinds (map (λ c. slice_index_or (kinds_of columns) c kind.Int) (known_columns columns names)) (values_of (map declare tables) values variables)
+      → GivesKinds (map (λ c. slice_index_or (kinds_of columns) c kind.Int) (known_columns columns names)) (values_of (map declare tables) values environment)
   key_typed columns [] [] same ok = refl
   key_typed columns [] (v ∷ values) same ok = absurd (omega (arith, same))
   key_typed columns (n ∷ names) [] same ok = absurd (omega (arith, same))
@@ -140,29 +139,29 @@ module _ (tables : List TableText) (scope : List Variable) (variables : List Bou
       let fits = needed (column_kind columns n.name) (type_of tables scope v) step in
       let column = number_at columns n.name fits.0 fits.2 in
       let of_column : slice_index_or (kinds_of columns) column.0 kind.Int ≡ fits.0 = get_or_from_slice_get (kinds_of columns) column.0 fits.0 kind.Int column.2 in
-      subst (λ o. GivesKinds (map (λ c. slice_index_or (kinds_of columns) c kind.Int) (with_number o (known_columns columns names))) (values_of (map declare tables) (v ∷ values) variables)) (sym column.1)
-      (subst (λ k. GivesKinds (k ∷ map (λ c. slice_index_or (kinds_of columns) c kind.Int) (known_columns columns names)) (values_of (map declare tables) (v ∷ values) variables)) (sym of_column)
-      (cons_kinds fits.0 (map (λ c. slice_index_or (kinds_of columns) c kind.Int) (known_columns columns names)) (value_of (map declare tables) v variables) (values_of (map declare tables) values variables)
-      (expr_typed tables scope variables agrees v fits.0 fits.1) (key_typed columns names values (omega (arith, same)) rest)))
+      subst (λ o. GivesKinds (map (λ c. slice_index_or (kinds_of columns) c kind.Int) (with_number o (known_columns columns names))) (values_of (map declare tables) (v ∷ values) environment)) (sym column.1)
+      (subst (λ k. GivesKinds (k ∷ map (λ c. slice_index_or (kinds_of columns) c kind.Int) (known_columns columns names)) (values_of (map declare tables) (v ∷ values) environment)) (sym of_column)
+      (cons_kinds fits.0 (map (λ c. slice_index_or (kinds_of columns) c kind.Int) (known_columns columns names)) (value_of (map declare tables) v environment) (values_of (map declare tables) values environment)
+      (expr_typed tables scope environment agrees v fits.0 fits.1) (key_typed columns names values (omega (arith, same)) rest)))
 
   pub insert_typed : (columns : List ColumnText) (values : List Expr) → length values ≡ length columns → each_fits (λ column. Some column.kind) tables scope columns values ≡ Ok tt
-      → GivesKinds (kinds_of columns) (values_of (map declare tables) values variables)
+      → GivesKinds (kinds_of columns) (values_of (map declare tables) values environment)
   insert_typed [] [] same ok = refl
   insert_typed [] (v ∷ values) same ok = absurd (omega (arith, same))
   insert_typed (c ∷ columns) [] same ok = absurd (omega (arith, same))
   insert_typed (c ∷ columns) (v ∷ values) same ok =
       let step = first (need (Some c.kind) (type_of tables scope v)) (λ _. each_fits (λ column. Some column.kind) tables scope columns values) ok in
       let rest = second (need (Some c.kind) (type_of tables scope v)) (λ _. each_fits (λ column. Some column.kind) tables scope columns values) ok in
-      cons_kinds c.kind (kinds_of columns) (value_of (map declare tables) v variables) (values_of (map declare tables) values variables)
-      (expr_typed tables scope variables agrees v c.kind (needed_kind c.kind (type_of tables scope v) step)) (insert_typed columns values (omega (arith, same)) rest)
+      cons_kinds c.kind (kinds_of columns) (value_of (map declare tables) v environment) (values_of (map declare tables) values environment)
+      (expr_typed tables scope environment agrees v c.kind (needed_kind c.kind (type_of tables scope v) step)) (insert_typed columns values (omega (arith, same)) rest)
 
-  pub end_typed : (k : Kind) (end : Option Expr) → end_fits tables scope k end ≡ Ok tt → GivesEnd k (end_of (map declare tables) end variables)
+  pub end_typed : (k : Kind) (end : Option Expr) → end_fits tables scope k end ≡ Ok tt → GivesEnd k (end_of (map declare tables) end environment)
   end_typed k None ok = refl
-  end_typed k (Some e) ok = some_end k (value_of (map declare tables) e variables) (expr_typed tables scope variables agrees e k (needed_kind k (type_of tables scope e) ok))
+  end_typed k (Some e) ok = some_end k (value_of (map declare tables) e environment) (expr_typed tables scope environment agrees e k (needed_kind k (type_of tables scope e) ok))
 
   module _ (table : ℕ) (text : TableText) (here : slice_get tables table ≡ Some text) where
     change_typed : (before : List Change) (change : Change) → walk_change tables scope table before change ≡ Ok tt
-        → Of (IsChange (declare text)) (change_of (map declare tables) (declare text) change variables)
+        → Of (IsChange (declare text)) (change_of (map declare tables) (declare text) change environment)
     change_typed before change ok =
         let known = ok_then (known_column tables table change.column) (λ k. refuse (has_name (λ other. other) (key_of tables table) change.column.name) change.column.line KeySet >>= λ _.
         refuse (has_name (λ other. other.column) before change.column.name) change.column.line NameTwice >>= λ _. need (Some k) (type_of tables scope change.value)) tt ok in
@@ -174,14 +173,14 @@ module _ (tables : List TableText) (scope : List Variable) (variables : List Bou
         let not_key : has_name (λ other. other) text.key change.column.name ≡ false =
         ap (λ t. has_name (λ other. other) (key_in t) change.column.name) (sym here) ∙ not_refused (has_name (λ other. other) (key_of tables table) change.column.name) change.column.line KeySet unset.1 in
         let column = number_at text.columns change.column.name known.0 of_column in
-        change_kind (IsChange (declare text)) (column_in (declare text) change.column.name) column.0 known.0 (value_of (map declare tables) change.value variables)
+        change_kind (IsChange (declare text)) (column_in (declare text) change.column.name) column.0 known.0 (value_of (map declare tables) change.value environment)
         (run_number text.columns change.column.name column.0 column.1)
-        (expr_typed tables scope variables agrees change.value known.0 (needed_kind known.0 (type_of tables scope change.value) once.2))
+        (expr_typed tables scope environment agrees change.value known.0 (needed_kind known.0 (type_of tables scope change.value) once.2))
         (λ v of_v. record { fits = change_fits text column.0 known.0 v column.2 of_v; keeps = λ row. key_kept text.columns text.key change.column.name column.0 v row column.1 not_key })
 
-    pub changes_typed : (before changes : List Change) → in_order (walk_change tables scope table) before changes ≡ Ok tt → Of (AllByRecursion (IsChange (declare text))) (changes_of (map declare tables) (declare text) changes variables)
+    pub changes_typed : (before changes : List Change) → in_order (walk_change tables scope table) before changes ≡ Ok tt → Of (AllByRecursion (IsChange (declare text))) (changes_of (map declare tables) (declare text) changes environment)
     changes_typed before [] ok = tt
     changes_typed before (change ∷ changes) ok =
-        cons_of (IsChange (declare text)) (change_of (map declare tables) (declare text) change variables) (changes_of (map declare tables) (declare text) changes variables)
+        cons_of (IsChange (declare text)) (change_of (map declare tables) (declare text) change environment) (changes_of (map declare tables) (declare text) changes environment)
         (change_typed before change (first (walk_change tables scope table before change) (λ _. in_order (walk_change tables scope table) (before ++ change ∷ []) changes) ok))
         (changes_typed (before ++ change ∷ []) changes (second (walk_change tables scope table before change) (λ _. in_order (walk_change tables scope table) (before ++ change ∷ []) changes) ok))

@@ -1,5 +1,5 @@
 -- A run of a checked application is never ill typed.
-use Rattle.std.proofs.Common.{◌≡◌, ℕ, refl, sym, subst, List, [], ◌∷◌, ◌++◌, map, Bool, true, false, cond, ◌||◌, Result, Ok, Err, Option, Some, None, IfSome, append_assoc}
+use Rattle.std.proofs.Common.{◌≡◌, ℕ, ℤ, refl, sym, subst, List, [], ◌∷◌, ◌++◌, map, Bool, true, false, cond, ◌||◌, Result, Ok, Err, Option, Some, None, IfSome, append_assoc}
 use Rattle.std.specs.FinMap as finite
 use Rattle.std.specs.List.{AllByRecursion, find}
 use Rattle.std.specs.Str.{bytes_eq}
@@ -106,21 +106,21 @@ module _ (app : App) (S : Tables) (fit : AllByRecursion (Stands (map declare app
   ran_typed scope (Going st) s = tt
   ran_typed scope (Stopped st why) s = end_typed why s.is
 
-  start_good : (procedure : ProcDef) (values : List Value) → Walked app.tables procedure → takes procedure values ≡ true → Good app.tables S fit (map parameter procedure.params) (start procedure values)
-  start_good procedure values walked taken = record {
+  start_good : (procedure : ProcDef) (values : List Value) (now : ℤ) → Walked app.tables procedure → takes procedure values ≡ true → Good app.tables S fit (map parameter procedure.params) (start procedure values now)
+  start_good procedure values now walked taken = record {
     agrees = arguments_agree (map declare app.tables) [] procedure.params values [] walked.params taken (record { stands = λ name. tt });
     own = rw entries-empty tt;
   }
 
-  called_typed : (procedure : Option ProcDef) (values : List Value) → IfSome procedure (Walked app.tables) → fault_at procedure values ≡ None → IsTyped (called app values S procedure).ending
-  called_typed None values walked begins = absurd (none_some (sym begins))
-  called_typed (Some procedure) values walked begins =
+  called_typed : (procedure : Option ProcDef) (values : List Value) (now : ℤ) → IfSome procedure (Walked app.tables) → fault_at procedure values ≡ None → IsTyped (called app values now S procedure).ending
+  called_typed None values now walked begins = absurd (none_some (sym begins))
+  called_typed (Some procedure) values now walked begins =
       let taken = takes_it (takes procedure values) _ begins in
-      rw taken (ran_typed (map parameter procedure.params) (in_turn (map (act (map declare app.tables) S) procedure.body) (start procedure values))
-      (block_safe app.tables S fit procedure.body (map parameter procedure.params) walked.body (start procedure values) (start_good procedure values walked taken)))
+      rw taken (ran_typed (map parameter procedure.params) (in_turn (map (act (map declare app.tables) S) procedure.body) (start procedure values now))
+      (block_safe app.tables S fit procedure.body (map parameter procedure.params) walked.body (start procedure values now) (start_good procedure values now walked taken)))
 
 pub checked_runs : CheckedRunsAreTyped
 checked_runs app tx time tables fine begins fit =
     let walked = second (in_order walk_table [] app.tables) (λ _. in_order (walk_proc app.tables) [] app.procs) (walk_fine (walk_app app) fine) in
-    called_typed app tables (recursion_from_All (Stands (tables_of app)) (finite.entries tables) fit) (procedure_named app tx.procedure) tx.args
+    called_typed app tables (recursion_from_All (Stands (tables_of app)) (finite.entries tables) fit) (procedure_named app tx.procedure) tx.args time
     (found_walked app.tables (λ procedure. bytes_eq procedure.name.name tx.procedure) [] app.procs walked) begins

@@ -3,13 +3,13 @@ use Rattle.std.proofs.Common.{◌≡◌, refl, sym, ap, subst, ◌∙◌, List, 
 use Rattle.rel_base.specs.declared.value.Kind.{Kind}
 use Rattle.rel_base.specs.declared.value.Kind.TheVariants as kind
 use Rattle.rel_base.specs.declared.value.Value.{Value}
+use Rattle.rel_base.specs.declared.value.Value.TheVariants as value
 use Rattle.proc_syntax.specs.declared.run.Stop.{Stop}
-use Rattle.proc_syntax.specs.declared.run.Variable.{Variable as Bound}
 use Rattle.proc_syntax.specs.declared.tree.Expr.{Expr, Expr-F, map-Expr}
 use Rattle.proc_syntax.specs.declared.tree.Expr.TheOpen as expr
 use Rattle.proc_syntax.specs.declared.tree.TableText.{TableText}
 use Rattle.proc_syntax.specs.Declaring.{declare}
-use Rattle.proc_syntax.specs.Scope.{binding_of, value_step, value_of}
+use Rattle.proc_syntax.specs.Scope.{Environment, binding_of, value_step, value_of}
 use Rattle.proc_syntax.proofs.ExprTrees.{Such, stripped, every_pair}
 use Rattle.proc_syntax.proofs.Fits.{own_kind}
 use Rattle.proc_check.specs.declared.expressions.Typed.{Typed}
@@ -87,26 +87,27 @@ sides wanted left right k ok =
 
 -- ---- expressions
 
-module _ (tables : List TableText) (scope : List Variable) (variables : List Bound) (agrees : Agrees (map declare tables) scope variables) where
+module _ (tables : List TableText) (scope : List Variable) (environment : Environment) (agrees : Agrees (map declare tables) scope environment.variables) where
   -- what the check knows of an expression holds of its value
-  abbrev Holds : Typed → (List Bound → Result Value Stop) → Type 0
-  Holds typed worth = (k : Kind) → typed.kind ≡ Ok k → GivesKind k (worth variables)
+  abbrev Holds : Typed → (Environment → Result Value Stop) → Type 0
+  Holds typed worth = (k : Kind) → typed.kind ≡ Ok k → GivesKind k (worth environment)
 
   typed_step : (d : Expr-F (Such (λ e. Holds (type_of tables scope e) (value_of (map declare tables) e))))
-      → Holds (type_step tables scope (map-Expr Expr Typed (type_of tables scope) (stripped d))) (value_step (map declare tables) (map-Expr Expr (List Bound → Result Value Stop) (value_of (map declare tables)) (stripped d)))
+      → Holds (type_step tables scope (map-Expr Expr Typed (type_of tables scope) (stripped d))) (value_step (map declare tables) (map-Expr Expr (Environment → Result Value Stop) (value_of (map declare tables)) (stripped d)))
   typed_step (expr.Value v line) k ok = subst (λ k. GivesKind k (Ok v)) (ok_is ok) (own_kind v)
-  typed_step (expr.Var name) k ok = name_kind (map declare tables) (look_up scope name.name) (binding_of variables name.name) name.line k (agrees.stands name.name) ok
-  typed_step (expr.Field row column) k ok = field_typed tables (look_up scope row.name) (binding_of variables row.name) row.line column k (agrees.stands row.name) ok
+  typed_step (expr.Var name) k ok = name_kind (map declare tables) (look_up scope name.name) (binding_of environment.variables name.name) name.line k (agrees.stands name.name) ok
+  typed_step (expr.Field row column) k ok = field_typed tables (look_up scope row.name) (binding_of environment.variables row.name) row.line column k (agrees.stands row.name) ok
+  typed_step (expr.Now line) k ok = subst (λ k. GivesKind k (Ok (value.Int environment.now))) (ok_is ok) (own_kind (value.Int environment.now))
   typed_step (expr.Not inner line) k ok =
       let found = one_kind kind.Bool k (type_of tables scope inner.0) ok in
-      not_kind k (value_of (map declare tables) inner.0 variables) found.1 (inner.1 kind.Bool found.0)
+      not_kind k (value_of (map declare tables) inner.0 environment) found.1 (inner.1 kind.Bool found.0)
   typed_step (expr.Neg inner line) k ok =
       let found = one_kind kind.Int k (type_of tables scope inner.0) ok in
-      negation_kind k (value_of (map declare tables) inner.0 variables) found.1 (inner.1 kind.Int found.0)
+      negation_kind k (value_of (map declare tables) inner.0 environment) found.1 (inner.1 kind.Int found.0)
   typed_step (expr.Paren inner line) k ok = inner.1 k ok
   typed_step (expr.Two op left right) k ok =
       let s = sides (operand_kind op) (type_of tables scope left.0) (type_of tables scope right.0) k ok in
-      two_typed op s.kind k (value_of (map declare tables) left.0 variables) (value_of (map declare tables) right.0 variables) s.operand s.result (left.1 s.kind s.left_has) (right.1 s.kind s.right_has)
+      two_typed op s.kind k (value_of (map declare tables) left.0 environment) (value_of (map declare tables) right.0 environment) s.operand s.result (left.1 s.kind s.left_has) (right.1 s.kind s.right_has)
 
-  pub expr_typed : (e : Expr) (k : Kind) → (type_of tables scope e).kind ≡ Ok k → GivesKind k (value_of (map declare tables) e variables)
-  expr_typed = every_pair Typed (List Bound → Result Value Stop) (type_step tables scope) (value_step (map declare tables)) Holds typed_step
+  pub expr_typed : (e : Expr) (k : Kind) → (type_of tables scope e).kind ≡ Ok k → GivesKind k (value_of (map declare tables) e environment)
+  expr_typed = every_pair Typed (Environment → Result Value Stop) (type_step tables scope) (value_step (map declare tables)) Holds typed_step

@@ -68,6 +68,7 @@ abbrev pub type_step : List TableText → List Variable → Expr-F Typed → Typ
 type_step tables scope (expr.Value value line) = record { line = line; kind = Ok (kind_of value) }
 type_step tables scope (expr.Var name) = record { line = name.line; kind = value_kind scope name }
 type_step tables scope (expr.Field row column) = record { line = row.line; kind = field_kind tables scope row column }
+type_step tables scope (expr.Now line) = record { line = line; kind = Ok kind.Int }
 type_step tables scope (expr.Not inner line) = record { line = line; kind = one kind.Bool inner }
 type_step tables scope (expr.Neg inner line) = record { line = line; kind = one kind.Int inner }
 type_step tables scope (expr.Paren inner line) = record { line = line; kind = inner.kind }

@@ -102,6 +102,10 @@ pub fn type_of(tables: &[TableText], scope: &Scope, expr: &Expr) -> Typed
             line: row.line,
             kind: field_kind(tables, scope, row, column),
         },
+        Expr::Now { line } => Typed {
+            line: *line,
+            kind: Ok(Kind::Int),
+        },
         Expr::Not { inner, line } => Typed {
             line: *line,
             kind: one(Kind::Bool, type_of(tables, scope, inner.get())),

@@ -1,5 +1,5 @@
 -- The run of an application's code is its run.
-use Rattle.std.proofs.Common.{◌≡◌, ℕ, refl, ap, ◌∙◌, List, [], ◌∷◌, ◌++◌, length, map, true, false, cond, Option, Some, None}
+use Rattle.std.proofs.Common.{◌≡◌, ℕ, ℤ, refl, ap, ◌∙◌, List, [], ◌∷◌, ◌++◌, length, map, true, false, cond, Option, Some, None}
 use Rattle.std.specs.Prelude.{replicate}
 use Rattle.std.specs.List.{find}
 use Rattle.std.specs.Option.{option_map}
@@ -45,7 +45,7 @@ code_found tables (procedure ∷ procs) name =
     ≡ option_map (proc_of tables) (cond b (Some procedure) (find (λ procedure. bytes_eq procedure.name.name name) procs)))
     [ true ↦ refl | false ↦ code_found tables procs name ]
 
-module _ (tables : List TableDef) (S : Tables) (procedure : ProcDef) (values : List Value) where
+module _ (tables : List TableDef) (S : Tables) (procedure : ProcDef) (values : List Value) (now : ℤ) where
   abbrev names : Names
   names = slots_of procedure
 
@@ -58,17 +58,17 @@ module _ (tables : List TableDef) (S : Tables) (procedure : ProcDef) (values : L
   known : Known names (param_names ++ body_names)
   known = all_met [] (param_names ++ body_names)
 
-  follows_procedure : Mirrors names (block tables S procedure.body (start procedure values)) (do_all tables (column_places tables) S (map (action_of tables (column_names tables) names) procedure.body) (begin (proc_of tables procedure) values))
-  follows_procedure = follows_block names tables S procedure.body (all_back _ param_names body_names known) (start procedure values) _
+  follows_procedure : Mirrors names (block tables S procedure.body (start procedure values now)) (do_all tables (column_places tables) S (map (action_of tables (column_names tables) names) procedure.body) (begin (proc_of tables procedure) values now))
+  follows_procedure = follows_block names tables S procedure.body (all_back _ param_names body_names known) (start procedure values now) _
       (slotted_given names procedure.params values [] (replicate (length names) None) (all_front _ param_names body_names known) (slotted_none names))
 
-called_is : (app : App) (values : List Value) (S : Tables) (found : Option ProcDef) → code_called (tables_of app) (code_of app) values S (option_map (proc_of (tables_of app)) found) ≡ called app values S found
-called_is app values S None = refl
-called_is app values S (Some procedure) =
-    ap (λ kinds. cond (have_kinds kinds values) (ran (tables_of app) S (do_all (tables_of app) (column_places (tables_of app)) S (proc_of (tables_of app) procedure).body (begin (proc_of (tables_of app) procedure) values))) no_run) (kinds_are (slots_of procedure) procedure.params)
-    ∙ ap (λ whole. cond (takes procedure values) whole no_run) (follows_ran (slots_of procedure) (tables_of app) S _ _ (follows_procedure (tables_of app) S procedure values))
+called_is : (app : App) (values : List Value) (now : ℤ) (S : Tables) (found : Option ProcDef) → code_called (tables_of app) (code_of app) values now S (option_map (proc_of (tables_of app)) found) ≡ called app values now S found
+called_is app values now S None = refl
+called_is app values now S (Some procedure) =
+    ap (λ kinds. cond (have_kinds kinds values) (ran (tables_of app) S (do_all (tables_of app) (column_places (tables_of app)) S (proc_of (tables_of app) procedure).body (begin (proc_of (tables_of app) procedure) values now))) no_run) (kinds_are (slots_of procedure) procedure.params)
+    ∙ ap (λ whole. cond (takes procedure values) whole no_run) (follows_ran (slots_of procedure) (tables_of app) S _ _ (follows_procedure (tables_of app) S procedure values now))
 
 pub code_runs : CodeRunsAreRuns
 code_runs app tx time S =
-    ap (code_called (tables_of app) (code_of app) tx.args S) (code_found (tables_of app) app.procs tx.procedure)
-    ∙ called_is app tx.args S (procedure_named app tx.procedure)
+    ap (code_called (tables_of app) (code_of app) tx.args time S) (code_found (tables_of app) app.procs tx.procedure)
+    ∙ called_is app tx.args time S (procedure_named app tx.procedure)

@@ -29,12 +29,12 @@ use Rattle.proc_code.specs.Coded.{Slots, table_at, do_step, do_action, do_all}
 use Rattle.proc_code.specs.Numbers.{Names, has_name, number_of_name, joined, bound_step, bound_names, table_number, column_of_table, column_names, column_places}
 use Rattle.proc_code.specs.Resolved.{term_of, setting_of, action_step, action_of}
 use Rattle.proc_code.proofs.Numbered.{all_front, all_back}
-use Rattle.proc_code.proofs.Slotted.{Slotted, slotted_put}
+use Rattle.proc_code.proofs.Slotted.{Slotted, in_slots, slotted_put}
 use Rattle.proc_code.proofs.Worths.{table_is, worth_is, worths_are, end_is, column_is, sets_are}
 
 -- a state with its variables in slots
 abbrev pub with_slots : State → Slots → coded.State
-with_slots st slots = record { variables = slots; own = st.own; made = st.made; steps = st.steps }
+with_slots st slots = record { environment = in_slots st.environment slots; own = st.own; made = st.made; steps = st.steps }
 
 abbrev pub over : Progress → Slots → coded.Progress
 over (Going st) slots = Going (with_slots st slots)
@@ -44,16 +44,16 @@ module _ (names : Names) where
   -- c is o, with its variables in slots
   pub record Mirrors (o : Progress) (c : coded.Progress) : Type 0 where
     pub slots : Slots
-    pub slotted : Slotted names (state_of o).variables slots
+    pub slotted : Slotted names (state_of o).environment.variables slots
     pub is : c ≡ over o slots
 
   abbrev pub Alike : (State → Progress) → (coded.State → coded.Progress) → Type 0
-  Alike f g = (st : State) (slots : Slots) → Slotted names st.variables slots → Mirrors (f st) (g (with_slots st slots))
+  Alike f g = (st : State) (slots : Slots) → Slotted names st.environment.variables slots → Mirrors (f st) (g (with_slots st slots))
 
-  going : (st : State) (slots : Slots) → Slotted names st.variables slots → Mirrors (Going st) (Going (with_slots st slots))
+  going : (st : State) (slots : Slots) → Slotted names st.environment.variables slots → Mirrors (Going st) (Going (with_slots st slots))
   going st slots s = record { slots = slots; slotted = s; is = refl }
 
-  stopped : (st : State) (slots : Slots) (why : Stop) → Slotted names st.variables slots → Mirrors (Stopped st why) (Stopped (with_slots st slots) why)
+  stopped : (st : State) (slots : Slots) (why : Stop) → Slotted names st.environment.variables slots → Mirrors (Stopped st why) (Stopped (with_slots st slots) why)
   stopped st slots why s = record { slots = slots; slotted = s; is = refl }
 
   -- ---- each combinator
@@ -70,7 +70,7 @@ module _ (names : Names) where
   follows_step f g h st slots s =
       follows_cond (nat_lt st.steps 100000) _ _ _ _ (h (record st { steps = st.steps + 1 }) slots s) (stopped st slots (stop.Fault fault.Steps) s)
 
-  module _ (st : State) (slots : Slots) (s : Slotted names st.variables slots) where
+  module _ (st : State) (slots : Slots) (s : Slotted names st.environment.variables slots) where
     follows_value : {A : Type 0} (r r' : Result A Stop) (f : A → Progress) (g : A → coded.Progress) → r' ≡ r → ((v : A) → Mirrors (f v) (g v)) → Mirrors (with_value r st f) (with_value r' (with_slots st slots) g)
     follows_value (Ok v) r' f g e h = subst (λ r'. Mirrors (f v) (with_value r' (with_slots st slots) g)) (sym e) (h v)
     follows_value (Err why) r' f g e h = subst (λ r'. Mirrors (Stopped st why) (with_value r' (with_slots st slots) g)) (sym e) (stopped st slots why s)
@@ -80,8 +80,8 @@ module _ (names : Names) where
     follows_some None o' f g e h = subst (λ o'. Mirrors (Stopped st stop.IllTyped) (with_some o' (with_slots st slots) g)) (sym e) (stopped st slots stop.IllTyped s)
 
     -- a variable gets something
-    follows_put : (name : List ℕ) (binding : Binding) → has_name names name ≡ true → Slotted names (bound st name binding).variables (slice_set slots (number_of_name names name) (Some binding))
-    follows_put name binding is = slotted_put names st.variables slots name binding is s
+    follows_put : (name : List ℕ) (binding : Binding) → has_name names name ≡ true → Slotted names (bound st name binding).environment.variables (slice_set slots (number_of_name names name) (Some binding))
+    follows_put name binding is = slotted_put names st.environment.variables slots name binding is s
 
   follows_insert : (table : ℕ) (key row : List Value) (rows : List (List Value)) → Alike (insert_at table key row rows) (insert_at table key row rows)
   follows_insert table key row [] st slots s = going (wrote st table key (Some row)) slots s
@@ -150,9 +150,9 @@ module _ (names : Names) where
     rolled f a h = subst (Alike f) (sym (fold-roll-Action (coded.State → coded.Progress) (do_step tables (column_places tables) S) a)) h
 
     follows_set : (name : List ℕ) (e : _) → has_name names name ≡ true
-        → Alike (λ st. with_value (value_of tables e st.variables) st (λ v. Going (bound st name (Plain v)))) (perform (roll-Action (action.Set (number_of_name names name) (term_of (column_names tables) names e))))
+        → Alike (λ st. with_value (value_of tables e st.environment) st (λ v. Going (bound st name (Plain v)))) (perform (roll-Action (action.Set (number_of_name names name) (term_of (column_names tables) names e))))
     follows_set name e is = rolled _ (action.Set (number_of_name names name) (term_of (column_names tables) names e)) (λ st slots s.
-        follows_value st slots s (value_of tables e st.variables) _ _ _ (worth_is tables names e st.variables slots s) (λ v.
+        follows_value st slots s (value_of tables e st.environment) _ _ _ (worth_is tables names e st.environment slots s) (λ v.
         going (bound st name (Plain v)) _ (follows_put st slots s name (Plain v) is)))
 
     follows_act : (d : Stmt-F (Such FollowsAt))
@@ -161,12 +161,12 @@ module _ (names : Names) where
     follows_act (stmt.Let name e) known = follows_set name.name e known.0
     follows_act (stmt.Assign name e) known = follows_set name.name e known.0
     follows_act (stmt.If test body None) known = rolled _ (action.If (term_of (column_names tables) names test) (map (action_of tables (column_names tables) names) (map bare body)) []) (λ st slots s.
-        follows_value st slots s (value_of tables test st.variables) _ _ _ (worth_is tables names test st.variables slots s) (λ v.
+        follows_value st slots s (value_of tables test st.environment) _ _ _ (worth_is tables names test st.environment slots s) (λ v.
         follows_value st slots s (flag_of v) _ _ _ refl (λ holds.
         follows_cond holds _ _ _ _ (follows_in_turn body (all_front _ (joined (map bound_names (map bare body))) _ known) st slots s) (going st slots s))))
     follows_act (stmt.If test body (Some other)) known =
         rolled _ (action.If (term_of (column_names tables) names test) (map (action_of tables (column_names tables) names) (map bare body)) (map (action_of tables (column_names tables) names) (map bare other))) (λ st slots s.
-        follows_value st slots s (value_of tables test st.variables) _ _ _ (worth_is tables names test st.variables slots s) (λ v.
+        follows_value st slots s (value_of tables test st.environment) _ _ _ (worth_is tables names test st.environment slots s) (λ v.
         follows_value st slots s (flag_of v) _ _ _ refl (λ holds.
         follows_cond holds _ _ _ _
         (follows_in_turn body (all_front _ (joined (map bound_names (map bare body))) _ known) st slots s)
@@ -174,7 +174,7 @@ module _ (names : Names) where
     follows_act (stmt.Get name table key found absent) known =
         rolled _ (action.Get (number_of_name names name.name) (table_number tables table.name) (map (term_of (column_names tables) names) key) (map (action_of tables (column_names tables) names) (map bare found)) (map (action_of tables (column_names tables) names) (map bare absent))) (λ st slots s.
         follows_some st slots s (table_named tables table.name) _ _ _ (table_is tables table.name) (λ named here.
-        follows_value st slots s (values_of tables key st.variables) _ _ _ (worths_are tables names st.variables slots s key) (λ key.
+        follows_value st slots s (values_of tables key st.environment) _ _ _ (worths_are tables names st.environment slots s key) (λ key.
         follows_some st slots s (point_of named.1 named.0 key) _ _ _ refl (λ read there.
         follows_rows S named.1 read _ (held_or (coded.hold (number_of_name names name.name) named.0) (coded_of found) (coded_of absent)) (follows_held named.0 name.name known.0 (block_of found) (block_of absent) (coded_of found) (coded_of absent)
         (follows_in_turn found (all_front _ (joined (map bound_names (map bare found))) _ known.1))
@@ -183,26 +183,26 @@ module _ (names : Names) where
     follows_act (stmt.For name table column low high body) known =
         rolled _ (action.For (number_of_name names name.name) (table_number tables table.name) (column_of_table tables table.name column.name) (option_map (term_of (column_names tables) names) low) (option_map (term_of (column_names tables) names) high) (map (action_of tables (column_names tables) names) (map bare body))) (λ st slots s.
         follows_some st slots s (table_named tables table.name) _ _ _ (table_is tables table.name) (λ named here.
-        follows_value st slots s (end_of tables low st.variables) _ _ _ (end_is tables names st.variables slots s low) (λ low.
-        follows_value st slots s (end_of tables high st.variables) _ _ _ (end_is tables names st.variables slots s high) (λ high.
+        follows_value st slots s (end_of tables low st.environment) _ _ _ (end_is tables names st.environment slots s low) (λ low.
+        follows_value st slots s (end_of tables high st.environment) _ _ _ (end_is tables names st.environment slots s high) (λ high.
         follows_some st slots s (span_of named.1 named.0 (column_in named.1 column.name) low high) _ _ _
-        (ap (λ column. span_of named.1 named.0 column low high) (column_is tables names st.variables slots s table.name named here column.name)) (λ read there.
+        (ap (λ column. span_of named.1 named.0 column low high) (column_is tables names st.environment slots s table.name named here column.name)) (λ read there.
         follows_rows S named.1 read _ (each_held (coded.hold (number_of_name names name.name) named.0) (coded_of body)) (follows_each named.0 name.name known.0 (block_of body) (coded_of body) (follows_in_turn body known.1)) st slots s)))))
     follows_act (stmt.Insert table values) known = rolled _ (action.Insert (table_number tables table.name) (map (term_of (column_names tables) names) values)) (λ st slots s.
         follows_some st slots s (table_named tables table.name) _ _ _ (table_is tables table.name) (λ named here.
-        follows_value st slots s (values_of tables values st.variables) _ _ _ (worths_are tables names st.variables slots s values) (λ row.
+        follows_value st slots s (values_of tables values st.environment) _ _ _ (worths_are tables names st.environment slots s values) (λ row.
         follows_some st slots s (key_for named.1 row) _ _ _ refl (λ key there.
         follows_rows S named.1 (Point named.0 key) _ (insert_at named.0 key row) (follows_insert named.0 key row) st slots s))))
     follows_act (stmt.Update table key changes) known =
         rolled _ (action.Update (table_number tables table.name) (map (term_of (column_names tables) names) key) (map (setting_of tables (column_names tables) names table.name) changes)) (λ st slots s.
         follows_some st slots s (table_named tables table.name) _ _ _ (table_is tables table.name) (λ named here.
-        follows_value st slots s (values_of tables key st.variables) _ _ _ (worths_are tables names st.variables slots s key) (λ key.
-        follows_value st slots s (changes_of tables named.1 changes st.variables) _ _ _ (sets_are tables names st.variables slots s table.name named here changes) (λ changes.
+        follows_value st slots s (values_of tables key st.environment) _ _ _ (worths_are tables names st.environment slots s key) (λ key.
+        follows_value st slots s (changes_of tables named.1 changes st.environment) _ _ _ (sets_are tables names st.environment slots s table.name named here changes) (λ changes.
         follows_some st slots s (point_of named.1 named.0 key) _ _ _ refl (λ read there.
         follows_rows S named.1 read _ (update_at named.1 named.0 key changes) (follows_update named.1 named.0 key changes) st slots s)))))
     follows_act (stmt.Delete table key) known = rolled _ (action.Delete (table_number tables table.name) (map (term_of (column_names tables) names) key)) (λ st slots s.
         follows_some st slots s (table_named tables table.name) _ _ _ (table_is tables table.name) (λ named here.
-        follows_value st slots s (values_of tables key st.variables) _ _ _ (worths_are tables names st.variables slots s key) (λ key.
+        follows_value st slots s (values_of tables key st.environment) _ _ _ (worths_are tables names st.environment slots s key) (λ key.
         follows_some st slots s (point_of named.1 named.0 key) _ _ _ refl (λ read there.
         follows_rows S named.1 read _ (delete_at named.0 key) (follows_delete named.0 key) st slots s))))
     follows_act (stmt.Fail text) known = rolled _ (action.Fail text) (λ st slots s. stopped st slots (stop.Fault (fault.Failed text)) s)

@@ -12,7 +12,8 @@ use Rattle.proc_syntax.specs.declared.run.Binding.TheVariants.{Plain}
 use Rattle.proc_syntax.specs.declared.run.Variable.{Variable}
 use Rattle.proc_syntax.specs.declared.tree.ColumnText.{ColumnText}
 use Rattle.proc_syntax.specs.Run.{arguments}
-use Rattle.proc_syntax.specs.Scope.{bind, binding_of}
+use Rattle.proc_syntax.specs.Scope.{Environment, bind, binding_of}
+use Rattle.proc_code.specs.declared.slots.Environment as coded
 use Rattle.proc_code.specs.Coded.{Slots, in_slot, given}
 use Rattle.proc_code.specs.Numbers.{Names, has_name, number_of_name}
 use Rattle.proc_code.specs.Resolved.{param_of}
@@ -21,6 +22,10 @@ use Rattle.proc_code.proofs.Numbered.{other_bytes, at, at_place}
 pub record Slotted (names : Names) (variables : List Variable) (slots : Slots) : Type 0 where
   pub size : length slots ≡ length names
   pub same : (name : List ℕ) → in_slot slots (number_of_name names name) ≡ binding_of variables name
+
+-- what code evaluates expressions in, with the variables in slots
+abbrev pub in_slots : Environment → Slots → coded.Environment
+in_slots environment slots = record { slots = slots; time = environment.now }
 
 -- ---- a slot is set
 

@@ -15,20 +15,20 @@ use Rattle.rel_base.proofs.Bits.{or_first, or_second}
 use Rattle.proc_syntax.specs.declared.run.Binding.{Binding}
 use Rattle.proc_syntax.specs.declared.run.Binding.TheVariants.{Plain, Held}
 use Rattle.proc_syntax.specs.declared.run.Stop.{Stop}
-use Rattle.proc_syntax.specs.declared.run.Variable.{Variable}
 use Rattle.proc_syntax.specs.declared.tree.Change.{Change}
 use Rattle.proc_syntax.specs.declared.tree.Expr.{Expr, Expr-F, map-Expr}
 use Rattle.proc_syntax.specs.declared.tree.Expr.TheOpen as expr
-use Rattle.proc_syntax.specs.Scope.{binding_of, column_in, table_named, plain_of, field_of, value_step, value_of, values_of, end_of, changes_of}
+use Rattle.proc_syntax.specs.Scope.{Environment, binding_of, column_in, table_named, plain_of, field_of, value_step, value_of, values_of, end_of, changes_of}
 use Rattle.proc_syntax.specs.Values.{◌>>=◌, found, negation_of, not_of, apply}
 use Rattle.proc_syntax.proofs.ExprTrees.{Such, stripped, every_pair}
 use Rattle.proc_code.specs.declared.tree.Term.{Term, Term-F, fold-roll-Term, map-Term, roll-Term}
 use Rattle.proc_code.specs.declared.tree.Term.TheOpen as term
+use Rattle.proc_code.specs.declared.slots.Environment as coded
 use Rattle.proc_code.specs.Coded.{Slots, table_at, column_at, cell_of, worth_step, worth_of, worths_of, end_worth, sets_worth}
 use Rattle.proc_code.specs.Numbers.{Names, has_name, number_of_name, with_names, table_number, column_of_table, column_names, column_places}
 use Rattle.proc_code.specs.Resolved.{term_step, term_of, setting_of}
 use Rattle.proc_code.proofs.Numbered.{find_name, met}
-use Rattle.proc_code.proofs.Slotted.{Slotted}
+use Rattle.proc_code.proofs.Slotted.{Slotted, in_slots}
 
 -- ---- tables
 
@@ -116,44 +116,45 @@ module _ (tables : List TableDef) (names : Names) where
   columns = column_places tables
 
   -- a term has in slots the value that is meant
-  abbrev Means : Term → (List Variable → Result Value Stop) → Type 0
-  Means t meant = (variables : List Variable) (slots : Slots) → Slotted names variables slots → worth_of columns t slots ≡ meant variables
+  abbrev Means : Term → (Environment → Result Value Stop) → Type 0
+  Means t meant = (environment : Environment) (slots : Slots) → Slotted names environment.variables slots → worth_of columns t (in_slots environment slots) ≡ meant environment
 
-  rolled : (t : Term-F Term) (slots : Slots) → worth_of columns (roll-Term t) slots ≡ worth_step columns (map-Term Term (Slots → Result Value Stop) (worth_of columns) t) slots
-  rolled t slots = ap (λ f. f slots) (fold-roll-Term (Slots → Result Value Stop) (worth_step columns) t)
+  rolled : (t : Term-F Term) (e : coded.Environment) → worth_of columns (roll-Term t) e ≡ worth_step columns (map-Term Term (coded.Environment → Result Value Stop) (worth_of columns) t) e
+  rolled t e = ap (λ f. f e) (fold-roll-Term (coded.Environment → Result Value Stop) (worth_step columns) t)
 
   abbrev MeansAt : Expr → Type 0
   MeansAt e = Means (term_of (column_names tables) names e) (value_of tables e)
 
-  means : (d : Expr-F (Such MeansAt)) → Means (term_step (column_names tables) names (map-Expr Expr Term (term_of (column_names tables) names) (stripped d))) (value_step tables (map-Expr Expr (List Variable → Result Value Stop) (value_of tables) (stripped d)))
+  means : (d : Expr-F (Such MeansAt)) → Means (term_step (column_names tables) names (map-Expr Expr Term (term_of (column_names tables) names) (stripped d))) (value_step tables (map-Expr Expr (Environment → Result Value Stop) (value_of tables) (stripped d)))
   unfolding roll-Term denote.Hole.Carrier.roll
-  means (expr.Value v line) variables slots s = rolled (term.Value v) slots
-  means (expr.Var named) variables slots s = rolled (term.Var (number_of_name names named.name)) slots ∙ ap (λ b. found (option_and_then plain_of b)) (s.same named.name)
-  means (expr.Field row column) variables slots s =
-      rolled (term.Field (number_of_name names row.name) (number_of_name (column_names tables) column.name)) slots
+  means (expr.Value v line) environment slots s = rolled (term.Value v) (in_slots environment slots)
+  means (expr.Var named) environment slots s = rolled (term.Var (number_of_name names named.name)) (in_slots environment slots) ∙ ap (λ b. found (option_and_then plain_of b)) (s.same named.name)
+  means (expr.Field row column) environment slots s =
+      rolled (term.Field (number_of_name names row.name) (number_of_name (column_names tables) column.name)) (in_slots environment slots)
       ∙ ap (λ b. found (option_and_then (cell_of columns (number_of_name (column_names tables) column.name)) b)) (s.same row.name)
-      ∙ ap found (cells_are tables column.name (binding_of variables row.name))
-  means (expr.Not inner line) variables slots s = rolled (term.Not (term_of (column_names tables) names inner.0)) slots ∙ ap (λ r. r >>= not_of) (inner.1 variables slots s)
-  means (expr.Neg inner line) variables slots s = rolled (term.Neg (term_of (column_names tables) names inner.0)) slots ∙ ap (λ r. r >>= negation_of) (inner.1 variables slots s)
-  means (expr.Paren inner line) variables slots s = inner.1 variables slots s
-  means (expr.Two o left right) variables slots s =
-      rolled (term.Two o (term_of (column_names tables) names left.0) (term_of (column_names tables) names right.0)) slots
-      ∙ ap (λ l. l >>= λ v. apply o v (worth_of columns (term_of (column_names tables) names right.0) slots)) (left.1 variables slots s)
-      ∙ ap (λ r. value_of tables left.0 variables >>= λ v. apply o v r) (right.1 variables slots s)
+      ∙ ap found (cells_are tables column.name (binding_of environment.variables row.name))
+  means (expr.Now line) environment slots s = rolled term.Now (in_slots environment slots)
+  means (expr.Not inner line) environment slots s = rolled (term.Not (term_of (column_names tables) names inner.0)) (in_slots environment slots) ∙ ap (λ r. r >>= not_of) (inner.1 environment slots s)
+  means (expr.Neg inner line) environment slots s = rolled (term.Neg (term_of (column_names tables) names inner.0)) (in_slots environment slots) ∙ ap (λ r. r >>= negation_of) (inner.1 environment slots s)
+  means (expr.Paren inner line) environment slots s = inner.1 environment slots s
+  means (expr.Two o left right) environment slots s =
+      rolled (term.Two o (term_of (column_names tables) names left.0) (term_of (column_names tables) names right.0)) (in_slots environment slots)
+      ∙ ap (λ l. l >>= λ v. apply o v (worth_of columns (term_of (column_names tables) names right.0) (in_slots environment slots))) (left.1 environment slots s)
+      ∙ ap (λ r. value_of tables left.0 environment >>= λ v. apply o v r) (right.1 environment slots s)
 
   pub worth_is : (e : Expr) → MeansAt e
-  worth_is = every_pair Term (List Variable → Result Value Stop) (term_step (column_names tables) names) (value_step tables) Means means
+  worth_is = every_pair Term (Environment → Result Value Stop) (term_step (column_names tables) names) (value_step tables) Means means
 
-  module _ (variables : List Variable) (slots : Slots) (s : Slotted names variables slots) where
-    pub worths_are : (es : List Expr) → worths_of columns (map (term_of (column_names tables) names) es) slots ≡ values_of tables es variables
+  module _ (environment : Environment) (slots : Slots) (s : Slotted names environment.variables slots) where
+    pub worths_are : (es : List Expr) → worths_of columns (map (term_of (column_names tables) names) es) (in_slots environment slots) ≡ values_of tables es environment
     worths_are [] = refl
     worths_are (e ∷ es) =
-        ap (λ first. first >>= λ v. worths_of columns (map (term_of (column_names tables) names) es) slots >>= λ vs. Ok (v ∷ vs)) (worth_is e variables slots s)
-        ∙ ap (λ rest. value_of tables e variables >>= λ v. rest >>= λ vs. Ok (v ∷ vs)) (worths_are es)
+        ap (λ first. first >>= λ v. worths_of columns (map (term_of (column_names tables) names) es) (in_slots environment slots) >>= λ vs. Ok (v ∷ vs)) (worth_is e environment slots s)
+        ∙ ap (λ rest. value_of tables e environment >>= λ v. rest >>= λ vs. Ok (v ∷ vs)) (worths_are es)
 
-    pub end_is : (end : Option Expr) → end_worth columns (option_map (term_of (column_names tables) names) end) slots ≡ end_of tables end variables
+    pub end_is : (end : Option Expr) → end_worth columns (option_map (term_of (column_names tables) names) end) (in_slots environment slots) ≡ end_of tables end environment
     end_is None = refl
-    end_is (Some e) = ap (λ r. r >>= λ v. Ok (Some v)) (worth_is e variables slots s)
+    end_is (Some e) = ap (λ r. r >>= λ v. Ok (Some v)) (worth_is e environment slots s)
 
     module _ (table : List ℕ) (named : ℕ × TableDef) (here : table_named tables table ≡ Some named) where
       -- the column of a name in the table that was found
@@ -166,9 +167,9 @@ module _ (tables : List TableDef) (names : Names) where
       abbrev before : Result (ℕ × Value) Stop → Result (List (ℕ × Value)) Stop → Result (List (ℕ × Value)) Stop
       before first rest = first >>= λ first. rest >>= λ rest. Ok (first ∷ rest)
 
-      pub sets_are : (changes : List Change) → sets_worth columns (map (setting_of tables (column_names tables) names table) changes) slots ≡ changes_of tables named.1 changes variables
+      pub sets_are : (changes : List Change) → sets_worth columns (map (setting_of tables (column_names tables) names table) changes) (in_slots environment slots) ≡ changes_of tables named.1 changes environment
       sets_are [] = refl
       sets_are (change ∷ changes) =
-          ap (λ column. before (with_column (found column) (worth_of columns (term_of (column_names tables) names change.value) slots)) (sets_worth columns (map (setting_of tables (column_names tables) names table) changes) slots)) (column_is change.column.name)
-          ∙ ap (λ worth. before (with_column (found (column_in named.1 change.column.name)) worth) (sets_worth columns (map (setting_of tables (column_names tables) names table) changes) slots)) (worth_is change.value variables slots s)
-          ∙ ap (before (with_column (found (column_in named.1 change.column.name)) (value_of tables change.value variables))) (sets_are changes)
+          ap (λ column. before (with_column (found column) (worth_of columns (term_of (column_names tables) names change.value) (in_slots environment slots))) (sets_worth columns (map (setting_of tables (column_names tables) names table) changes) (in_slots environment slots))) (column_is change.column.name)
+          ∙ ap (λ worth. before (with_column (found (column_in named.1 change.column.name)) worth) (sets_worth columns (map (setting_of tables (column_names tables) names table) changes) (in_slots environment slots))) (worth_is change.value environment slots s)
+          ∙ ap (before (with_column (found (column_in named.1 change.column.name)) (value_of tables change.value environment))) (sets_are changes)

@@ -28,6 +28,7 @@ module _ (columns names : Names) where
   term_step (expr.Value v line) = term.Value v
   term_step (expr.Var named) = term.Var (number_of_name names named.name)
   term_step (expr.Field row column) = term.Field (number_of_name names row.name) (number_of_name columns column.name)
+  term_step (expr.Now line) = term.Now
   term_step (expr.Not inner line) = term.Not inner
   term_step (expr.Neg inner line) = term.Neg inner
   term_step (expr.Paren inner line) = inner

@@ -1,4 +1,4 @@
-//! What variables stand for, and what the rows that they hold have in a column.
+//! What expressions are evaluated in: what variables stand for, the time, and what the rows that they hold have in a column.
 
 ghost use Rattle.std.specs.Prelude.{◌≡◌};
 ghost use Rattle.std.specs.Option.{option_and_then, option_copied};
@@ -9,6 +9,13 @@ ghost use Rattle.proc_code.specs.Weighed.{lent};
 
 use proc_syntax::{Binding, Stop};
 use rel_base::{List, Value};
+
+/// What the expressions of a run are evaluated in: what each variable stands for, by its number, and the time of the run in seconds.
+#[derive(Drop)]
+pub struct Environment {
+    pub slots: List<Option<Binding>>,
+    pub time: i64,
+}
 
 /// What a variable stands for.
 pub fn in_slot<'a>(slots: &'a [Option<Binding>], slot: usize) -> Option<&'a Binding>

@@ -41,6 +41,7 @@ pub fn resolve_term(
             slot: names.number_or_len(&row.name),
             column: columns.number_or_len(&column.name),
         }),
+        Expr::Now { .. } => Ok(Term::Now),
         Expr::Not { inner, .. } => {
             Ok(Term::Not(resolve_inner(alloc, columns, names, inner.get())?))
         }

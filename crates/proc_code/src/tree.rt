@@ -96,6 +96,8 @@ pub enum Term {
         slot: usize,
         column: usize,
     },
+    /// The time of the run.
+    Now,
     Not(Boxed<Term>),
     Neg(Boxed<Term>),
     Two {

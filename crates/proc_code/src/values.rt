@@ -6,12 +6,12 @@ ghost use Rattle.proc_eval.specs.Gives.{Gives};
 ghost use Rattle.proc_code.specs.Coded.{worth_of, worths_of, end_worth, set_worth, sets_worth};
 ghost use Rattle.proc_code.specs.Weighed.{Weighs, truth_of, weight};
 
-use crate::slots::{field_value, plain_value};
+use crate::slots::{Environment, field_value, plain_value};
 use crate::tree::{Setting, Term};
 use proc_eval::Halt;
 use proc_eval::arith::negation;
 use proc_eval::compare::{flag, negated, two};
-use proc_syntax::{Binding, Op, Stop};
+use proc_syntax::{Op, Stop};
 use rel_base::{Key, List, Row, Twin, Value};
 use std::alloc::Global;
 
@@ -78,27 +78,27 @@ fn two_of(alloc: Global, op: Op, left: &Value, right: Worth<'_>) -> Result<Value
 fn weigh_right(
     alloc: Global,
     columns: &List<List<Option<usize>>>,
-    slots: &[Option<Binding>],
+    environment: &Environment,
     op: Op,
     left: &Value,
     right: &Term,
 ) -> Result<Value, Halt>
-    ensures { Gives result (apply op left.now (worth_of columns.now right.now slots.now)) }
+    ensures { Gives result (apply op left.now (worth_of columns.now right.now environment.now)) }
 {
     match op {
         Op::Or => {
             if flag(left)? {
                 return Ok(Value::Bool(true));
             }
-            truth_of(weigh(alloc, columns, slots, right)?)
+            truth_of(weigh(alloc, columns, environment, right)?)
         }
         Op::And => {
             if !flag(left)? {
                 return Ok(Value::Bool(false));
             }
-            truth_of(weigh(alloc, columns, slots, right)?)
+            truth_of(weigh(alloc, columns, environment, right)?)
         }
-        _ => two_of(alloc, op, left, weigh(alloc, columns, slots, right)?),
+        _ => two_of(alloc, op, left, weigh(alloc, columns, environment, right)?),
     }
 }
 
@@ -107,38 +107,40 @@ fn weigh_right(
 fn weigh_two(
     alloc: Global,
     columns: &List<List<Option<usize>>>,
-    slots: &[Option<Binding>],
+    environment: &Environment,
     op: Op,
     left: Worth<'_>,
     right: &Term,
 ) -> Result<Value, Halt>
-    ensures { Gives result (apply op (weight left.entry) (worth_of columns.now right.now slots.now)) }
+    ensures { Gives result (apply op (weight left.entry) (worth_of columns.now right.now environment.now)) }
 {
-    weigh_right(alloc, columns, slots, op, left.get(), right)
+    weigh_right(alloc, columns, environment, op, left.get(), right)
 }
 
-/// The value of an expression, where the slots say what the variables stand for. A value that stands in the expression, in a variable
+/// The value of an expression, in what it is evaluated in. A value that stands in the expression, in a variable
 /// or in a row is not copied.
 #[cycle(weigh)]
 pub fn weigh<'a>(
     alloc: Global,
     columns: &List<List<Option<usize>>>,
-    slots: &'a [Option<Binding>],
+    environment: &'a Environment,
     term: &'a Term,
 ) -> Result<Worth<'a>, Halt>
-    ensures { Weighs result (worth_of columns.now term.now slots.now) }
+    ensures { Weighs result (worth_of columns.now term.now environment.now) }
 {
     match term {
         Term::Value(value) => Ok(Worth::Lent(value)),
-        Term::Var(slot) => Ok(Worth::Lent(plain_value(slots, *slot)?)),
+        Term::Var(slot) => Ok(Worth::Lent(plain_value(environment.slots.as_slice(), *slot)?)),
         Term::Field { slot, column } => {
+            let slots = environment.slots.as_slice();
             Ok(Worth::Lent(field_value(columns, slots, *slot, *column)?))
         }
-        Term::Not(inner) => not_of(weigh(alloc, columns, slots, inner.get())?),
-        Term::Neg(inner) => negation_of(weigh(alloc, columns, slots, inner.get())?),
+        Term::Now => Ok(Worth::Made(Value::Int(environment.time))),
+        Term::Not(inner) => not_of(weigh(alloc, columns, environment, inner.get())?),
+        Term::Neg(inner) => negation_of(weigh(alloc, columns, environment, inner.get())?),
         Term::Two { op, left, right } => {
-            let left = weigh(alloc, columns, slots, left.get())?;
-            let value = weigh_two(alloc, columns, slots, *op, left, right.get())?;
+            let left = weigh(alloc, columns, environment, left.get())?;
+            let value = weigh_two(alloc, columns, environment, *op, left, right.get())?;
             Ok(Worth::Made(value))
         }
     }
@@ -148,12 +150,12 @@ pub fn weigh<'a>(
 pub fn eval(
     alloc: Global,
     columns: &List<List<Option<usize>>>,
-    slots: &[Option<Binding>],
+    environment: &Environment,
     term: &Term,
 ) -> Result<Value, Halt>
-    ensures { Gives result (worth_of columns.now term.now slots.now) }
+    ensures { Gives result (worth_of columns.now term.now environment.now) }
 {
-    let worth = weigh(alloc, columns, slots, term)?;
+    let worth = weigh(alloc, columns, environment, term)?;
     worth.into_value(alloc)
 }
 
@@ -161,14 +163,14 @@ pub fn eval(
 pub fn eval_all(
     alloc: Global,
     columns: &List<List<Option<usize>>>,
-    slots: &[Option<Binding>],
+    environment: &Environment,
     terms: &[Term],
 ) -> Result<List<Value>, Halt>
-    ensures { Gives result (worths_of columns.now terms.now slots.now) }
+    ensures { Gives result (worths_of columns.now terms.now environment.now) }
 {
     let mut values = List::new(alloc);
     for term in terms {
-        let value = eval(alloc, columns, slots, term)?;
+        let value = eval(alloc, columns, environment, term)?;
         values.push(value)?;
     }
     Ok(values)
@@ -178,12 +180,12 @@ pub fn eval_all(
 pub fn eval_row(
     alloc: Global,
     columns: &List<List<Option<usize>>>,
-    slots: &[Option<Binding>],
+    environment: &Environment,
     terms: &[Term],
 ) -> Result<Row, Halt>
-    ensures { Gives result (worths_of columns.now terms.now slots.now) }
+    ensures { Gives result (worths_of columns.now terms.now environment.now) }
 {
-    let values = eval_all(alloc, columns, slots, terms)?;
+    let values = eval_all(alloc, columns, environment, terms)?;
     let row = Row::new(values)?;
     Ok(row)
 }
@@ -192,14 +194,14 @@ pub fn eval_row(
 pub fn eval_key(
     alloc: Global,
     columns: &List<List<Option<usize>>>,
-    slots: &[Option<Binding>],
+    environment: &Environment,
     terms: &[Term],
 ) -> Result<Key, Halt>
-    ensures { Gives result (worths_of columns.now terms.now slots.now) }
+    ensures { Gives result (worths_of columns.now terms.now environment.now) }
 {
     let mut key = Key::new();
     for term in terms {
-        let value = eval(alloc, columns, slots, term)?;
+        let value = eval(alloc, columns, environment, term)?;
         key = key.with(alloc, value)?;
     }
     Ok(key)
@@ -209,15 +211,15 @@ pub fn eval_key(
 pub fn eval_end(
     alloc: Global,
     columns: &List<List<Option<usize>>>,
-    slots: &[Option<Binding>],
+    environment: &Environment,
     end: &Option<Term>,
 ) -> Result<Option<Value>, Halt>
-    ensures { Gives result (end_worth columns.now end.now slots.now) }
+    ensures { Gives result (end_worth columns.now end.now environment.now) }
 {
     match end {
         None => Ok(None),
         Some(term) => {
-            let value = eval(alloc, columns, slots, term)?;
+            let value = eval(alloc, columns, environment, term)?;
             Ok(Some(value))
         }
     }
@@ -226,15 +228,15 @@ pub fn eval_end(
 fn eval_setting(
     alloc: Global,
     columns: &List<List<Option<usize>>>,
-    slots: &[Option<Binding>],
+    environment: &Environment,
     setting: &Setting,
 ) -> Result<(usize, Value), Halt>
-    ensures { Gives result (set_worth columns.now setting.now slots.now) }
+    ensures { Gives result (set_worth columns.now setting.now environment.now) }
 {
     match setting.column {
         None => Err(Halt::Stop(Stop::IllTyped)),
         Some(column) => {
-            let value = eval(alloc, columns, slots, &setting.value)?;
+            let value = eval(alloc, columns, environment, &setting.value)?;
             Ok((column, value))
         }
     }
@@ -244,14 +246,14 @@ fn eval_setting(
 pub fn eval_settings(
     alloc: Global,
     columns: &List<List<Option<usize>>>,
-    slots: &[Option<Binding>],
+    environment: &Environment,
     settings: &[Setting],
 ) -> Result<List<(usize, Value)>, Halt>
-    ensures { Gives result (sets_worth columns.now settings.now slots.now) }
+    ensures { Gives result (sets_worth columns.now settings.now environment.now) }
 {
     let mut values = List::new(alloc);
     for setting in settings {
-        let value = eval_setting(alloc, columns, slots, setting)?;
+        let value = eval_setting(alloc, columns, environment, setting)?;
         values.push(value)?;
     }
     Ok(values)

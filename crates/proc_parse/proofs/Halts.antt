@@ -18,7 +18,7 @@ use Rattle.proc_syntax.specs.declared.tree.Stmt.TheVariants as stmt
 use Rattle.proc_parse.specs.declared.statements.Head.{Head}
 use Rattle.proc_parse.specs.declared.statements.Head.TheVariants as head
 use Rattle.proc_parse.specs.Phrases.{the_word, the_sign, ended, in_parens, named, named_behind, kind_rule, column, columns, names}
-use Rattle.proc_parse.specs.Expressions.{op_before, if_op, op_at, with_op, chain_from, chain_of, comparison_op, or_op, and_op, sum_op, term_op, literal, is_name, name_or_field, line_at, Inner, inner, deeper, atom_of, unary_of, term_of, sum_of, comparison_of, negation_of, conjunction_of, expression_of, expression}
+use Rattle.proc_parse.specs.Expressions.{op_before, if_op, op_at, with_op, chain_from, chain_of, comparison_op, or_op, and_op, sum_op, term_op, single, is_name, name_or_field, line_at, Inner, inner, deeper, atom_of, unary_of, term_of, sum_of, comparison_of, negation_of, conjunction_of, expression_of, expression}
 use Rattle.proc_parse.specs.Statements.{keys, keyed, new_value, let_statement, assignment, some_block, branches, if_statement, two_blocks, get_statement, span_end, span, for_statement, insert_statement, change, changes, update_statement, delete_statement, fail_statement, text_rule, head_of, statement_by, statement_of, no_close, block_at, block}
 use Rattle.proc_parse.specs.Grammar.{table_end, table, parameters, procedure, is_end, application}
 use Rattle.proc_parse.specs.declared.lexer.Piece.{Piece}
@@ -53,17 +53,17 @@ rest_last : (first rest : Bool) → (first ≡ true → ⊥) → (first || rest)
 rest_last true rest never h = absurd (never refl)
 rest_last false rest never h = h
 
-halts_done : {A : Type 0} → (x : A) → Halts (done x)
+pub halts_done : {A : Type 0} → (x : A) → Halts (done x)
 halts_done x = record { ends = λ xs h. h }
 
-halts_refuse : (A : Type 0) → Halts (refuse {A = A})
+pub halts_refuse : (A : Type 0) → Halts (refuse {A = A})
 halts_refuse A = record { ends = λ xs h. h }
 
 ends_then : {A B : Type 0} → (r : Read A) (f : A → Reader B) → ((x : A) → Halts (f x)) → has_last (left r) ≡ true → has_last (left (on_read r f)) ≡ true
 ends_then (Ok x) f hf h = (hf x.0).ends x.1 h
 ends_then (Err rest) f hf h = h
 
-halts_then : {A B : Type 0} → (p : Reader A) (f : A → Reader B) → Halts p → ((x : A) → Halts (f x)) → Halts (p >>= f)
+pub halts_then : {A B : Type 0} → (p : Reader A) (f : A → Reader B) → Halts p → ((x : A) → Halts (f x)) → Halts (p >>= f)
 halts_then p f hp hf = record { ends = λ xs h. ends_then (p xs) f hf (hp.ends xs h) }
 
 ends_past : {A : Type 0} → (b : Bool) (t : Token) (xs : List Token) (go : Reader A) (stay : Read A) → (is_last t.lexeme ≡ true → b ≡ false) → Halts go
@@ -76,17 +76,17 @@ ends_behind : {A : Type 0} → (test : Lexeme → Bool) → test lexeme.End ≡ 
 ends_behind test e b go stay hg hs [] h = hs.ends [] h
 ends_behind test e b go stay hg hs (t ∷ xs) h = ends_past (test t.lexeme) t xs go (stay (t ∷ xs)) (last_cases (λ l. test l ≡ false) e b t.lexeme) hg (hs.ends (t ∷ xs) h) h
 
-halts_behind : {A : Type 0} → (test : Lexeme → Bool) → test lexeme.End ≡ false → test lexeme.Bad ≡ false → (go stay : Reader A) → Halts go → Halts stay → Halts (behind test go stay)
+pub halts_behind : {A : Type 0} → (test : Lexeme → Bool) → test lexeme.End ≡ false → test lexeme.Bad ≡ false → (go stay : Reader A) → Halts go → Halts stay → Halts (behind test go stay)
 halts_behind test e b go stay hg hs = record { ends = ends_behind test e b go stay hg hs }
 
-halts_first : {A H : Type 0} → (head : List Token → H) (go : H → Reader A) → ((h : H) → Halts (go h)) → Halts (by_first head go)
+pub halts_first : {A H : Type 0} → (head : List Token → H) (go : H → Reader A) → ((h : H) → Halts (go h)) → Halts (by_first head go)
 halts_first head go hg = record { ends = λ xs h. (hg (head xs)).ends xs h }
 
 ends_choice : {A : Type 0} → (b : Bool) (go stay : Read A) → has_last (left go) ≡ true → has_last (left stay) ≡ true → has_last (left (cond b go stay)) ≡ true
 ends_choice true go stay hg hs = hg
 ends_choice false go stay hg hs = hs
 
-halts_before : {A : Type 0} → (test : Lexeme → Bool) (go stay : Reader A) → Halts go → Halts stay → Halts (before test go stay)
+pub halts_before : {A : Type 0} → (test : Lexeme → Bool) (go stay : Reader A) → Halts go → Halts stay → Halts (before test go stay)
 halts_before test go stay hg hs = record { ends = λ xs h. ends_choice (begins test xs) (go xs) (stay xs) (hg.ends xs h) (hs.ends xs h) }
 
 ends_found : {A : Type 0} → (o : Option A) (t : Token) (xs : List Token) → (is_last t.lexeme ≡ true → o ≡ None) → has_last (t ∷ xs) ≡ true → has_last (left (if_found o t xs)) ≡ true
@@ -98,7 +98,7 @@ ends_one : {A : Type 0} → (meaning : Token → Option A) → ((t : Token) → 
 ends_one meaning never [] h = h
 ends_one meaning never (t ∷ xs) h = ends_found (meaning t) t xs (never t) h
 
-halts_one : {A : Type 0} → (meaning : Token → Option A) → ((line col : ℕ) → meaning (record { lexeme = lexeme.End; line = line; col = col }) ≡ None)
+pub halts_one : {A : Type 0} → (meaning : Token → Option A) → ((line col : ℕ) → meaning (record { lexeme = lexeme.End; line = line; col = col }) ≡ None)
     → ((line col : ℕ) → meaning (record { lexeme = lexeme.Bad; line = line; col = col }) ≡ None) → Halts (one meaning)
 halts_one meaning e b = record {
   ends = ends_one meaning
@@ -148,7 +148,7 @@ halts_many test item l = record { ends = λ xs h. (halts_many_from test item l (
 
 -- ---- the rules
 
-halts_expect : (test : Lexeme → Bool) → test lexeme.End ≡ false → test lexeme.Bad ≡ false → Halts (expect test)
+pub halts_expect : (test : Lexeme → Bool) → test lexeme.End ≡ false → test lexeme.Bad ≡ false → Halts (expect test)
 halts_expect test e b = halts_behind test e b (done tt) refuse (halts_done tt) (halts_refuse (Unit {0}))
 
 halts_word : {A : Type 0} → (w : Word) (next : Reader A) → Halts next → Halts (the_word w >> next)
@@ -187,7 +187,7 @@ halts_field = halts_then named _ halts_named
     (λ name. halts_behind (is_sign sign.Dot) refl refl _ _ (halts_then named _ (halts_named) (λ column. halts_done (expr.Field name column))) (halts_done (expr.Var name)))
 
 halts_atom : (i : Inner) → HaltsInner i → Halts (atom_of i)
-halts_atom i s = halts_before (is_sign sign.Open) i.parens _ s.parens (halts_before is_name name_or_field literal halts_field (halts_one _ (λ line col. refl) (λ line col. refl)))
+halts_atom i s = halts_before (is_sign sign.Open) i.parens _ s.parens (halts_before is_name name_or_field single halts_field (halts_one _ (λ line col. refl) (λ line col. refl)))
 
 halts_unary : (i : Inner) → HaltsInner i → Halts (unary_of i)
 halts_unary i s = halts_before (is_sign sign.Minus) i.minus (atom_of i) s.minus (halts_atom i s)
@@ -324,15 +324,15 @@ halts_procedure = halts_then (named_behind word.Proc) _ (halts_named_behind word
 -- ---- a whole text
 
 -- where nothing is read, something is left
-abbrev SomeLeft : {A : Type 0} → Read A → Type 0
+abbrev pub SomeLeft : {A : Type 0} → Read A → Type 0
 SomeLeft (Ok x) = Unit {0}
 SomeLeft (Err rest) = has_last rest ≡ true
 
-left_then : {A B : Type 0} → (r : Read A) (f : A → Reader B) → has_last (left r) ≡ true → ((x : A) (xs : List Token) → has_last xs ≡ true → SomeLeft (f x xs)) → SomeLeft (on_read r f)
+pub left_then : {A B : Type 0} → (r : Read A) (f : A → Reader B) → has_last (left r) ≡ true → ((x : A) (xs : List Token) → has_last xs ≡ true → SomeLeft (f x xs)) → SomeLeft (on_read r f)
 left_then (Ok x) f h k = k x.0 x.1 h
 left_then (Err rest) f h k = h
 
-left_end : {A : Type 0} → (x : A) (xs : List Token) → has_last xs ≡ true → SomeLeft ((expect is_end >> done x) xs)
+pub left_end : {A : Type 0} → (x : A) (xs : List Token) → has_last xs ≡ true → SomeLeft ((expect is_end >> done x) xs)
 left_end x [] h = absurd cc
 left_end {A = A} x (t ∷ xs) h =
     elim (is_end t.lexeme) as (λ b. SomeLeft (on_read (if_past {A = Unit {0}} (cond b (Some xs) None) (done tt) (Err (t ∷ xs))) (λ _. done {A = A} x)))
@@ -359,9 +359,13 @@ tokens_last (suc steps) place [] h = refl
 tokens_last (suc steps) place (b ∷ bs) h =
     piece_last (piece_at (b ∷ bs)).0 place _ (λ _. tokens_last steps _ (piece_at (b ∷ bs)).1 (omega (arith, piece_shorter b bs, h)))
 
+-- the end of a text, or its first bad token, is among its tokens
+pub text_last : (text : List ℕ) → has_last (tokens_of text) ≡ true
+text_last text = tokens_last (suc (length text)) start text (omega arith)
+
 -- where an application is not read, something is left
 pub some_left : (text : List ℕ) (rest : List Token) → application (tokens_of text) ≡ Err rest → has_last rest ≡ true
-some_left text rest e = subst SomeLeft e (application_left (tokens_of text) (tokens_last (suc (length text)) start text (omega arith)))
+some_left text rest e = subst SomeLeft e (application_left (tokens_of text) (text_last text))
 
 some_refused : (ts rest : List Token) → application ts ≡ Err rest → has_last rest ≡ true → IsRefused ts (position_of rest).line (position_of rest).col
 some_refused ts [] e h = absurd cc

@@ -4,6 +4,7 @@ pub mod Lists
 pub mod Local
 pub mod LocalRules
 pub mod Pieces
+pub mod Spanned
 pub mod Viable
 pub mod ViableForms
 pub mod ViableRules

@@ -16,7 +16,7 @@ use Rattle.proc_syntax.specs.declared.tree.Stmt.TheVariants as stmt
 use Rattle.proc_parse.specs.declared.statements.Head.{Head}
 use Rattle.proc_parse.specs.declared.statements.Head.TheVariants as head
 use Rattle.proc_parse.specs.Phrases.{the_word, the_sign, ended, in_parens, named, named_behind, kind_rule, column, columns, names}
-use Rattle.proc_parse.specs.Expressions.{comparison_op, or_op, and_op, sum_op, term_op, literal, is_name, name_or_field, line_at, Inner, inner, deeper, atom_of, unary_of, term_of, sum_of, comparison_of, negation_of, conjunction_of, expression_of, expression}
+use Rattle.proc_parse.specs.Expressions.{comparison_op, or_op, and_op, sum_op, term_op, single, is_name, name_or_field, line_at, Inner, inner, deeper, atom_of, unary_of, term_of, sum_of, comparison_of, negation_of, conjunction_of, expression_of, expression}
 use Rattle.proc_parse.specs.Statements.{keys, keyed, new_value, let_statement, assignment, some_block, branches, if_statement, two_blocks, get_statement, span_end, span, for_statement, insert_statement, change, changes, update_statement, delete_statement, fail_statement, text_rule, head_of, statement_by, statement_of, no_close, block_at, block}
 use Rattle.proc_parse.specs.Grammar.{table_end, table, parameters, procedure, is_end, application}
 
@@ -56,7 +56,7 @@ local_field = local_then named _ local_named
     (λ name. local_behind (is_sign sign.Dot) _ _ (local_then named _ (local_named) (λ column. local_done (expr.Field name column))) (local_done (expr.Var name)))
 
 local_atom : (i : Inner) → LocalInner i → IsLocal (atom_of i)
-local_atom i s = local_before (is_sign sign.Open) i.parens _ s.parens (local_before is_name name_or_field literal local_field (local_one _))
+local_atom i s = local_before (is_sign sign.Open) i.parens _ s.parens (local_before is_name name_or_field single local_field (local_one _))
 
 local_unary : (i : Inner) → LocalInner i → IsLocal (unary_of i)
 local_unary i s = local_before (is_sign sign.Minus) i.minus (atom_of i) s.minus (local_atom i s)

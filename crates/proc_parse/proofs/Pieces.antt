@@ -126,7 +126,7 @@ pub piece_most : (bytes : List ℕ) → length (piece_at bytes).1 ≤ length byt
 piece_most [] = omega arith
 piece_most (b ∷ bs) = omega (arith, piece_shorter b bs)
 
-piece_less : (bytes : List ℕ) → ends (piece_at bytes).0 ≡ false → length (piece_at bytes).1 < length bytes
+pub piece_less : (bytes : List ℕ) → ends (piece_at bytes).0 ≡ false → length (piece_at bytes).1 < length bytes
 piece_less [] h = absurd cc
 piece_less (b ∷ bs) h = omega (arith, piece_shorter b bs)
 
@@ -157,12 +157,12 @@ pub found_step : (place : Position) (bytes rest : List ℕ) (p : Piece) → piec
 found_step place bytes rest p e =
     tokens_step place bytes ∙ ap (λ (found : Found). put found.0 place (tokens_in (suc (length found.1)) (moved found.0 (length bytes - length found.1) place) found.1)) e
 
-moved_line : (p : Piece) (n : ℕ) (place : Position) → (p ≡ piece.Newline → 0 < n) → (moved p n place).line ≤ place.line + n
+pub moved_line : (p : Piece) (n : ℕ) (place : Position) → (p ≡ piece.Newline → 0 < n) → (moved p n place).line ≤ place.line + n
 moved_line piece.Newline n place h = omega (arith, h refl)
 moved_line piece.Blank n place h = omega arith
 moved_line (piece.Token l) n place h = omega arith
 
-moved_col : (p : Piece) (n : ℕ) (place : Position) → (p ≡ piece.Newline → 0 < n) → (moved p n place).col ≤ place.col + n
+pub moved_col : (p : Piece) (n : ℕ) (place : Position) → (p ≡ piece.Newline → 0 < n) → (moved p n place).col ≤ place.col + n
 moved_col piece.Newline n place h = omega (arith, h refl)
 moved_col piece.Blank n place h = omega arith
 moved_col (piece.Token l) n place h = omega arith

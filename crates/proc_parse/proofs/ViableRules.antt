@@ -23,7 +23,7 @@ use Rattle.proc_parse.specs.Words.{is_word, is_sign}
 use Rattle.proc_parse.specs.Reading.{Reader, ◌>>=◌, ◌>>◌, done, refuse, behind, before, Shortens}
 use Rattle.proc_parse.specs.Lists.{list_of, many_of}
 use Rattle.proc_parse.specs.Phrases.{the_word, the_sign, ended, in_parens, named, named_behind, column, columns, names}
-use Rattle.proc_parse.specs.Expressions.{comparison_op, or_op, and_op, sum_op, term_op, literal, is_name, field_of, name_or_field, Inner, inner, deeper, atom_of, unary_of, term_of, sum_of, comparison_of, negation_of, conjunction_of, expression_of, expression}
+use Rattle.proc_parse.specs.Expressions.{comparison_op, or_op, and_op, sum_op, term_op, single, is_name, field_of, name_or_field, Inner, inner, deeper, atom_of, unary_of, term_of, sum_of, comparison_of, negation_of, conjunction_of, expression_of, expression}
 use Rattle.proc_parse.specs.Statements.{keys, keyed, new_value, let_statement, assignment, some_block, branches, if_statement, two_blocks, get_statement, some_expression, span_end, span, for_statement, insert_statement, change, changes, update_statement, delete_statement, fail_statement, head_of, statement_by, statement_of, no_close, block_at}
 use Rattle.proc_parse.specs.Grammar.{table_end, table, more_parameters, parameters, procedure_of, procedure}
 use Rattle.proc_parse.specs.Shorter.{ShortInner, short_inner, shortens_field, shortens_atom, shortens_comparison, shortens_one, shortens_before, shortens_sign, shortens_then, shortens_list, shortens_named, shortens_column, shortens_expression, shortens_change, shortens_statement, keeps_done, keeps_sign, keeps_block}
@@ -140,19 +140,19 @@ whole_name = whole_then whole_named (λ name.
     whole_behind (is_sign sign.Dot) (field_of name) (done (expr.Var name)) (field_of name) (done (expr.Var name)) closes
     (whole_field name) (whole_done closes (expr.Var name)) (λ ts x e. no_test (is_sign sign.Dot) refl refl refl refl) (λ s k. no_test (is_sign sign.Dot) refl refl refl refl s.lexeme k))
 
-whole_literal : Whole literal literal closes only_zero
-whole_literal = whole_any closes (whole_one _ zero_token (expr.Value (value.Int (pos 0)) 0) refl)
+whole_single : Whole single single closes only_zero
+whole_single = whole_any closes (whole_one _ zero_token (expr.Value (value.Int (pos 0)) 0) refl)
 
-whole_plain : Whole (before is_name name_or_field literal) (before is_name name_or_field literal) closes only_zero
-whole_plain = whole_ahead is_name name_or_field literal name_or_field literal closes whole_name.viable shortens_field whole_literal
-    (never_empty is_name literal closes (shortens_one _)) (λ s k. refl)
+whole_plain : Whole (before is_name name_or_field single) (before is_name name_or_field single) closes only_zero
+whole_plain = whole_ahead is_name name_or_field single name_or_field single closes whole_name.viable shortens_field whole_single
+    (never_empty is_name single closes (shortens_one _)) (λ s k. refl)
 
-shortens_plain : Shortens (before is_name name_or_field literal)
-shortens_plain = shortens_before is_name name_or_field literal shortens_field (shortens_one _)
+shortens_plain : Shortens (before is_name name_or_field single)
+shortens_plain = shortens_before is_name name_or_field single shortens_field (shortens_one _)
 
 whole_atom : (i : Inner) → ShortInner i → ViableInner i → Whole (atom_of i) (atom_of i) closes only_zero
-whole_atom i s v = whole_ahead (is_sign sign.Open) i.parens (before is_name name_or_field literal) i.parens (before is_name name_or_field literal) closes v.parens s.parens whole_plain
-    (never_empty (is_sign sign.Open) (before is_name name_or_field literal) closes shortens_plain) (λ s k. refl)
+whole_atom i s v = whole_ahead (is_sign sign.Open) i.parens (before is_name name_or_field single) i.parens (before is_name name_or_field single) closes v.parens s.parens whole_plain
+    (never_empty (is_sign sign.Open) (before is_name name_or_field single) closes shortens_plain) (λ s k. refl)
 
 whole_unary : (i : Inner) → ShortInner i → ViableInner i → Whole (unary_of i) (unary_of i) closes only_zero
 whole_unary i s v = whole_ahead (is_sign sign.Minus) i.minus (atom_of i) i.minus (atom_of i) closes v.minus s.minus (whole_atom i s v)

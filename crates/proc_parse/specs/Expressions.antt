@@ -1,5 +1,5 @@
 -- The grammar of expressions.
-use Rattle.std.specs.Prelude.{ℕ, zero, suc, List, [], ◌∷◌, Bool, true, false, Option, Some, None, Result, Ok, Err}
+use Rattle.std.specs.Prelude.{ℕ, cond, zero, suc, List, [], ◌∷◌, Bool, true, false, Option, Some, None, Result, Ok, Err}
 use Rattle.rel_base.specs.declared.value.Value.{Value}
 use Rattle.rel_base.specs.declared.value.Value.TheVariants as value
 use Rattle.proc_syntax.specs.declared.tree.Op.{Op}
@@ -104,9 +104,13 @@ abbrev pub literal_of : Option Value → ℕ → Option Expr
 literal_of (Some v) line = Some (expr.Value v line)
 literal_of None line = None
 
--- int | text | "true" | "false" | bytes
-abbrev pub literal : Reader Expr
-literal = one (λ token. literal_of (value_of token.lexeme) token.line)
+-- the expression that a token is by itself: `now`, or a literal
+abbrev pub single_of : Lexeme → ℕ → Option Expr
+single_of lexeme line = cond (is_word word.Now lexeme) (Some (expr.Now line)) (literal_of (value_of lexeme) line)
+
+-- int | text | "true" | "false" | "now" | bytes
+abbrev pub single : Reader Expr
+single = one (λ token. single_of token.lexeme token.line)
 
 abbrev pub is_name : Lexeme → Bool
 is_name (lexeme.Name bytes) = true
@@ -133,9 +137,9 @@ pub record Inner : Type 0 where
   pub nots : Reader Expr
   pub parens : Reader Expr
 
--- atom = int | text | "true" | "false" | bytes | name | name "." name | "(" expr ")"
+-- atom = int | text | "true" | "false" | "now" | bytes | name | name "." name | "(" expr ")"
 abbrev pub atom_of : Inner → Reader Expr
-atom_of inner = before (is_sign sign.Open) inner.parens (before is_name name_or_field literal)
+atom_of inner = before (is_sign sign.Open) inner.parens (before is_name name_or_field single)
 
 -- unary = "-" unary | atom
 abbrev pub unary_of : Inner → Reader Expr

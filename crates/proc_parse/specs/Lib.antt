@@ -9,3 +9,4 @@ pub mod Statements
 pub mod Grammar
 pub mod Shorter
 pub mod Faults
+pub mod Spans

@@ -18,7 +18,7 @@ use Rattle.proc_syntax.specs.declared.tree.Stmt.TheVariants as stmt
 use Rattle.proc_parse.specs.declared.statements.Head.{Head}
 use Rattle.proc_parse.specs.declared.statements.Head.TheVariants as head
 use Rattle.proc_parse.specs.Phrases.{the_word, the_sign, ended, in_parens, named, named_behind, kind_rule, column, columns, names}
-use Rattle.proc_parse.specs.Expressions.{op_before, if_op, op_at, with_op, chain_from, chain_of, comparison_op, or_op, and_op, sum_op, term_op, literal, is_name, name_or_field, line_at, Inner, inner, deeper, atom_of, unary_of, term_of, sum_of, comparison_of, negation_of, conjunction_of, expression_of, expression}
+use Rattle.proc_parse.specs.Expressions.{op_before, if_op, op_at, with_op, chain_from, chain_of, comparison_op, or_op, and_op, sum_op, term_op, single, is_name, name_or_field, line_at, Inner, inner, deeper, atom_of, unary_of, term_of, sum_of, comparison_of, negation_of, conjunction_of, expression_of, expression}
 use Rattle.proc_parse.specs.Statements.{keys, keyed, new_value, let_statement, assignment, some_block, branches, if_statement, two_blocks, get_statement, span_end, span, for_statement, insert_statement, change, changes, update_statement, delete_statement, fail_statement, text_rule, head_of, statement_by, statement_of, no_close, block_at, block}
 use Rattle.proc_parse.specs.Grammar.{table_end, table, parameters, procedure}
 
@@ -198,7 +198,7 @@ shortens_field = shortens_then named _ shortens_named
     (λ name. keeps_behind (is_sign sign.Dot) _ _ (keeps_then named _ (keeps_of _ shortens_named) (λ column. keeps_done (expr.Field name column))) (keeps_done (expr.Var name)))
 
 pub shortens_atom : (i : Inner) → ShortInner i → Shortens (atom_of i)
-shortens_atom i s = shortens_before (is_sign sign.Open) i.parens _ s.parens (shortens_before is_name name_or_field literal shortens_field (shortens_one _))
+shortens_atom i s = shortens_before (is_sign sign.Open) i.parens _ s.parens (shortens_before is_name name_or_field single shortens_field (shortens_one _))
 
 shortens_unary : (i : Inner) → ShortInner i → Shortens (unary_of i)
 shortens_unary i s = shortens_before (is_sign sign.Minus) i.minus (atom_of i) s.minus (shortens_atom i s)

@@ -8,7 +8,7 @@ ghost use Rattle.proc_parse.specs.Expressions.{inner, operand_of, atom_of, unary
 ghost use Rattle.proc_parse.specs.Shorter.{shortens_expression};
 
 use crate::operands::{
-    begins_with_name, begins_with_sign, literal, name_or_field, sign_line, word_line,
+    begins_with_name, begins_with_sign, name_or_field, sign_line, single, word_line,
 };
 use crate::phrase::{Parsed, Phrase, Stop, begins, letting_go, sign};
 use crate::token::{Lexeme, Sign, Token, Word};
@@ -108,7 +108,7 @@ fn atom<'a>(alloc: Global, depth: usize, tokens: &'a [Token]) -> Parsed<'a, Expr
     if begins_with_name(tokens) {
         return name_or_field(alloc, tokens);
     }
-    literal(alloc, tokens)
+    single(alloc, tokens)
 }
 
 /// Reads an expression in parentheses, where so many more may be open.

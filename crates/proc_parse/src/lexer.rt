@@ -164,7 +164,7 @@ fn after_comment(bytes: &[u8]) -> &[u8]
 }
 
 /// What stands at the start of some bytes, and the bytes after it.
-fn next_piece(alloc: Global, bytes: &[u8]) -> Result<(Piece, &[u8]), NoMemory>
+pub(crate) fn next_piece(alloc: Global, bytes: &[u8]) -> Result<(Piece, &[u8]), NoMemory>
     ensures { Finds result (piece_at bytes.now) }
 {
     match bytes {
@@ -180,7 +180,7 @@ fn next_piece(alloc: Global, bytes: &[u8]) -> Result<(Piece, &[u8]), NoMemory>
 }
 
 /// The place after a piece of so many bytes.
-fn moved(piece: &Piece, len: usize, place: Position) -> Position
+pub(crate) fn moved(piece: &Piece, len: usize, place: Position) -> Position
     requires line { place.line + len < 2 ^ 32 }
     requires col { place.col + len < 2 ^ 32 }
     requires newline { piece.now ≡ Piece.Newline → 0 < len }

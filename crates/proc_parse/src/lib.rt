@@ -3,13 +3,14 @@
 
 mod declarations;
 mod expressions;
-mod lexer;
+pub mod lexer;
 mod names;
-mod operands;
-mod parser;
-mod phrase;
+pub mod operands;
+pub mod parser;
+pub mod phrase;
 mod plain_statements;
 mod runs;
+pub mod spans;
 mod statements;
 mod token;
 

@@ -1,9 +1,9 @@
-//! What operands begin with: literals, names, columns, and what stands before another operand.
+//! What operands begin with: literals, `now`, names, columns, and what stands before another operand.
 
 ghost use Rattle.std.specs.Prelude.{◌≡◌, IfOk};
 ghost use Rattle.proc_parse.specs.Words.{is_sign, is_word};
 ghost use Rattle.proc_parse.specs.Reading.{Gives, begins};
-ghost use Rattle.proc_parse.specs.Expressions.{value_of, literal, is_name, field_of, name_or_field, line_at};
+ghost use Rattle.proc_parse.specs.Expressions.{value_of, single, is_name, field_of, name_or_field, line_at};
 
 use crate::phrase::{Parsed, Phrase, Stop, past_sign};
 use crate::token::{Lexeme, Sign, Token, Word};
@@ -12,7 +12,7 @@ use rel_base::{NoMemory, Twin, Value};
 use std::alloc::Global;
 
 /// The value that a token spells.
-fn value_of(alloc: Global, lexeme: &Lexeme) -> Result<Option<Value>, NoMemory>
+pub fn value_of(alloc: Global, lexeme: &Lexeme) -> Result<Option<Value>, NoMemory>
     ensures { IfOk result (λ value. value ≡ value_of lexeme.now) }
 {
     match lexeme {
@@ -25,13 +25,16 @@ fn value_of(alloc: Global, lexeme: &Lexeme) -> Result<Option<Value>, NoMemory>
     }
 }
 
-/// Reads a literal.
-pub fn literal<'a>(alloc: Global, tokens: &'a [Token]) -> Parsed<'a, Expr>
-    ensures { Gives result (literal tokens.now) }
+/// Reads an operand of one token: a literal, or `now`.
+pub fn single<'a>(alloc: Global, tokens: &'a [Token]) -> Parsed<'a, Expr>
+    ensures { Gives result (single tokens.now) }
 {
     let [first, rest @ ..] = tokens else {
         return Err(Stop::At(tokens));
     };
+    if first.is_word(Word::Now) {
+        return Ok((Expr::Now { line: first.line }, rest));
+    }
     match value_of(alloc, &first.lexeme)? {
         Some(value) => Ok((
             Expr::Value {

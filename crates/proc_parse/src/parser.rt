@@ -33,7 +33,7 @@ impl From<NoMemory> for ParseFault {
 }
 
 /// The place of the first of some tokens.
-fn position_of(tokens: &[Token]) -> Position
+pub fn position_of(tokens: &[Token]) -> Position
     ensures { result ≡ position_of tokens.now }
 {
     match tokens {

@@ -1,5 +1,5 @@
 -- Each rule of the grammar looks at no place.
-use Rattle.std.proofs.Common.{◌≡◌, ℕ, zero, suc, List, [], ◌∷◌, map, Bool, true, false, Option, Some, None, refl, sym, ap}
+use Rattle.std.proofs.Common.{◌≡◌, ℕ, zero, suc, List, [], ◌∷◌, map, Bool, true, false, cond, Option, Some, None, refl, sym, ap}
 use Rattle.std.specs.Option.{option_map}
 use Rattle.rel_base.specs.declared.value.Kind.{Kind}
 use Rattle.rel_base.specs.declared.value.Value.{Value}
@@ -21,11 +21,11 @@ use Rattle.proc_parse.specs.Words.{is_word, is_sign}
 use Rattle.proc_parse.specs.Reading.{Reader, ◌>>=◌, ◌>>◌, done, behind, before, expect}
 use Rattle.proc_parse.specs.Lists.{list_of, many_of}
 use Rattle.proc_parse.specs.Phrases.{the_word, the_sign, ended, in_parens, name_of, named, named_behind, kind_rule, column, columns, names}
-use Rattle.proc_parse.specs.Expressions.{comparison_op, or_op, and_op, sum_op, term_op, value_of, literal_of, literal, is_name, field_of, name_or_field, line_where, line_at, Inner, inner, deeper, atom_of, unary_of, term_of, sum_of, comparison_of, negation_of, conjunction_of, expression_of, expression}
+use Rattle.proc_parse.specs.Expressions.{comparison_op, or_op, and_op, sum_op, term_op, value_of, literal_of, single, is_name, field_of, name_or_field, line_where, line_at, Inner, inner, deeper, atom_of, unary_of, term_of, sum_of, comparison_of, negation_of, conjunction_of, expression_of, expression}
 use Rattle.proc_parse.specs.Statements.{keys, keyed, new_value, let_statement, assignment, some_block, branches, if_statement, two_blocks, get_statement, some_expression, span_end, span, for_statement, insert_statement, change, changes, update_statement, delete_statement, fail_statement, text_rule, head_of, statement_by, statement_of, no_close, block_at, block}
 use Rattle.proc_parse.specs.Grammar.{table_end, table, more_parameters, parameters, procedure, is_end, application}
 use Rattle.proc_print.specs.Unlined.{unlined_name, unlined_column, unlined_expr, unlined_change, unlined_stmt, unlined_table, unlined_procedure, unlined}
-use Rattle.proc_print.proofs.UnlinedTrees.{unlined_value, unlined_var, unlined_field, unlined_not, unlined_neg, unlined_paren, unlined_two, unlined_let, unlined_assign, unlined_other, unlined_if, unlined_get, unlined_for, unlined_insert, unlined_update, unlined_delete, unlined_fail}
+use Rattle.proc_print.proofs.UnlinedTrees.{unlined_value, unlined_now, unlined_var, unlined_field, unlined_not, unlined_neg, unlined_paren, unlined_two, unlined_let, unlined_assign, unlined_other, unlined_if, unlined_get, unlined_for, unlined_insert, unlined_update, unlined_delete, unlined_fail}
 use Rattle.proc_print.proofs.Bare.{bared, IsBare, same_unit, bare_done, bare_refuse, bare_then, bare_behind, bare_before, bare_first, bare_one, bare_expect, bare_op, bare_chain, bare_list, bare_many}
 
 bare_word : {A : Type 0} → (un : A → A) (w : Word) (next next' : Reader A) → IsBare un next next' → IsBare un (the_word w >> next) (the_word w >> next')
@@ -72,8 +72,13 @@ literal_bare : (o : Option Value) (line : ℕ) → literal_of o 0 ≡ option_map
 literal_bare None line = refl
 literal_bare (Some v) line = ap Some (sym (unlined_value v line))
 
-bare_literal : IsBare unlined_expr literal literal
-bare_literal = bare_one unlined_expr _ (λ t. literal_bare (value_of t.lexeme) t.line)
+alone_bare : (is_now : Bool) (o : Option Value) (line : ℕ)
+    → cond is_now (Some (expr.Now 0)) (literal_of o 0) ≡ option_map unlined_expr (cond is_now (Some (expr.Now line)) (literal_of o line))
+alone_bare true o line = ap Some (sym (unlined_now line))
+alone_bare false o line = literal_bare o line
+
+bare_single : IsBare unlined_expr single single
+bare_single = bare_one unlined_expr _ (λ t. alone_bare (is_word word.Now t.lexeme) (value_of t.lexeme) t.line)
 
 bare_field : IsBare unlined_expr name_or_field name_or_field
 bare_field = bare_then unlined_name unlined_expr named named _ _ bare_named (λ name.
@@ -97,8 +102,8 @@ record BareInner (i : Inner) : Type 0 where
   parens : IsBare unlined_expr i.parens i.parens
 
 bare_atom : (i : Inner) → BareInner i → IsBare unlined_expr (atom_of i) (atom_of i)
-bare_atom i s = bare_before unlined_expr (is_sign sign.Open) i.parens i.parens (before is_name name_or_field literal) (before is_name name_or_field literal) s.parens
-    (bare_before unlined_expr is_name name_or_field name_or_field literal literal bare_field bare_literal)
+bare_atom i s = bare_before unlined_expr (is_sign sign.Open) i.parens i.parens (before is_name name_or_field single) (before is_name name_or_field single) s.parens
+    (bare_before unlined_expr is_name name_or_field name_or_field single single bare_field bare_single)
 
 bare_unary : (i : Inner) → BareInner i → IsBare unlined_expr (unary_of i) (unary_of i)
 bare_unary i s = bare_before unlined_expr (is_sign sign.Minus) i.minus i.minus (atom_of i) (atom_of i) s.minus (bare_atom i s)

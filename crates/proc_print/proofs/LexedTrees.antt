@@ -19,7 +19,7 @@ use Rattle.proc_parse.specs.Words.{spelling}
 use Rattle.proc_print.specs.Printed.{listed, in_parens, expr_step, expr_text, line_text, block_text, end_text, change_text, keyed_text, ends_text, span_text, insert_text, update_text, delete_text, fail_text, stmt_step, stmt_text, column_text, named_text, index_text, table_text, procedure_text, printed}
 use Rattle.proc_print.proofs.Spoken.{Spoken, silent, say_word, say_name, say_more, say_listed, say_parens, say_all, say_expr_step, say_expr, say_keyed, say_change, say_end, in_turn, say_block, say_stmt_step, say_stmt, say_column, say_index, say_table, say_procedure}
 use Rattle.proc_print.proofs.Lexed.{Ends, Closed, Open, closed_closed, closed_open, open_closed, open_open, opened, closed_none}
-use Rattle.proc_print.proofs.LexedTokens.{blank, line_end, open_sign, close_sign, open_brace, close_brace, comma, semicolon, dot, minus, equal, keyword, inner_word, kind_open, kind_ends, name_open, op_closed, op_ends, text_closed, value_open}
+use Rattle.proc_print.proofs.LexedTokens.{blank, line_end, open_sign, close_sign, open_brace, close_brace, comma, semicolon, dot, minus, equal, keyword, inner_word, kind_open, kind_ends, name_open, op_closed, op_ends, text_closed, value_open, word_open}
 
 -- ---- lists
 
@@ -51,6 +51,7 @@ expr_said : (d : Expr-F (exprs.Such IsSaid)) → Open (expr_step (map-Expr Expr 
 expr_said (open_expr.Value v line) = value_open v
 expr_said (open_expr.Var name) = name_open name
 expr_said (open_expr.Field row column) = closed_open (open_closed (name_open row) dot (λ rest. refl)) (name_open column)
+expr_said (open_expr.Now line) = word_open word.Now
 expr_said (open_expr.Not inner line) = closed_open (keyword word.Not) inner.1
 expr_said (open_expr.Neg inner line) = closed_open minus inner.1
 expr_said (open_expr.Paren inner line) = opened (open_closed (closed_open open_sign inner.1) close_sign (λ rest. refl))

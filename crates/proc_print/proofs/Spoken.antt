@@ -87,6 +87,7 @@ abbrev pub say_expr_step : Expr-F Spoken → Spoken
 say_expr_step (expr.Value v line) r = value_lexeme v ∷ r
 say_expr_step (expr.Var name) r = say_name name r
 say_expr_step (expr.Field row column) r = say_name row (say_sign sign.Dot (say_name column r))
+say_expr_step (expr.Now line) r = say_word word.Now r
 say_expr_step (expr.Not inner line) r = say_word word.Not (inner r)
 say_expr_step (expr.Neg inner line) r = say_sign sign.Minus (inner r)
 say_expr_step (expr.Paren inner line) r = say_sign sign.Open (inner (say_sign sign.Close r))

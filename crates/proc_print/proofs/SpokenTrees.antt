@@ -19,6 +19,9 @@ use Rattle.proc_print.proofs.Spoken.{Spoken, say_word, say_sign, say_name, say_l
 said : (d : Expr-F Expr) (r : List Lexeme) → say_expr (roll-Expr d) r ≡ say_expr_step (map-Expr Expr Spoken say_expr d) r
 said d r = ap (λ (s : Spoken). s r) (fold-roll-Expr Spoken say_expr_step d)
 
+pub said_now : (line : ℕ) (r : List Lexeme) → say_expr (expr.Now line) r ≡ lexeme.Word word.Now ∷ r
+said_now line r = ap (λ (e : Expr). say_expr e r) (sym (expr.rolls-Now line)) ∙ said (open_expr.Now line) r
+
 pub said_value : (v : Value) (line : ℕ) (r : List Lexeme) → say_expr (expr.Value v line) r ≡ value_lexeme v ∷ r
 said_value v line r = ap (λ (e : Expr). say_expr e r) (sym (expr.rolls-Value v line)) ∙ said (open_expr.Value v line) r
 

@@ -49,6 +49,7 @@ expr_same (open_expr.Value v line) = ap expr_text (sym (expr.rolls-Value v 0)) �
 expr_same (open_expr.Var name) = ap expr_text (sym (expr.rolls-Var (unlined_name name))) ∙ drawn (open_expr.Var (unlined_name name))
 expr_same (open_expr.Field row column) =
     ap expr_text (sym (expr.rolls-Field (unlined_name row) (unlined_name column))) ∙ drawn (open_expr.Field (unlined_name row) (unlined_name column))
+expr_same (open_expr.Now line) = ap expr_text (sym (expr.rolls-Now 0)) ∙ drawn (open_expr.Now 0)
 expr_same (open_expr.Not inner line) =
     ap expr_text (sym (expr.rolls-Not (unlined_expr inner.0) 0)) ∙ drawn (open_expr.Not (unlined_expr inner.0) 0) ∙ ap (λ t. codes "not " ++ t) inner.1
 expr_same (open_expr.Neg inner line) =

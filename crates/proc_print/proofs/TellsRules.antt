@@ -19,11 +19,11 @@ use Rattle.proc_parse.specs.Words.{is_word, is_sign}
 use Rattle.proc_parse.specs.Reading.{Read, Reader, on_read, ◌>>=◌, ◌>>◌, done, past, if_past, behind, before, expect}
 use Rattle.proc_parse.specs.Lists.{list_from, list_of, many_of}
 use Rattle.proc_parse.specs.Phrases.{the_sign, ended, in_parens, name_of, named, named_behind, kind_of_lexeme, kind_of_word, kind_rule, column, columns, names}
-use Rattle.proc_parse.specs.Expressions.{comparison_op, or_op, and_op, sum_op, term_op, value_of, literal_of, literal, is_name, field_of, name_or_field, line_where, line_at, Inner, inner, deeper, atom_of, unary_of, term_of, sum_of, comparison_of, negation_of, conjunction_of, expression_of, expression}
+use Rattle.proc_parse.specs.Expressions.{comparison_op, or_op, and_op, sum_op, term_op, single_of, single, is_name, field_of, name_or_field, line_where, line_at, Inner, inner, deeper, atom_of, unary_of, term_of, sum_of, comparison_of, negation_of, conjunction_of, expression_of, expression}
 use Rattle.proc_parse.specs.Statements.{keys, keyed, new_value, let_statement, assignment, some_block, branches, if_statement, two_blocks, get_statement, some_expression, span_end, span, for_statement, insert_statement, change, changes, update_statement, delete_statement, fail_statement, text_of, text_rule, head_of, statement_by, statement_of, no_close, block_at, block}
 use Rattle.proc_parse.specs.Grammar.{table_end, table, more_parameters, parameters, procedure, is_end, application}
 use Rattle.proc_print.proofs.Spoken.{Spoken, silent, say_word, say_sign, say_name, say_listed, say_parens, say_all, op_lexeme, say_expr, say_keyed, say_change, say_end, in_turn, say_stmt, kind_word, say_column, say_index, say_table, say_procedure, say_app}
-use Rattle.proc_print.proofs.SpokenTrees.{said_value, said_var, said_field, said_not, said_neg, said_paren, said_two, say_body, say_other, said_let, said_assign, said_if, said_get, said_for, said_insert, said_update, said_delete, said_fail}
+use Rattle.proc_print.proofs.SpokenTrees.{said_value, said_now, said_var, said_field, said_not, said_neg, said_paren, said_two, say_body, say_other, said_let, said_assign, said_if, said_get, said_for, said_insert, said_update, said_delete, said_fail}
 use Rattle.proc_print.proofs.Tells.{Where, Told, Tells, after, that_word, that_sign, tells_done, tells_refuse, tells_then, tells_heard, tells_behind, tells_before, tells_first, tells_expect, tells_word, tells_sign, tells_one, tells_op, tells_chain, tells_list, tells_many}
 
 tells_parens : {A : Type 0} → (phrase : Reader A) (say : A → Spoken) → Tells silent say phrase
@@ -91,18 +91,18 @@ term_told l = elim l as (λ l. Where (term_op l) (λ o. l ≡ op_lexeme o)) [
   | _ ↦ tt
 ]
 
-value_told : (l : Lexeme) (line : ℕ) → Where (literal_of (value_of l) line) (λ e. (r : List Lexeme) → l ∷ r ≡ say_expr e r)
-value_told l line = elim l as (λ l. Where (literal_of (value_of l) line) (λ e. (r : List Lexeme) → l ∷ r ≡ say_expr e r)) [
+value_told : (l : Lexeme) (line : ℕ) → Where (single_of l line) (λ e. (r : List Lexeme) → l ∷ r ≡ say_expr e r)
+value_told l line = elim l as (λ l. Where (single_of l line) (λ e. (r : List Lexeme) → l ∷ r ≡ say_expr e r)) [
   | lexeme.Int n ↦ λ r. sym (said_value (value.Int n) line r)
   | lexeme.Text text ↦ λ r. sym (said_value (value.Text text) line r)
   | lexeme.Bytes bytes ↦ λ r. sym (said_value (value.Bytes bytes) line r)
-  | lexeme.Word w ↦ elim w as (λ w. Where (literal_of (value_of (lexeme.Word w)) line) (λ e. (r : List Lexeme) → lexeme.Word w ∷ r ≡ say_expr e r))
-      [ word.True ↦ λ r. sym (said_value (value.Bool true) line r) | word.False ↦ λ r. sym (said_value (value.Bool false) line r) | _ ↦ tt ]
+  | lexeme.Word w ↦ elim w as (λ w. Where (single_of (lexeme.Word w) line) (λ e. (r : List Lexeme) → lexeme.Word w ∷ r ≡ say_expr e r))
+      [ word.Now ↦ λ r. sym (said_now line r) | word.True ↦ λ r. sym (said_value (value.Bool true) line r) | word.False ↦ λ r. sym (said_value (value.Bool false) line r) | _ ↦ tt ]
   | _ ↦ tt
 ]
 
-tells_literal : Tells silent say_expr literal
-tells_literal = tells_one say_expr _ (λ t. value_told t.lexeme t.line)
+tells_single : Tells silent say_expr single
+tells_single = tells_one say_expr _ (λ t. value_told t.lexeme t.line)
 
 tells_field : Tells silent say_expr name_or_field
 tells_field = tells_then silent say_name say_expr named _ tells_named (λ name.
@@ -123,7 +123,7 @@ record TellsInner (i : Inner) : Type 0 where
   parens : Tells silent say_expr i.parens
 
 tells_atom : (i : Inner) → TellsInner i → Tells silent say_expr (atom_of i)
-tells_atom i s = tells_before (is_sign sign.Open) silent say_expr i.parens (before is_name name_or_field literal) s.parens (tells_before is_name silent say_expr name_or_field literal tells_field tells_literal)
+tells_atom i s = tells_before (is_sign sign.Open) silent say_expr i.parens (before is_name name_or_field single) s.parens (tells_before is_name silent say_expr name_or_field single tells_field tells_single)
 
 tells_unary : (i : Inner) → TellsInner i → Tells silent say_expr (unary_of i)
 tells_unary i s = tells_before (is_sign sign.Minus) silent say_expr i.minus (atom_of i) s.minus (tells_atom i s)

@@ -16,6 +16,9 @@ use Rattle.proc_print.specs.Unlined.{unlined_name, unlined_expr_step, unlined_ex
 rolled : (d : Expr-F Expr) → unlined_expr (roll-Expr d) ≡ unlined_expr_step (map-Expr Expr Expr unlined_expr d)
 rolled d = fold-roll-Expr Expr unlined_expr_step d
 
+pub unlined_now : (line : ℕ) → unlined_expr (expr.Now line) ≡ expr.Now 0
+unlined_now line = ap unlined_expr (sym (expr.rolls-Now line)) ∙ rolled (open_expr.Now line)
+
 pub unlined_value : (v : Value) (line : ℕ) → unlined_expr (expr.Value v line) ≡ expr.Value v 0
 unlined_value v line = ap unlined_expr (sym (expr.rolls-Value v line)) ∙ rolled (open_expr.Value v line)
 

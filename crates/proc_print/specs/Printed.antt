@@ -60,6 +60,7 @@ abbrev pub expr_step : Expr-F (List ℕ) → List ℕ
 expr_step (expr.Value v line) = value_text v
 expr_step (expr.Var name) = name.name
 expr_step (expr.Field row column) = row.name ++ codes "." ++ column.name
+expr_step (expr.Now line) = codes "now"
 expr_step (expr.Not inner line) = codes "not " ++ inner
 expr_step (expr.Neg inner line) = codes "-" ++ inner
 expr_step (expr.Paren inner line) = codes "(" ++ inner ++ codes ")"

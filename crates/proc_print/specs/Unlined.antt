@@ -27,6 +27,7 @@ abbrev pub unlined_expr_step : Expr-F Expr → Expr
 unlined_expr_step (open_expr.Value v line) = expr.Value v 0
 unlined_expr_step (open_expr.Var name) = expr.Var (unlined_name name)
 unlined_expr_step (open_expr.Field row column) = expr.Field (unlined_name row) (unlined_name column)
+unlined_expr_step (open_expr.Now line) = expr.Now 0
 unlined_expr_step (open_expr.Not inner line) = expr.Not inner 0
 unlined_expr_step (open_expr.Neg inner line) = expr.Neg inner 0
 unlined_expr_step (open_expr.Paren inner line) = expr.Paren inner 0

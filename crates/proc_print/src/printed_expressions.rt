@@ -53,6 +53,7 @@ pub fn push_expr(out: &mut Vec<u8>, expr: &Expr) -> Result<(), NoMemory>
         Expr::Value { value, .. } => push_value(out, value),
         Expr::Var(name) => push_name(out, name),
         Expr::Field { row, column } => push_field(out, row, column),
+        Expr::Now { .. } => push(out, b"now"),
         Expr::Not { inner, .. } => {
             push(out, b"not ")?;
             push_expr(out, inner.get())

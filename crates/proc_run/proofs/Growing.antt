@@ -106,23 +106,23 @@ module _ (declared : List TableDef) (columns : List (List (Option ℕ))) (S : Ta
   grows_turns (e ∷ es) st = grows_then st.made (step_then st (performs e.0)) _ (grows_step st (performs e.0) e.1) (grows_turns es)
 
   grows_form : (d : Action-F Such) → Always (do_step declared columns S (map-Action Action (State → Progress) performs (map-Action Such Action bare d)))
-  grows_form (action.Set slot e) st = grows_value (worth_of columns e st.variables) st _ (λ v. grows_same st.made _ refl)
+  grows_form (action.Set slot e) st = grows_value (worth_of columns e st.environment) st _ (λ v. grows_same st.made _ refl)
   grows_form (action.If test body other) st =
-      grows_value (worth_of columns test st.variables) st _ (λ v. grows_value (flag_of v) st _ (λ holds. grows_cond st.made holds _ _ (grows_turns body st) (grows_turns other st)))
+      grows_value (worth_of columns test st.environment) st _ (λ v. grows_value (flag_of v) st _ (λ holds. grows_cond st.made holds _ _ (grows_turns body st) (grows_turns other st)))
   grows_form (action.Get slot table key some none) st =
-      grows_some (table_at declared table) st _ (λ named. grows_value (worths_of columns key st.variables) st _ (λ key. grows_some (point_of named.1 named.0 key) st _ (λ read.
+      grows_some (table_at declared table) st _ (λ named. grows_value (worths_of columns key st.environment) st _ (λ key. grows_some (point_of named.1 named.0 key) st _ (λ read.
       grows_rows named.1 read _ (grows_held slot named.0 _ _ (grows_turns some) (grows_turns none)) st)))
   grows_form (action.For slot table column low high body) st =
-      grows_some (table_at declared table) st _ (λ named. grows_value (end_worth columns low st.variables) st _ (λ low. grows_value (end_worth columns high st.variables) st _ (λ high.
+      grows_some (table_at declared table) st _ (λ named. grows_value (end_worth columns low st.environment) st _ (λ low. grows_value (end_worth columns high st.environment) st _ (λ high.
       grows_some (span_of named.1 named.0 column low high) st _ (λ read. grows_rows named.1 read _ (grows_each slot named.0 _ (grows_turns body)) st))))
   grows_form (action.Insert table values) st =
-      grows_some (table_at declared table) st _ (λ named. grows_value (worths_of columns values st.variables) st _ (λ row. grows_some (key_for named.1 row) st _ (λ key.
+      grows_some (table_at declared table) st _ (λ named. grows_value (worths_of columns values st.environment) st _ (λ row. grows_some (key_for named.1 row) st _ (λ key.
       grows_rows named.1 (Point named.0 key) _ (grows_insert named.0 key row) st)))
   grows_form (action.Update table key settings) st =
-      grows_some (table_at declared table) st _ (λ named. grows_value (worths_of columns key st.variables) st _ (λ key. grows_value (sets_worth columns settings st.variables) st _ (λ changes.
+      grows_some (table_at declared table) st _ (λ named. grows_value (worths_of columns key st.environment) st _ (λ key. grows_value (sets_worth columns settings st.environment) st _ (λ changes.
       grows_some (point_of named.1 named.0 key) st _ (λ read. grows_rows named.1 read _ (grows_update named.1 named.0 key changes) st))))
   grows_form (action.Delete table key) st =
-      grows_some (table_at declared table) st _ (λ named. grows_value (worths_of columns key st.variables) st _ (λ key. grows_some (point_of named.1 named.0 key) st _ (λ read.
+      grows_some (table_at declared table) st _ (λ named. grows_value (worths_of columns key st.environment) st _ (λ key. grows_some (point_of named.1 named.0 key) st _ (λ read.
       grows_rows named.1 read _ (grows_delete named.0 key) st)))
   grows_form (action.Fail text) st = grows_same st.made _ refl
 

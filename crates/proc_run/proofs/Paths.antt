@@ -110,13 +110,13 @@ module _ (declared : List TableDef) (columns : List (List (Option ℕ))) (S : Ta
       block_acts low = ap (λ o. then_do o rest) (sym (a_step st act low)) ∙ block_next
 
       -- where the statement stops the run
-      pub block_stops : (why : Stop) → st.steps < 100000 → plan_of declared columns a st.variables ≡ Err why → Stopped counted why ≡ runs (frames_of root (ss ++ spot.Block at branch next ∷ [])) st
+      pub block_stops : (why : Stop) → st.steps < 100000 → plan_of declared columns a st.environment ≡ Err why → Stopped counted why ≡ runs (frames_of root (ss ++ spot.Block at branch next ∷ [])) st
       block_stops why low stops =
           ap (λ r. then_do (with_value r counted (λ plan. do_plan declared columns S (part_of block next First) (part_of block next Second) plan counted)) rest) (sym stops)
           ∙ ap (λ o. then_do o rest) (sym (goes_at declared columns S block next a counted here)) ∙ block_acts low
 
       -- where it comes to a plan
-      pub block_goes : (plan : Plan) → st.steps < 100000 → plan_of declared columns a st.variables ≡ Ok plan
+      pub block_goes : (plan : Plan) → st.steps < 100000 → plan_of declared columns a st.environment ≡ Ok plan
           → then_do (do_plan declared columns S (part_of (block_of root (ss ++ spot.Block at branch (next + 1) ∷ [])) next First) (part_of (block_of root (ss ++ spot.Block at branch (next + 1) ∷ [])) next Second) plan counted) later
           ≡ runs (frames_of root (ss ++ spot.Block at branch next ∷ [])) st
       block_goes plan low goes =

@@ -16,7 +16,8 @@ use Rattle.proc_syntax.specs.Values.{◌>>=◌, found, flag_of}
 use Rattle.proc_syntax.proofs.Fits.{point_fits, span_fits, key_fits, key_of_fit}
 use Rattle.proc_code.specs.declared.tree.Action.{Action, Action-F, fold-roll-Action, ind-Action, map-Action, out-roll-Action, roll-Action}
 use Rattle.proc_code.specs.declared.tree.Action.TheOpen as action
-use Rattle.proc_code.specs.Coded.{Slots, State, Progress, hold, table_at, worth_of, worths_of, end_worth, sets_worth, do_step, do_action, do_all}
+use Rattle.proc_code.specs.declared.slots.Environment.{Environment}
+use Rattle.proc_code.specs.Coded.{State, Progress, hold, table_at, worth_of, worths_of, end_worth, sets_worth, do_step, do_action, do_all}
 use Rattle.proc_run.specs.declared.plan.Pending.{Pending}
 use Rattle.proc_run.specs.declared.plan.Pending.TheVariants as pending
 use Rattle.proc_run.specs.declared.plan.Plan.{Plan}
@@ -90,60 +91,60 @@ module _ (declared : List TableDef) (columns : List (List (Option ℕ))) (S : Ta
   -- by the form of the statement
   planned_step : (d : Action-F Action) (st : State)
       → do_step declared columns S (map-Action Action (State → Progress) performs d) st
-      ≡ with_value (plan_step declared columns (map-Action Action (Slots → Result Plan Stop) (plan_of declared columns) d) st.variables) st (goes d st)
-  planned_step (action.Set slot e) st = value_then st (goes (action.Set slot e) st) (worth_of columns e st.variables) _ _ (λ v. refl)
+      ≡ with_value (plan_step declared columns (map-Action Action (Environment → Result Plan Stop) (plan_of declared columns) d) st.environment) st (goes d st)
+  planned_step (action.Set slot e) st = value_then st (goes (action.Set slot e) st) (worth_of columns e st.environment) _ _ (λ v. refl)
   planned_step (action.If test body other) st =
-      value_then st (goes (action.If test body other) st) (worth_of columns test st.variables) _ _ (λ v. value_then st (goes (action.If test body other) st) (flag_of v) _ _ (λ holds. refl))
+      value_then st (goes (action.If test body other) st) (worth_of columns test st.environment) _ _ (λ v. value_then st (goes (action.If test body other) st) (flag_of v) _ _ (λ holds. refl))
   planned_step (action.Get slot table key some none) st =
       let go = goes (action.Get slot table key some none) st in
       table_then st go declared table _ _ (λ def here.
-      value_then st go (worths_of columns key st.variables) _ _ (λ key.
+      value_then st go (worths_of columns key st.environment) _ _ (λ key.
       some_then st go _ (point_of def table key) _ _ (point_fits def table key) (λ read fits. gets some none st def slot table key read fits.0 here)))
   planned_step (action.For slot table column low high body) st =
       let go = goes (action.For slot table column low high body) st in
       table_then st go declared table _ _ (λ def here.
-      value_then st go (end_worth columns low st.variables) _ _ (λ low.
-      value_then st go (end_worth columns high st.variables) _ _ (λ high.
+      value_then st go (end_worth columns low st.environment) _ _ (λ low.
+      value_then st go (end_worth columns high st.environment) _ _ (λ high.
       some_then st go _ (span_of def table column low high) _ _ (span_fits def table column low high) (λ read fits. visits body [] st def slot table read fits.0 here))))
   planned_step (action.Insert table values) st =
       let go = goes (action.Insert table values) st in
       table_then st go declared table _ _ (λ def here.
-      value_then st go (worths_of columns values st.variables) _ _ (λ row.
+      value_then st go (worths_of columns values st.environment) _ _ (λ row.
       some_then st go _ (key_for def row) _ _ (key_fits def row) (λ key fits. asks [] [] st def (Point table key) (pending.Insert row) here)))
   planned_step (action.Update table key settings) st =
       let go = goes (action.Update table key settings) st in
       table_then st go declared table _ _ (λ def here.
-      value_then st go (worths_of columns key st.variables) _ _ (λ key.
-      value_then st go (sets_worth columns settings st.variables) _ _ (λ changes.
+      value_then st go (worths_of columns key st.environment) _ _ (λ key.
+      value_then st go (sets_worth columns settings st.environment) _ _ (λ changes.
       some_then st go _ (point_of def table key) _ _ (point_fits def table key) (λ read fits. updates [] [] st def table key changes read fits.0 here))))
   planned_step (action.Delete table key) st =
       let go = goes (action.Delete table key) st in
       table_then st go declared table _ _ (λ def here.
-      value_then st go (worths_of columns key st.variables) _ _ (λ key.
+      value_then st go (worths_of columns key st.environment) _ _ (λ key.
       some_then st go _ (point_of def table key) _ _ (point_fits def table key) (λ read fits. deletes [] [] st def table key read fits.0 here)))
   planned_step (action.Fail text) st = refl
 
-  pub planned : (d : Action-F Action) (st : State) → performs (roll-Action d) st ≡ with_value (plan_of declared columns (roll-Action d) st.variables) st (goes d st)
+  pub planned : (d : Action-F Action) (st : State) → performs (roll-Action d) st ≡ with_value (plan_of declared columns (roll-Action d) st.environment) st (goes d st)
   planned d st =
       ap (λ f. f st) (fold-roll-Action (State → Progress) (do_step declared columns S) d) ∙ planned_step d st
-      ∙ ap (λ f. with_value (f st.variables) st (goes d st)) (sym (fold-roll-Action (Slots → Result Plan Stop) (plan_step declared columns) d))
+      ∙ ap (λ f. with_value (f st.environment) st (goes d st)) (sym (fold-roll-Action (Environment → Result Plan Stop) (plan_step declared columns) d))
 
   -- a statement of a block does what its plan comes to
   pub goes_at : (block : List Action) (n : ℕ) (a : Action) (st : State) → slice_get block n ≡ Some a
-      → performs a st ≡ with_value (plan_of declared columns a st.variables) st (λ plan. do_plan declared columns S (part_of block n First) (part_of block n Second) plan st)
+      → performs a st ≡ with_value (plan_of declared columns a st.environment) st (λ plan. do_plan declared columns S (part_of block n First) (part_of block n Second) plan st)
   goes_at block n a st here = by_form At by_blocks a here
     where
       At : Action → Type 0
       At a = slice_get block n ≡ Some a
-          → performs a st ≡ with_value (plan_of declared columns a st.variables) st (λ plan. do_plan declared columns S (part_of block n First) (part_of block n Second) plan st)
+          → performs a st ≡ with_value (plan_of declared columns a st.environment) st (λ plan. do_plan declared columns S (part_of block n First) (part_of block n Second) plan st)
 
       by_blocks : (d : Action-F Action) → At (roll-Action d)
       by_blocks d here =
           let first : part_of block n First ≡ first_block d = ap (block_in first_block) here ∙ ap first_block (out-roll-Action d) in
           let second : part_of block n Second ≡ second_block d = ap (block_in second_block) here ∙ ap second_block (out-roll-Action d) in
           planned d st
-          ∙ ap (λ b. with_value (plan_of declared columns (roll-Action d) st.variables) st (λ plan. do_plan declared columns S b (second_block d) plan st)) (sym first)
-          ∙ ap (λ b. with_value (plan_of declared columns (roll-Action d) st.variables) st (λ plan. do_plan declared columns S (part_of block n First) b plan st)) (sym second)
+          ∙ ap (λ b. with_value (plan_of declared columns (roll-Action d) st.environment) st (λ plan. do_plan declared columns S b (second_block d) plan st)) (sym first)
+          ∙ ap (λ b. with_value (plan_of declared columns (roll-Action d) st.environment) st (λ plan. do_plan declared columns S (part_of block n First) b plan st)) (sym second)
 
 -- ---- the reads of plans fit
 
@@ -172,24 +173,24 @@ module _ (declared : List TableDef) (columns : List (List (Option ℕ))) where
   fits_point : (def : TableDef) (table : ℕ) (key : List Value) (read : Read) → slice_get declared table ≡ Some def → (read ≡ Point table key) × KeyFits def key → ReadFitsIn declared read
   fits_point def table key read here is = subst (ReadFitsIn declared) (sym is.0) (fits_in def (Point table key) here is.1)
 
-  fits_step : (d : Action-F (Slots → Result Plan Stop)) (slots : Slots) → Fit (plan_step declared columns d slots)
-  fits_step (action.Set slot e) slots = fit_value (worth_of columns e slots) _ (λ v. tt)
-  fits_step (action.If test body other) slots = fit_value (worth_of columns test slots) _ (λ v. fit_value (flag_of v) _ (λ holds. tt))
-  fits_step (action.Get slot table key some none) slots =
-      fit_table table _ (λ def here. fit_value (worths_of columns key slots) _ (λ key. fit_some _ (point_of def table key) _ (point_fits def table key) (λ read is. fits_point def table key read here is)))
-  fits_step (action.For slot table column low high body) slots =
-      fit_table table _ (λ def here. fit_value (end_worth columns low slots) _ (λ low. fit_value (end_worth columns high slots) _ (λ high.
+  fits_step : (d : Action-F (Environment → Result Plan Stop)) (environment : Environment) → Fit (plan_step declared columns d environment)
+  fits_step (action.Set slot e) environment = fit_value (worth_of columns e environment) _ (λ v. tt)
+  fits_step (action.If test body other) environment = fit_value (worth_of columns test environment) _ (λ v. fit_value (flag_of v) _ (λ holds. tt))
+  fits_step (action.Get slot table key some none) environment =
+      fit_table table _ (λ def here. fit_value (worths_of columns key environment) _ (λ key. fit_some _ (point_of def table key) _ (point_fits def table key) (λ read is. fits_point def table key read here is)))
+  fits_step (action.For slot table column low high body) environment =
+      fit_table table _ (λ def here. fit_value (end_worth columns low environment) _ (λ low. fit_value (end_worth columns high environment) _ (λ high.
       fit_some _ (span_of def table column low high) _ (span_fits def table column low high) (λ read is. fits_in def read (ap (slice_get declared) is.0 ∙ here) is.1))))
-  fits_step (action.Insert table values) slots =
-      fit_table table _ (λ def here. fit_value (worths_of columns values slots) _ (λ row.
+  fits_step (action.Insert table values) environment =
+      fit_table table _ (λ def here. fit_value (worths_of columns values environment) _ (λ row.
       fit_some _ (key_for def row) _ (key_fits def row) (λ key is. fits_in def (Point table key) here (subst (KeyFits def) is.1 (key_of_fit def row is.0)))))
-  fits_step (action.Update table key settings) slots =
-      fit_table table _ (λ def here. fit_value (worths_of columns key slots) _ (λ key. fit_value (sets_worth columns settings slots) _ (λ changes.
+  fits_step (action.Update table key settings) environment =
+      fit_table table _ (λ def here. fit_value (worths_of columns key environment) _ (λ key. fit_value (sets_worth columns settings environment) _ (λ changes.
       fit_some _ (point_of def table key) _ (point_fits def table key) (λ read is. fits_point def table key read here is))))
-  fits_step (action.Delete table key) slots =
-      fit_table table _ (λ def here. fit_value (worths_of columns key slots) _ (λ key. fit_some _ (point_of def table key) _ (point_fits def table key) (λ read is. fits_point def table key read here is)))
-  fits_step (action.Fail text) slots = tt
+  fits_step (action.Delete table key) environment =
+      fit_table table _ (λ def here. fit_value (worths_of columns key environment) _ (λ key. fit_some _ (point_of def table key) _ (point_fits def table key) (λ read is. fits_point def table key read here is)))
+  fits_step (action.Fail text) environment = tt
 
-  pub plan_fits : (a : Action) (slots : Slots) → Fit (plan_of declared columns a slots)
-  plan_fits = by_form (λ a. (slots : Slots) → Fit (plan_of declared columns a slots))
-      (λ d slots. subst (λ f. Fit (f slots)) (sym (fold-roll-Action (Slots → Result Plan Stop) (plan_step declared columns) d)) (fits_step (map-Action Action (Slots → Result Plan Stop) (plan_of declared columns) d) slots))
+  pub plan_fits : (a : Action) (environment : Environment) → Fit (plan_of declared columns a environment)
+  plan_fits = by_form (λ a. (environment : Environment) → Fit (plan_of declared columns a environment))
+      (λ d environment. subst (λ f. Fit (f environment)) (sym (fold-roll-Action (Environment → Result Plan Stop) (plan_step declared columns) d)) (fits_step (map-Action Action (Environment → Result Plan Stop) (plan_of declared columns) d) environment))

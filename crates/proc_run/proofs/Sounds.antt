@@ -1,5 +1,5 @@
 -- What stays so of a machine.
-use Rattle.std.proofs.Common.{◌≡◌, ◌≤◌, ◌+◌, ℕ, ℤ, arith, length, refl, ap, subst, sym, ◌∙◌, List, [], ◌∷◌, ◌++◌, true, false, Bool, vec_len, vec_capacity}
+use Rattle.std.proofs.Common.{◌≡◌, ◌≤◌, ◌+◌, ℕ, ℤ, arith, length, refl, ap, subst, sym, ◌∙◌, List, [], ◌∷◌, ◌++◌, true, false, Bool, None, vec_len, vec_capacity}
 use Rattle.std.specs.List.{AllByRecursion}
 use Rattle.std.proofs.lemmas.List.{append-nil}
 use Rattle.rel_base.specs.declared.access.Made.{Made}
@@ -26,9 +26,10 @@ use Rattle.proc_run.specs.declared.plan.Pending.{Pending}
 use Rattle.proc_run.specs.declared.state.Phase.{Phase}
 use Rattle.proc_run.specs.declared.state.Phase.TheVariants as phase
 use Rattle.proc_run.specs.declared.state.Run.{Run}
+use Rattle.proc_run.specs.declared.state.Want.TheVariants as want
 use Rattle.proc_run.specs.Path.{body_at, block_of, frames_of, part_of}
 use Rattle.proc_run.specs.Remains.{state, answered, remains, run_frames, waits, has_rows, PhaseFits, StandInOrder}
-use Rattle.proc_run.specs.MachineView.{Agrees, GivenInOrder, IsBegun, IsNextWant, IsSound, WantFits, given_of, held_of, want_of}
+use Rattle.proc_run.specs.MachineView.{Agrees, GivenInOrder, IsBegun, IsNextWant, IsSound, WantFits, given_of, held_of, read_of, want_of}
 use Rattle.proc_run.proofs.Growing.{next_is, reads_are, state_of}
 
 -- ---- lists of answers
@@ -55,6 +56,14 @@ given_none (phase.Ask at read what) h = refl
 given_none (phase.Answered at made what) h = cc
 given_none phase.Good h = refl
 given_none (phase.Stopped why) h = refl
+
+-- where no read is asked, the end is reported
+pub none_wanted : (now : Phase) → read_of now ≡ None → want_of now ≡ want.Ended
+none_wanted phase.Running none = refl
+none_wanted (phase.Ask at read what) none = absurd (cc)
+none_wanted (phase.Answered at made what) none = refl
+none_wanted phase.Good none = refl
+none_wanted (phase.Stopped why) none = refl
 
 -- what is reported of a read that fits fits
 pub want_fits : (declared : List TableDef) (now : Phase) → PhaseFits declared now → WantFits declared (want_of now)
@@ -140,13 +149,13 @@ module _ (app : App) (tx : Tx) (time : ℤ) (number : ℕ) where
       }
 
   -- a machine before its first step
-  pub sound_begun : (code : AppCode) (now : Phase) (path : List Spot) (going : Run) → code ≡ code_of app → path ≡ Block 0 Whole 0 ∷ [] → IsBegun code tx number now going → IsSound app tx time number now path going false
+  pub sound_begun : (code : AppCode) (now : Phase) (path : List Spot) (going : Run) → code ≡ code_of app → path ≡ Block 0 Whole 0 ∷ [] → IsBegun code tx time number now going → IsSound app tx time number now path going false
   sound_begun code now path going coded at_root b =
-      let same : IsBegun (code_of app) tx number now going = subst (λ code. IsBegun code tx number now going) coded b in
+      let same : IsBegun (code_of app) tx time number now going = subst (λ code. IsBegun code tx time number now going) coded b in
       record {
         follows = λ S a.
             ap (λ path. meaning.ran declared S (remains declared (code_of app).columns S (body_at (code_of app) number) now path (state going))) at_root
-            ∙ same.comes declared time S ∙ code_runs app tx time S;
+            ∙ same.comes declared S ∙ code_runs app tx time S;
         found = λ S a. b.found declared S;
         steps = omega (arith, b.steps);
         fits = b.fits declared;

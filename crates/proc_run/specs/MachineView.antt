@@ -91,8 +91,8 @@ abbrev pub GivenInOrder : List TableDef → Phase → Type 0
 GivenInOrder declared phase = AllByRecursion (λ made. StandInOrder declared made.read made.rows) (given_of phase)
 
 -- a call before its first step: what remains is its run, on any tables
-pub record IsBegun (code : AppCode) (tx : Tx) (number : ℕ) (now : Phase) (going : Run) : Type 0 where
-  pub comes : (declared : List TableDef) (time : ℤ) (tables : Tables)
+pub record IsBegun (code : AppCode) (tx : Tx) (time : ℤ) (number : ℕ) (now : Phase) (going : Run) : Type 0 where
+  pub comes : (declared : List TableDef) (tables : Tables)
       → meaning.ran declared tables (remains declared code.columns tables (body_at code number) now (Block 0 Whole 0 ∷ []) (state going)) ≡ code_run declared code tx time tables
   pub made : going.made.items ≡ []
   pub given : given_of now ≡ []

@@ -12,7 +12,8 @@ use Rattle.proc_code.specs.declared.tree.Action.{Action, Action-F, fold-Action}
 use Rattle.proc_code.specs.declared.tree.Action.TheOpen as action
 use Rattle.proc_code.specs.declared.tree.Setting.{Setting}
 use Rattle.proc_code.specs.declared.tree.Term.{Term}
-use Rattle.proc_code.specs.Coded.{Slots, worth_of, worths_of, end_worth, sets_worth}
+use Rattle.proc_code.specs.declared.slots.Environment.{Environment}
+use Rattle.proc_code.specs.Coded.{worth_of, worths_of, end_worth, sets_worth}
 use Rattle.proc_run.specs.declared.plan.Pending.{Pending}
 use Rattle.proc_run.specs.declared.plan.Pending.TheVariants.{Insert, Update, Delete, Get, For}
 use Rattle.proc_run.specs.declared.plan.Plan.{Plan}
@@ -20,47 +21,47 @@ use Rattle.proc_run.specs.declared.plan.Plan.TheVariants.{Set, Enter, Ask}
 
 module _ (columns : List (List (Option ℕ))) where
   -- a variable gets the value of an expression
-  abbrev pub plan_set : ℕ → Term → Slots → Result Plan Stop
-  plan_set slot e slots = worth_of columns e slots >>= λ v. Ok (Set slot v)
+  abbrev pub plan_set : ℕ → Term → Environment → Result Plan Stop
+  plan_set slot e environment = worth_of columns e environment >>= λ v. Ok (Set slot v)
 
   -- one block where a test holds, and another where it does not
-  abbrev pub plan_if : Term → Slots → Result Plan Stop
-  plan_if test slots = worth_of columns test slots >>= λ v. flag_of v >>= λ holds. Ok (Enter holds)
+  abbrev pub plan_if : Term → Environment → Result Plan Stop
+  plan_if test environment = worth_of columns test environment >>= λ v. flag_of v >>= λ holds. Ok (Enter holds)
 
 module _ (declared : List TableDef) (columns : List (List (Option ℕ))) where
   -- the point read of a key, and then what is pending
-  abbrev pub plan_key : ℕ → List Term → Pending → Slots → Result Plan Stop
-  plan_key table key pending slots =
-      found (slice_get declared table) >>= λ def. worths_of columns key slots >>= λ key. found (point_of def table key) >>= λ read. Ok (Ask read pending)
+  abbrev pub plan_key : ℕ → List Term → Pending → Environment → Result Plan Stop
+  plan_key table key pending environment =
+      found (slice_get declared table) >>= λ def. worths_of columns key environment >>= λ key. found (point_of def table key) >>= λ read. Ok (Ask read pending)
 
   -- the span read on a column, and then a block for each row
-  abbrev pub plan_for : ℕ → ℕ → Option ℕ → Option Term → Option Term → Slots → Result Plan Stop
-  plan_for slot table column low high slots =
-      found (slice_get declared table) >>= λ def. end_worth columns low slots >>= λ low. end_worth columns high slots >>= λ high. found (span_of def table column low high) >>= λ read. Ok (Ask read (For slot))
+  abbrev pub plan_for : ℕ → ℕ → Option ℕ → Option Term → Option Term → Environment → Result Plan Stop
+  plan_for slot table column low high environment =
+      found (slice_get declared table) >>= λ def. end_worth columns low environment >>= λ low. end_worth columns high environment >>= λ high. found (span_of def table column low high) >>= λ read. Ok (Ask read (For slot))
 
   -- the point read of the new row's key, and then the row is put
-  abbrev pub plan_insert : ℕ → List Term → Slots → Result Plan Stop
-  plan_insert table values slots =
-      found (slice_get declared table) >>= λ def. worths_of columns values slots >>= λ row. found (key_for def row) >>= λ key. Ok (Ask (Point table key) (Insert row))
+  abbrev pub plan_insert : ℕ → List Term → Environment → Result Plan Stop
+  plan_insert table values environment =
+      found (slice_get declared table) >>= λ def. worths_of columns values environment >>= λ row. found (key_for def row) >>= λ key. Ok (Ask (Point table key) (Insert row))
 
   -- the point read of a key, and then its row is changed
-  abbrev pub plan_update : ℕ → List Term → List Setting → Slots → Result Plan Stop
-  plan_update table key settings slots =
-      found (slice_get declared table) >>= λ def. worths_of columns key slots >>= λ key. sets_worth columns settings slots >>= λ changes. found (point_of def table key) >>= λ read. Ok (Ask read (Update changes))
+  abbrev pub plan_update : ℕ → List Term → List Setting → Environment → Result Plan Stop
+  plan_update table key settings environment =
+      found (slice_get declared table) >>= λ def. worths_of columns key environment >>= λ key. sets_worth columns settings environment >>= λ changes. found (point_of def table key) >>= λ read. Ok (Ask read (Update changes))
 
-  abbrev pub plan_step : Action-F (Slots → Result Plan Stop) → Slots → Result Plan Stop
-  plan_step (action.Set slot e) slots = plan_set columns slot e slots
-  plan_step (action.If test body other) slots = plan_if columns test slots
-  plan_step (action.Get slot table key found absent) slots = plan_key table key (Get slot) slots
-  plan_step (action.For slot table column low high body) slots = plan_for slot table column low high slots
-  plan_step (action.Insert table values) slots = plan_insert table values slots
-  plan_step (action.Update table key settings) slots = plan_update table key settings slots
-  plan_step (action.Delete table key) slots = plan_key table key Delete slots
-  plan_step (action.Fail text) slots = Err (stop.Fault (fault.Failed text))
+  abbrev pub plan_step : Action-F (Environment → Result Plan Stop) → Environment → Result Plan Stop
+  plan_step (action.Set slot e) environment = plan_set columns slot e environment
+  plan_step (action.If test body other) environment = plan_if columns test environment
+  plan_step (action.Get slot table key found absent) environment = plan_key table key (Get slot) environment
+  plan_step (action.For slot table column low high body) environment = plan_for slot table column low high environment
+  plan_step (action.Insert table values) environment = plan_insert table values environment
+  plan_step (action.Update table key settings) environment = plan_update table key settings environment
+  plan_step (action.Delete table key) environment = plan_key table key Delete environment
+  plan_step (action.Fail text) environment = Err (stop.Fault (fault.Failed text))
 
   -- what a statement comes to, or why a run stops there
-  abbrev pub plan_of : Action → Slots → Result Plan Stop
-  plan_of = fold-Action (Slots → Result Plan Stop) plan_step
+  abbrev pub plan_of : Action → Environment → Result Plan Stop
+  plan_of = fold-Action (Environment → Result Plan Stop) plan_step
 
 -- a read that is made up fits its table
 abbrev pub PlanFits : List TableDef → Plan → Type 0

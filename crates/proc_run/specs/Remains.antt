@@ -34,7 +34,7 @@ use Rattle.proc_run.specs.declared.state.Run.{Run}
 use Rattle.proc_run.specs.Path.{Frame, Rest, Rows, part_of, block_of, frames_of}
 
 abbrev pub state : Run → State
-state run = record { variables = run.slots; own = own_of run.own; made = run.made.items; steps = run.steps }
+state run = record { environment = run.environment; own = own_of run.own; made = run.made.items; steps = run.steps }
 
 -- the rows that a transaction sees at a read of a table that may be declared
 abbrev pub seen_by : Option TableDef → Read → Own → List Seen → List (List Value)
@@ -108,7 +108,7 @@ IsSameVisit columns slot table body before rows from after rest to = (declared :
 
 -- the step of an assignment is counted, and the variable has the value of the expression
 abbrev pub IsAssigned : List (List (Option ℕ)) → ℕ → Term → State → State → Type 0
-IsAssigned columns slot e from to = set_to (worth_of columns e from.variables) (λ v. put slot (Plain v)) (record from { steps = from.steps + 1 }) ≡ Going to
+IsAssigned columns slot e from to = set_to (worth_of columns e from.environment) (λ v. put slot (Plain v)) (record from { steps = from.steps + 1 }) ≡ Going to
 
 -- the read that is asked fits its table
 abbrev pub PhaseFits : List TableDef → Phase → Type 0

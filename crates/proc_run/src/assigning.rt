@@ -26,11 +26,11 @@ fn assign(
     ensures made { run.new.made ≡ run.old.made }
     ensures none { result ≡ false → run.new ≡ run.old }
 {
-    match eval(alloc, columns, run.slots.as_slice(), value) {
+    match eval(alloc, columns, &run.environment, value) {
         Err(_) => false,
         Ok(value) => {
             run.steps += 1;
-            put(&mut run.slots, slot, Binding::Plain(value));
+            put(&mut run.environment.slots, slot, Binding::Plain(value));
             true
         }
     }

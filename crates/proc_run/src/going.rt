@@ -7,7 +7,7 @@ ghost use Rattle.row_sets.specs.Overlay.{AreFound, own_of};
 ghost use Rattle.proc_syntax.specs.declared.call.Tx.{Tx as Call};
 ghost use Rattle.proc_syntax.specs.Declaring.{tables_of};
 ghost use Rattle.proc_syntax.specs.Run.{ran, ending_of};
-ghost use Rattle.proc_code.specs.Coded.{Slots};
+ghost use Rattle.proc_code.specs.declared.slots.Environment.{Environment};
 ghost use Rattle.proc_code.specs.declared.tree.Action.{Action as Act};
 ghost use Rattle.proc_run.specs.declared.path.Spot.{Spot as PathStep};
 ghost use Rattle.proc_run.specs.Remains.{state, remains, waits, has_rows, PhaseFits};
@@ -194,8 +194,8 @@ fn ending_of(stop: Stop) -> Ending
 pub fn gives(alloc: Global, phase: Phase, own: Overlay, made: Vec<Made>) -> Ran
     requires ended { waits phase ≡ true }
     requires nothing { read_of phase ≡ None }
-    ensures { (tables : List Def) (columns : List (List (Option ℕ))) (S : Tables) (root : List Act) (spots : List PathStep) (slots : Slots) (steps : ℕ) → AreFound tables S own
-        → result ≡ ran tables S (remains tables columns S root phase spots (record { variables = slots; own = own_of own; made = made.items; steps = steps })) }
+    ensures { (tables : List Def) (columns : List (List (Option ℕ))) (S : Tables) (root : List Act) (spots : List PathStep) (environment : Environment) (steps : ℕ) → AreFound tables S own
+        → result ≡ ran tables S (remains tables columns S root phase spots (record { environment = environment; own = own_of own; made = made.items; steps = steps })) }
 {
     match phase {
         Phase::Good => Ran {

@@ -89,18 +89,18 @@ fn hold_call(
 }
 
 impl Machine {
-    /// A machine before its first step, with the call at a time in seconds. The run of a call that can not begin, which
+    /// A machine before its first step, with the call at a time in seconds, which is what `now` is in its run. The run of a call that can not begin, which
     /// `Checked::call_fault` tells, has no read and is ill typed.
-    pub fn start(alloc: Global, app: &Arc<Checked>, tx: &Tx, time: i64) -> Result<Machine, NoMemory>
-        ensures { IfOk result (λ machine. machine ≡ record { app = app.now.value.app; tx = tx.now; time = time; fed = []; asks = None; ended = false }) }
+    pub fn start(alloc: Global, app: &Arc<Checked>, tx: &Tx, now: i64) -> Result<Machine, NoMemory>
+        ensures { IfOk result (λ machine. machine ≡ record { app = app.now.value.app; tx = tx.now; time = now; fed = []; asks = None; ended = false }) }
     {
         let (app, tx, spots) = hold_call(alloc, app, tx)?;
-        let begun = begin_call(alloc, app.code(), &tx)?;
+        let begun = begin_call(alloc, app.code(), &tx, now)?;
         Ok(Machine {
             alloc,
             app,
             tx,
-            time,
+            time: now,
             number: begun.number,
             spots,
             run: begun.run,

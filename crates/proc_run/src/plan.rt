@@ -8,12 +8,13 @@ ghost use Rattle.proc_eval.specs.Gives.{Gives};
 ghost use Rattle.proc_eval.specs.declared.halt.Halt.TheVariants as halt;
 ghost use Rattle.proc_run.specs.Planned.{plan_of, plan_set, plan_if, plan_key, plan_for, plan_insert, plan_update};
 
+use proc_code::slots::Environment;
 use proc_code::values::{eval, eval_end, eval_key, eval_row, eval_settings};
 use proc_code::{Action, Setting, Term};
 use proc_eval::Halt;
 use proc_eval::compare::flag;
 use proc_eval::fit::{fits_key, key_for, span_on};
-use proc_syntax::{Binding, Fault, Stop};
+use proc_syntax::{Fault, Stop};
 use rel_base::{Key, List, Read, Row, TableDef, Twin, Value};
 use std::alloc::Global;
 
@@ -94,40 +95,40 @@ fn key_of_fit(alloc: Global, def: &TableDef, row: &Row) -> Result<Key, Halt>
     }
 }
 
-/// What the expressions of a statement stand on: the declared tables, the columns that the application names, and what the variables
-/// stand for.
+/// What the expressions of a statement stand on: the declared tables, the columns that the application names, and what they are
+/// evaluated in.
 #[derive(Clone, Copy)]
 struct Scene<'a> {
     alloc: Global,
     tables: &'a List<TableDef>,
     columns: &'a List<List<Option<usize>>>,
-    slots: &'a [Option<Binding>],
+    environment: &'a Environment,
 }
 
 impl Scene<'_> {
     /// A variable gets the value of an expression.
     fn set(&self, slot: usize, value: &Term) -> Result<Plan, Halt>
-        ensures { Gives result (plan_set self.now.columns.now slot value.now self.now.slots.now) }
+        ensures { Gives result (plan_set self.now.columns.now slot value.now self.now.environment.now) }
     {
-        let value = eval(self.alloc, self.columns, self.slots, value)?;
+        let value = eval(self.alloc, self.columns, self.environment, value)?;
         Ok(Plan::Set { slot, value })
     }
 
     /// One block where a test holds, and another where it does not.
     fn test(&self, test: &Term) -> Result<Plan, Halt>
-        ensures { Gives result (plan_if self.now.columns.now test.now self.now.slots.now) }
+        ensures { Gives result (plan_if self.now.columns.now test.now self.now.environment.now) }
     {
-        let value = eval(self.alloc, self.columns, self.slots, test)?;
+        let value = eval(self.alloc, self.columns, self.environment, test)?;
         let first = flag(&value)?;
         Ok(Plan::Enter { first })
     }
 
     /// The point read of a key.
     fn ask_key(&self, table: u32, key: &[Term], pending: Pending) -> Result<Plan, Halt>
-        ensures { Gives result (plan_key self.now.tables.now self.now.columns.now table key.now pending self.now.slots.now) }
+        ensures { Gives result (plan_key self.now.tables.now self.now.columns.now table key.now pending self.now.environment.now) }
     {
         let def = find_table(self.tables, table)?;
-        let key = eval_key(self.alloc, self.columns, self.slots, key)?;
+        let key = eval_key(self.alloc, self.columns, self.environment, key)?;
         let read = point_read(def, table, key)?;
         Ok(Plan::Ask { read, pending })
     }
@@ -141,11 +142,11 @@ impl Scene<'_> {
         low: &Option<Term>,
         high: &Option<Term>,
     ) -> Result<Plan, Halt>
-        ensures { Gives result (plan_for self.now.tables.now self.now.columns.now slot table column low.now high.now self.now.slots.now) }
+        ensures { Gives result (plan_for self.now.tables.now self.now.columns.now slot table column low.now high.now self.now.environment.now) }
     {
         let def = find_table(self.tables, table)?;
-        let low = eval_end(self.alloc, self.columns, self.slots, low)?;
-        let high = eval_end(self.alloc, self.columns, self.slots, high)?;
+        let low = eval_end(self.alloc, self.columns, self.environment, low)?;
+        let high = eval_end(self.alloc, self.columns, self.environment, high)?;
         let read = span_read(def, table, column, low, high)?;
         Ok(Plan::Ask {
             read,
@@ -155,10 +156,10 @@ impl Scene<'_> {
 
     /// The point read of a new row's key.
     fn insert(&self, table: u32, values: &[Term]) -> Result<Plan, Halt>
-        ensures { Gives result (plan_insert self.now.tables.now self.now.columns.now table values.now self.now.slots.now) }
+        ensures { Gives result (plan_insert self.now.tables.now self.now.columns.now table values.now self.now.environment.now) }
     {
         let def = find_table(self.tables, table)?;
-        let row = eval_row(self.alloc, self.columns, self.slots, values)?;
+        let row = eval_row(self.alloc, self.columns, self.environment, values)?;
         let key = key_of_fit(self.alloc, def, &row)?;
         Ok(Plan::Ask {
             read: Read::Point { table, key },
@@ -168,11 +169,11 @@ impl Scene<'_> {
 
     /// The point read of a key whose row gets values in columns.
     fn update(&self, table: u32, key: &[Term], settings: &[Setting]) -> Result<Plan, Halt>
-        ensures { Gives result (plan_update self.now.tables.now self.now.columns.now table key.now settings.now self.now.slots.now) }
+        ensures { Gives result (plan_update self.now.tables.now self.now.columns.now table key.now settings.now self.now.environment.now) }
     {
         let def = find_table(self.tables, table)?;
-        let key = eval_key(self.alloc, self.columns, self.slots, key)?;
-        let changes = eval_settings(self.alloc, self.columns, self.slots, settings)?;
+        let key = eval_key(self.alloc, self.columns, self.environment, key)?;
+        let changes = eval_settings(self.alloc, self.columns, self.environment, settings)?;
         let read = point_read(def, table, key)?;
         Ok(Plan::Ask {
             read,
@@ -181,7 +182,7 @@ impl Scene<'_> {
     }
     /// What a statement comes to, or why the run stops there.
     fn plan(&self, action: &Action) -> Result<Plan, Halt>
-        ensures { Gives result (plan_of self.now.tables.now self.now.columns.now action.now self.now.slots.now) }
+        ensures { Gives result (plan_of self.now.tables.now self.now.columns.now action.now self.now.environment.now) }
     {
         match action {
             Action::Set { slot, value } => self.set(*slot, value),
@@ -214,21 +215,21 @@ impl Scene<'_> {
     }
 }
 
-/// What a statement comes to, where the slots say what the variables stand for, or why the run stops there.
+/// What a statement comes to, in what its expressions are evaluated in, or why the run stops there.
 pub fn plan_action(
     alloc: Global,
     tables: &List<TableDef>,
     columns: &List<List<Option<usize>>>,
-    slots: &[Option<Binding>],
+    environment: &Environment,
     action: &Action,
 ) -> Result<Plan, Halt>
-    ensures { Gives result (plan_of tables.now columns.now action.now slots.now) }
+    ensures { Gives result (plan_of tables.now columns.now action.now environment.now) }
 {
     let scene = Scene {
         alloc,
         tables,
         columns,
-        slots,
+        environment,
     };
     scene.plan(action)
 }

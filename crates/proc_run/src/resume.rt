@@ -167,7 +167,7 @@ fn enter(
         }
         Some(row) => {
             let row = row.copy(alloc)?;
-            hold(&mut run.slots, holder, row);
+            hold(&mut run.environment.slots, holder, row);
             push_block(spots, holder.at, Branch::First, 0);
             Ok(())
         }

@@ -16,6 +16,7 @@ ghost use Rattle.proc_run.specs.MachineView.{IsBegun};
 
 use crate::state::{Phase, Run};
 use crate::turn::put;
+use proc_code::slots::Environment;
 use proc_code::{AppCode, Param, ProcCode};
 use proc_eval::fit::has_kind;
 use proc_syntax::{Binding, Stop, Tx};
@@ -86,8 +87,8 @@ fn give(
 }
 
 /// What a run has at its begin.
-fn begin(alloc: Global, procedure: &ProcCode, values: &[Value]) -> Result<Run, NoMemory>
-    ensures state { IfOk result (λ run. state run ≡ begin procedure.now values.now) }
+fn begin(alloc: Global, procedure: &ProcCode, values: &[Value], now: i64) -> Result<Run, NoMemory>
+    ensures state { IfOk result (λ run. state run ≡ begin procedure.now values.now now) }
     ensures steps { IfOk result (λ run. run.steps ≡ 0) }
     ensures made { IfOk result (λ run. run.made.items ≡ []) }
     ensures found { IfOk result (λ run. (declared : List Def) (tables : Tables) → AreFound declared tables run.own) }
@@ -95,7 +96,7 @@ fn begin(alloc: Global, procedure: &ProcCode, values: &[Value]) -> Result<Run, N
     let mut slots = no_bindings(alloc, procedure.slots)?;
     give(alloc, &mut slots, procedure.params.as_slice(), values)?;
     Ok(Run {
-        slots,
+        environment: Environment { slots, time: now },
         own: Overlay::new(alloc),
         made: Vec::new(alloc),
         steps: 0,
@@ -103,7 +104,7 @@ fn begin(alloc: Global, procedure: &ProcCode, values: &[Value]) -> Result<Run, N
 }
 
 /// A call that can not begin. Its run has no read, and is ill typed.
-fn no_call(alloc: Global) -> BegunCall
+fn no_call(alloc: Global, now: i64) -> BegunCall
     ensures stopped { result.phase ≡ phase.Stopped stop.IllTyped }
     ensures made { result.run.made.items ≡ [] }
     ensures steps { result.run.steps ≡ 0 }
@@ -113,7 +114,10 @@ fn no_call(alloc: Global) -> BegunCall
         number: 0,
         phase: Phase::Stopped(Stop::IllTyped),
         run: Run {
-            slots: List::new(alloc),
+            environment: Environment {
+                slots: List::new(alloc),
+                time: now,
+            },
             own: Overlay::new(alloc),
             made: Vec::new(alloc),
             steps: 0,
@@ -121,20 +125,20 @@ fn no_call(alloc: Global) -> BegunCall
     }
 }
 
-/// A call before its first step. A call of no procedure, or with arguments that do not fit, has stopped at once.
-pub fn begin_call(alloc: Global, code: &AppCode, tx: &Tx) -> Result<BegunCall, NoMemory>
-    ensures { IfOk result (λ begun. IsBegun code.now tx.now begun.number begun.phase begun.run) }
+/// A call before its first step, at a time. A call of no procedure, or with arguments that do not fit, has stopped at once.
+pub fn begin_call(alloc: Global, code: &AppCode, tx: &Tx, now: i64) -> Result<BegunCall, NoMemory>
+    ensures { IfOk result (λ begun. IsBegun code.now tx.now now begun.number begun.phase begun.run) }
 {
     let Some(number) = number_of(code.procs.as_slice(), &tx.procedure) else {
-        return Ok(no_call(alloc));
+        return Ok(no_call(alloc, now));
     };
     let Some(procedure) = code.procs.get(number) else {
-        return Ok(no_call(alloc));
+        return Ok(no_call(alloc, now));
     };
     if !accepts(procedure.params.as_slice(), tx.args.as_slice()) {
-        return Ok(no_call(alloc));
+        return Ok(no_call(alloc, now));
     }
-    let run = begin(alloc, procedure, tx.args.as_slice())?;
+    let run = begin(alloc, procedure, tx.args.as_slice(), now)?;
     Ok(BegunCall {
         number,
         phase: Phase::Running,

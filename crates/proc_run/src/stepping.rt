@@ -48,7 +48,7 @@ fn perform(spots: &mut Vec<Spot>, run: &mut Run, cursor: Cursor, plan: Plan) -> 
     push_block(spots, at, branch, next + 1);
     match plan {
         Plan::Set { slot, value } => {
-            put(&mut run.slots, slot, Binding::Plain(value));
+            put(&mut run.environment.slots, slot, Binding::Plain(value));
             Phase::Running
         }
         Plan::Enter { first } => {
@@ -93,8 +93,14 @@ pub fn step_block(
     if run.steps >= MOST_RUN_STEPS {
         return Ok(Phase::Stopped(Stop::Fault(Fault::Steps)));
     }
-    let slots = run.slots.as_slice();
-    match plan_action(alloc, program.tables, program.columns, slots, &block[next]) {
+    let environment = &run.environment;
+    match plan_action(
+        alloc,
+        program.tables,
+        program.columns,
+        environment,
+        &block[next],
+    ) {
         Err(Halt::NoMemory) => {
             push_block(spots, at, branch, next);
             Err(NoMemory)
@@ -150,7 +156,7 @@ pub fn step_rows(
         }
         Ok(row) => {
             run.steps += 1;
-            hold(&mut run.slots, holder, row);
+            hold(&mut run.environment.slots, holder, row);
             push_rows(spots, holder, rows, next + 1);
             push_block(spots, holder.at, Branch::First, 0);
             Ok(Phase::Running)

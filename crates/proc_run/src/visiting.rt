@@ -40,7 +40,7 @@ fn visit_row(alloc: Global, visit: &Visit<'_>, row: Row, run: &mut Run) -> usize
     ensures made { run.new.made ≡ run.old.made }
 {
     run.steps += 1;
-    hold(&mut run.slots, visit.holder, row);
+    hold(&mut run.environment.slots, visit.holder, row);
     assign_all(alloc, visit.columns, visit.body, 0, run)
 }
 

@@ -1,5 +1,5 @@
 -- What the tests of kinds say.
-use Rattle.std.proofs.Common.{◌≡◌, subst, ℕ, pos, refl, sym, ap, ◌∙◌, List, [], ◌∷◌, true, false, Bool, cond, map, Option, Some, None, IfSome, ◌&&◌, ◌==◌, Contains}
+use Rattle.std.proofs.Common.{◌≡◌, subst, ℕ, pos, refl, sym, ap, ◌∙◌, List, [], ◌∷◌, true, false, cond, map, Option, Some, None, IfSome, ◌&&◌, ◌==◌, Contains}
 use Rattle.std.specs.Prelude.{slice_index_or}
 use Rattle.std.specs.Cmp.Derive.{both_true}
 use Rattle.std.specs.List.{list_any}

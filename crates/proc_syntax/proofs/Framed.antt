@@ -124,37 +124,37 @@ module _ (declared : List TableDef) where
 
     framed_act : (d : Stmt-F (Such AlikeAt))
         → Alike (act_step declared S (map-Stmt Stmt (State → Progress) (act declared S) (stripped d))) (act_step declared S' (map-Stmt Stmt (State → Progress) (act declared S') (stripped d)))
-    framed_act (stmt.Let name e) st = framed_value (value_of declared e st.variables) st _ _ (λ v. framed_same st.made _ refl)
-    framed_act (stmt.Assign name e) st = framed_value (value_of declared e st.variables) st _ _ (λ v. framed_same st.made _ refl)
+    framed_act (stmt.Let name e) st = framed_value (value_of declared e st.environment) st _ _ (λ v. framed_same st.made _ refl)
+    framed_act (stmt.Assign name e) st = framed_value (value_of declared e st.environment) st _ _ (λ v. framed_same st.made _ refl)
     framed_act (stmt.If test body None) st =
-        framed_value (value_of declared test st.variables) st _ _ (λ v. framed_value (flag_of v) st _ _ (λ holds. framed_cond st.made holds _ _ _ _ (framed_in_turn body st) (framed_same st.made _ refl)))
+        framed_value (value_of declared test st.environment) st _ _ (λ v. framed_value (flag_of v) st _ _ (λ holds. framed_cond st.made holds _ _ _ _ (framed_in_turn body st) (framed_same st.made _ refl)))
     framed_act (stmt.If test body (Some other)) st =
-        framed_value (value_of declared test st.variables) st _ _ (λ v. framed_value (flag_of v) st _ _ (λ holds. framed_cond st.made holds _ _ _ _ (framed_in_turn body st) (framed_in_turn other st)))
+        framed_value (value_of declared test st.environment) st _ _ (λ v. framed_value (flag_of v) st _ _ (λ holds. framed_cond st.made holds _ _ _ _ (framed_in_turn body st) (framed_in_turn other st)))
     framed_act (stmt.Get name table key found absent) st =
         framed_some _ (table_named declared table.name) st _ _ (declared_named declared table.name) (λ named here.
-        framed_value (values_of declared key st.variables) st _ _ (λ key.
+        framed_value (values_of declared key st.environment) st _ _ (λ key.
         framed_some _ (point_of named.1 named.0 key) st _ _ (point_table named.1 named.0 key) (λ read at_table.
         framed_rows named.1 read st _ _ (ap (slice_get declared) at_table ∙ here) (framed_get named.0 name.name _ _ _ _ (framed_in_turn found) (framed_in_turn absent)))))
     framed_act (stmt.For name table column low high body) st =
         framed_some _ (table_named declared table.name) st _ _ (declared_named declared table.name) (λ named here.
-        framed_value (end_of declared low st.variables) st _ _ (λ low.
-        framed_value (end_of declared high st.variables) st _ _ (λ high.
+        framed_value (end_of declared low st.environment) st _ _ (λ low.
+        framed_value (end_of declared high st.environment) st _ _ (λ high.
         framed_some _ (span_of named.1 named.0 (column_in named.1 column.name) low high) st _ _ (span_table named.1 named.0 (column_in named.1 column.name) low high) (λ read at_table.
         framed_rows named.1 read st _ _ (ap (slice_get declared) at_table ∙ here) (framed_visit named.0 name.name _ _ (framed_in_turn body))))))
     framed_act (stmt.Insert table values) st =
         framed_some _ (table_named declared table.name) st _ _ (declared_named declared table.name) (λ named here.
-        framed_value (values_of declared values st.variables) st _ _ (λ row.
+        framed_value (values_of declared values st.environment) st _ _ (λ row.
         framed_some (λ key. Unit {0}) (key_for named.1 row) st _ _ (anything (key_for named.1 row)) (λ key p.
         framed_rows named.1 (Point named.0 key) st _ _ here (framed_insert named.0 key row))))
     framed_act (stmt.Update table key changes) st =
         framed_some _ (table_named declared table.name) st _ _ (declared_named declared table.name) (λ named here.
-        framed_value (values_of declared key st.variables) st _ _ (λ key.
-        framed_value (changes_of declared named.1 changes st.variables) st _ _ (λ changes.
+        framed_value (values_of declared key st.environment) st _ _ (λ key.
+        framed_value (changes_of declared named.1 changes st.environment) st _ _ (λ changes.
         framed_some _ (point_of named.1 named.0 key) st _ _ (point_table named.1 named.0 key) (λ read at_table.
         framed_rows named.1 read st _ _ (ap (slice_get declared) at_table ∙ here) (framed_update named.1 named.0 key changes)))))
     framed_act (stmt.Delete table key) st =
         framed_some _ (table_named declared table.name) st _ _ (declared_named declared table.name) (λ named here.
-        framed_value (values_of declared key st.variables) st _ _ (λ key.
+        framed_value (values_of declared key st.environment) st _ _ (λ key.
         framed_some _ (point_of named.1 named.0 key) st _ _ (point_table named.1 named.0 key) (λ read at_table.
         framed_rows named.1 read st _ _ (ap (slice_get declared) at_table ∙ here) (framed_delete named.0 key))))
     framed_act (stmt.Fail text) st = framed_same st.made _ refl

@@ -94,45 +94,45 @@ module _ (declared : List TableDef) (S : Tables) (P Q : State → Type 0) (keeps
     kept_delete (row ∷ rest) = record { is = keeps.writes st def table key None q here fits tt }
 
   kept_act : (d : Stmt-F (Such KeptAt)) (st : State) → Q st → Kept (act_step declared S (map-Stmt Stmt (State → Progress) (act declared S) (stripped d)) st)
-  kept_act (stmt.Let name e) st q = kept_value (value_of declared e st.variables) st _ (keeps.rests st q) (λ v. record { is = keeps.binds st name.name _ (keeps.rests st q) })
-  kept_act (stmt.Assign name e) st q = kept_value (value_of declared e st.variables) st _ (keeps.rests st q) (λ v. record { is = keeps.binds st name.name _ (keeps.rests st q) })
+  kept_act (stmt.Let name e) st q = kept_value (value_of declared e st.environment) st _ (keeps.rests st q) (λ v. record { is = keeps.binds st name.name _ (keeps.rests st q) })
+  kept_act (stmt.Assign name e) st q = kept_value (value_of declared e st.environment) st _ (keeps.rests st q) (λ v. record { is = keeps.binds st name.name _ (keeps.rests st q) })
   kept_act (stmt.If test body None) st q =
       let p = keeps.rests st q in
-      kept_value (value_of declared test st.variables) st _ p (λ v. kept_value (flag_of v) st _ p (λ holds. kept_cond holds _ _ (kept_in_turn body st p) (record { is = p })))
+      kept_value (value_of declared test st.environment) st _ p (λ v. kept_value (flag_of v) st _ p (λ holds. kept_cond holds _ _ (kept_in_turn body st p) (record { is = p })))
   kept_act (stmt.If test body (Some other)) st q =
       let p = keeps.rests st q in
-      kept_value (value_of declared test st.variables) st _ p (λ v. kept_value (flag_of v) st _ p (λ holds. kept_cond holds _ _ (kept_in_turn body st p) (kept_in_turn other st p)))
+      kept_value (value_of declared test st.environment) st _ p (λ v. kept_value (flag_of v) st _ p (λ holds. kept_cond holds _ _ (kept_in_turn body st p) (kept_in_turn other st p)))
   kept_act (stmt.Get name table key found absent) st q =
       let p = keeps.rests st q in
       kept_some _ (table_named declared table.name) st _ p (declared_named declared table.name) (λ named here.
-      kept_value (values_of declared key st.variables) st _ p (λ key.
+      kept_value (values_of declared key st.environment) st _ p (λ key.
       kept_some _ (point_of named.1 named.0 key) st _ p (point_fits named.1 named.0 key) (λ read fits.
       kept_get named.0 name.name _ _ (kept_in_turn found) (kept_in_turn absent) _ _
       (keeps.reads st named.1 read q (ap (λ r. slice_get declared (read_table r)) fits.0 ∙ here) (subst (ReadFits named.1) (sym fits.0) fits.1)))))
   kept_act (stmt.For name table column low high body) st q =
       let p = keeps.rests st q in
       kept_some _ (table_named declared table.name) st _ p (declared_named declared table.name) (λ named here.
-      kept_value (end_of declared low st.variables) st _ p (λ low.
-      kept_value (end_of declared high st.variables) st _ p (λ high.
+      kept_value (end_of declared low st.environment) st _ p (λ low.
+      kept_value (end_of declared high st.environment) st _ p (λ high.
       kept_some _ (span_of named.1 named.0 (column_in named.1 column.name) low high) st _ p (span_fits named.1 named.0 (column_in named.1 column.name) low high) (λ read fits.
       kept_visit named.0 name.name _ (kept_in_turn body) _ _ (keeps.reads st named.1 read q (ap (slice_get declared) fits.0 ∙ here) fits.1)))))
   kept_act (stmt.Insert table values) st q =
       let p = keeps.rests st q in
       kept_some _ (table_named declared table.name) st _ p (declared_named declared table.name) (λ named here.
-      kept_value (values_of declared values st.variables) st _ p (λ row.
+      kept_value (values_of declared values st.environment) st _ p (λ row.
       kept_some _ (key_for named.1 row) st _ p (key_fits named.1 row) (λ key fits.
       kept_insert st q named.1 named.0 here key (subst (KeyFits named.1) fits.1 (key_of_fit named.1 row fits.0)) row fits _)))
   kept_act (stmt.Update table key changes) st q =
       let p = keeps.rests st q in
       kept_some _ (table_named declared table.name) st _ p (declared_named declared table.name) (λ named here.
-      kept_value (values_of declared key st.variables) st _ p (λ key.
-      kept_value (changes_of declared named.1 changes st.variables) st _ p (λ changes.
+      kept_value (values_of declared key st.environment) st _ p (λ key.
+      kept_value (changes_of declared named.1 changes st.environment) st _ p (λ changes.
       kept_some _ (point_of named.1 named.0 key) st _ p (point_fits named.1 named.0 key) (λ read fits.
       subst (λ r. Kept (with_rows S named.1 r st (update_at named.1 named.0 key changes))) (sym fits.0) (kept_update st q named.1 named.0 here key fits.1 changes _)))))
   kept_act (stmt.Delete table key) st q =
       let p = keeps.rests st q in
       kept_some _ (table_named declared table.name) st _ p (declared_named declared table.name) (λ named here.
-      kept_value (values_of declared key st.variables) st _ p (λ key.
+      kept_value (values_of declared key st.environment) st _ p (λ key.
       kept_some _ (point_of named.1 named.0 key) st _ p (point_fits named.1 named.0 key) (λ read fits.
       subst (λ r. Kept (with_rows S named.1 r st (delete_at named.0 key))) (sym fits.0) (kept_delete st q named.1 named.0 here key fits.1 _))))
   kept_act (stmt.Fail text) st q = record { is = keeps.rests st q }

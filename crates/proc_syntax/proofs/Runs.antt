@@ -46,19 +46,19 @@ use Rattle.proc_syntax.proofs.Sound.{Sound, Answered, OwnFits, WasRead, sound_ru
 
 -- ---- what holds of each run that begins holds of each run
 
-abbrev outcome : List TableDef → Tables → ProcDef → List Value → Progress
-outcome declared S procedure values = block declared S procedure.body (start procedure values)
+abbrev outcome : List TableDef → Tables → ProcDef → List Value → ℤ → Progress
+outcome declared S procedure values now = block declared S procedure.body (start procedure values now)
 
 of_cond : (P : Ran → Type 0) (b : Bool) (r : Ran) → P r → P no_run → P (cond b r no_run)
 of_cond P true r h k = h
 of_cond P false r h k = k
 
-of_called : (P : Ran → Type 0) (app : App) (values : List Value) (S : Tables) → P no_run → ((procedure : ProcDef) → P (ran (tables_of app) S (outcome (tables_of app) S procedure values))) → (o : Option ProcDef) → P (called app values S o)
-of_called P app values S h k None = h
-of_called P app values S h k (Some procedure) = of_cond P (takes procedure values) _ (k procedure) h
+of_called : (P : Ran → Type 0) (app : App) (values : List Value) (now : ℤ) (S : Tables) → P no_run → ((procedure : ProcDef) → P (ran (tables_of app) S (outcome (tables_of app) S procedure values now))) → (o : Option ProcDef) → P (called app values now S o)
+of_called P app values now S h k None = h
+of_called P app values now S h k (Some procedure) = of_cond P (takes procedure values) _ (k procedure) h
 
-of_run : (P : Ran → Type 0) (app : App) (tx : Tx) (time : ℤ) (S : Tables) → P no_run → ((procedure : ProcDef) → P (ran (tables_of app) S (outcome (tables_of app) S procedure tx.args))) → P (run app tx time S)
-of_run P app tx time S h k = of_called P app tx.args S h k (procedure_named app tx.procedure)
+of_run : (P : Ran → Type 0) (app : App) (tx : Tx) (time : ℤ) (S : Tables) → P no_run → ((procedure : ProcDef) → P (ran (tables_of app) S (outcome (tables_of app) S procedure tx.args time))) → P (run app tx time S)
+of_run P app tx time S h k = of_called P app tx.args time S h k (procedure_named app tx.procedure)
 
 reads_of : (declared : List TableDef) (S : Tables) (o : Progress) → (ran declared S o).reads ≡ (state_of o).made
 reads_of declared S (Going st) = refl
@@ -68,8 +68,8 @@ reads_of declared S (Stopped st why) = refl
 module _ (P : Made → Type 0) (app : App) (tx : Tx) (time : ℤ) (S : Tables) (each : (m : Made) → Answered (tables_of app) S m → P m) where
   of_reads : All P (run app tx time S).reads
   of_reads = of_run (λ r. All P r.reads) app tx time S (All-nil P) (λ procedure.
-      All-from_recursion P _ (rw (reads_of (tables_of app) S (outcome (tables_of app) S procedure tx.args))
-      (all_more (Answered (tables_of app) S) P _ each (sound_run (tables_of app) S procedure tx.args).answered)))
+      All-from_recursion P _ (rw (reads_of (tables_of app) S (outcome (tables_of app) S procedure tx.args time))
+      (all_more (Answered (tables_of app) S) P _ each (sound_run (tables_of app) S procedure tx.args time).answered)))
 
 pub reads_are_rows : ReadsAreRows
 reads_are_rows app tx time S = of_reads (λ made. made.rows ≡ rows_in (tables_of app) made.read S) app tx time S (λ m a. a.1)
@@ -79,8 +79,8 @@ reads_fit app tx time S = of_reads (λ made. ReadFitsIn (tables_of app) made.rea
 
 pub few_reads : FewReads
 few_reads app tx time S = of_run (λ r. length r.reads ≤ 100000) app tx time S (omega arith) (λ procedure.
-    let s = sound_run (tables_of app) S procedure tx.args in
-    rw (reads_of (tables_of app) S (outcome (tables_of app) S procedure tx.args)) (omega (arith, s.few, s.low)))
+    let s = sound_run (tables_of app) S procedure tx.args time in
+    rw (reads_of (tables_of app) S (outcome (tables_of app) S procedure tx.args time)) (omega (arith, s.few, s.low)))
 
 one_longer : (ref : ℕ × List Value) (before after : Option (List Value)) (rest : List Write) (n : ℕ) → length rest ≤ n → length (write_before ref before after rest) ≤ n + 1
 one_longer ref None None rest n le = omega (arith, le)
@@ -99,8 +99,8 @@ few_of declared S (Stopped st why) few = omega arith
 
 pub few_writes : FewWrites
 few_writes app tx time S = of_run (λ r. length r.writes ≤ 100000) app tx time S (omega arith) (λ procedure.
-    let s = sound_run (tables_of app) S procedure tx.args in
-    few_of (tables_of app) S (outcome (tables_of app) S procedure tx.args) (omega (arith, s.left, s.few, s.low)))
+    let s = sound_run (tables_of app) S procedure tx.args time in
+    few_of (tables_of app) S (outcome (tables_of app) S procedure tx.args time) (omega (arith, s.left, s.few, s.low)))
 
 -- ---- the frame law
 
@@ -138,13 +138,13 @@ module _ (declared : List TableDef) (S S' : Tables) where
   same_ran (Going st) s h = ap (good st.made) (same_net st.made h _ s.read)
   same_ran (Stopped st why) s h = refl
 
-  same_outcome : (procedure : ProcDef) (values : List Value) → All (λ m. Same m.read) (ran declared S (outcome declared S procedure values)).reads
-      → ran declared S' (outcome declared S' procedure values) ≡ ran declared S (outcome declared S procedure values)
-  same_outcome procedure values h =
-      let o = outcome declared S procedure values in
-      let sound = sound_run declared S procedure values in
+  same_outcome : (procedure : ProcDef) (values : List Value) (now : ℤ) → All (λ m. Same m.read) (ran declared S (outcome declared S procedure values now)).reads
+      → ran declared S' (outcome declared S' procedure values now) ≡ ran declared S (outcome declared S procedure values now)
+  same_outcome procedure values now h =
+      let o = outcome declared S procedure values now in
+      let sound = sound_run declared S procedure values now in
       let same : AllByRecursion (λ m. Same m.read) (state_of o).made = rw (reads_of declared S o) at (recursion_from_All (λ m. Same m.read) _ h) in
-      ap (ran declared S') ((framed_block declared S S' procedure.body (start procedure values)).same (along (state_of o).made sound.answered same)) ∙ same_ran o sound same
+      ap (ran declared S') ((framed_block declared S S' procedure.body (start procedure values now)).same (along (state_of o).made sound.answered same)) ∙ same_ran o sound same
 
 pub equal_runs : EqualRowsGiveEqualRuns
 equal_runs app tx time S S' = by_procedure (procedure_named app tx.procedure)
@@ -153,9 +153,9 @@ equal_runs app tx time S S' = by_procedure (procedure_named app tx.procedure)
     by_fit true r r' same h = same h
     by_fit false r r' same h = refl
 
-    by_procedure : (o : Option ProcDef) → All (λ m. Same (tables_of app) S S' m.read) (called app tx.args S o).reads → called app tx.args S' o ≡ called app tx.args S o
+    by_procedure : (o : Option ProcDef) → All (λ m. Same (tables_of app) S S' m.read) (called app tx.args time S o).reads → called app tx.args time S' o ≡ called app tx.args time S o
     by_procedure None h = refl
-    by_procedure (Some procedure) h = by_fit (takes procedure tx.args) _ _ (same_outcome (tables_of app) S S' procedure tx.args) h
+    by_procedure (Some procedure) h = by_fit (takes procedure tx.args) _ _ (same_outcome (tables_of app) S S' procedure tx.args time) h
 
 -- ---- net writes
 
@@ -165,8 +165,8 @@ writes_of P declared S (Stopped st why) h k = h
 
 -- what holds of the net writes of each run that begins holds of the writes of each run
 of_writes : (P : List Write → Type 0) (app : App) (tx : Tx) (time : ℤ) (S : Tables) → P []
-    → ((procedure : ProcDef) → P (net (tables_of app) S (state_of (outcome (tables_of app) S procedure tx.args)).own)) → P (run app tx time S).writes
-of_writes P app tx time S h k = of_run (λ r. P r.writes) app tx time S h (λ procedure. writes_of P (tables_of app) S (outcome (tables_of app) S procedure tx.args) h (k procedure))
+    → ((procedure : ProcDef) → P (net (tables_of app) S (state_of (outcome (tables_of app) S procedure tx.args time)).own)) → P (run app tx time S).writes
+of_writes P app tx time S h k = of_run (λ r. P r.writes) app tx time S h (λ procedure. writes_of P (tables_of app) S (outcome (tables_of app) S procedure tx.args time) h (k procedure))
 
 -- what holds of the write of each own entry holds of the net writes
 module _ (declared : List TableDef) (S : Tables) (P : Write → Type 0) where
@@ -211,7 +211,7 @@ module _ (declared : List TableDef) (S : Tables) where
 
 pub writes_in_order : WritesInOrder
 writes_in_order app tx time S =
-    of_writes (AllPairs (λ a b. ref_cmp (write_ref a) (write_ref b) ≡ Less)) app tx time S (no_pairs (λ a b. ref_cmp (write_ref a) (write_ref b) ≡ Less)) (λ procedure. ordered_net (tables_of app) S _ (finite.entries_sorted (state_of (outcome (tables_of app) S procedure tx.args)).own))
+    of_writes (AllPairs (λ a b. ref_cmp (write_ref a) (write_ref b) ≡ Less)) app tx time S (no_pairs (λ a b. ref_cmp (write_ref a) (write_ref b) ≡ Less)) (λ procedure. ordered_net (tables_of app) S _ (finite.entries_sorted (state_of (outcome (tables_of app) S procedure tx.args time)).own))
 
 -- ---- point reads of tables whose rows stand under their keys
 
@@ -293,20 +293,20 @@ pub writes_fit : WritesFit
 writes_fit app tx time S fit =
     let declared = tables_of app in
     of_writes (All (WriteFitsIn declared)) app tx time S (All-nil _) (λ procedure.
-    All-from_recursion _ _ (each_net declared S (WriteFitsIn declared) (OwnFits declared S) _ (write_fits declared S fit) (sound_run declared S procedure tx.args).fit))
+    All-from_recursion _ _ (each_net declared S (WriteFitsIn declared) (OwnFits declared S) _ (write_fits declared S fit) (sound_run declared S procedure tx.args time).fit))
 
 pub writes_find : WritesFind
 writes_find app tx time S fit =
     let declared = tables_of app in
     of_writes (All (λ write. Finds (finite.get S (write_ref write)) write)) app tx time S (All-nil _) (λ procedure.
-    All-from_recursion _ _ (each_net declared S (λ write. Finds (finite.get S (write_ref write)) write) (OwnFits declared S) _ (λ own h there. finds declared S fit own h) (sound_run declared S procedure tx.args).fit))
+    All-from_recursion _ _ (each_net declared S (λ write. Finds (finite.get S (write_ref write)) write) (OwnFits declared S) _ (λ own h there. finds declared S fit own h) (sound_run declared S procedure tx.args time).fit))
 
 -- each own key of a run that ends was read
 abbrev AreRead : Ran → Type 0
 AreRead r = All (λ write. Contains (map (λ made. made.read) r.reads) (Point write.table write.key)) r.writes
 
 pub writes_are_read : WritesAreRead
-writes_are_read app tx time S = of_run AreRead app tx time S (All-nil _) (λ procedure. by_outcome (outcome (tables_of app) S procedure tx.args) (sound_run (tables_of app) S procedure tx.args))
+writes_are_read app tx time S = of_run AreRead app tx time S (All-nil _) (λ procedure. by_outcome (outcome (tables_of app) S procedure tx.args time) (sound_run (tables_of app) S procedure tx.args time))
   where
     by_outcome : (o : Progress) → Sound (tables_of app) S (state_of o) → AreRead (ran (tables_of app) S o)
     by_outcome (Going st) sound =

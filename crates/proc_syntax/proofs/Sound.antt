@@ -1,5 +1,5 @@
 -- What every state of a run has: its reads fit and have their rows, there are no more of them than steps, and what it wrote fits and was read.
-use Rattle.std.proofs.Common.{◌≡◌, ℕ, ◌+◌, ◌<◌, ◌≤◌, refl, ap, subst, sym, ◌∙◌, List, [], ◌∷◌, ◌++◌, length, true, map, Option, Some, arith, Contains, length-append}
+use Rattle.std.proofs.Common.{◌≡◌, ℕ, ℤ, ◌+◌, ◌<◌, ◌≤◌, refl, ap, subst, sym, ◌∙◌, List, [], ◌∷◌, ◌++◌, length, true, map, Option, Some, arith, Contains, length-append}
 use Rattle.std.specs.Prelude.{nat_lt, slice_get, IsSomeAnd, IfSome, None}
 use Rattle.std.specs.List.{AllByRecursion}
 use Rattle.std.specs.FinMap as finite
@@ -137,15 +137,15 @@ module _ (declared : List TableDef) (S : Tables) where
     writes = sound_writes;
   }
 
-  sound_start : (procedure : ProcDef) (values : List Value) → Sound (start procedure values)
-  sound_start procedure values = record { answered = tt; few = omega arith; low = omega arith; fit = rw entries-empty tt; read = rw entries-empty tt; left = rw entries-empty (omega arith) }
+  sound_start : (procedure : ProcDef) (values : List Value) (now : ℤ) → Sound (start procedure values now)
+  sound_start procedure values now = record { answered = tt; few = omega arith; low = omega arith; fit = rw entries-empty tt; read = rw entries-empty tt; left = rw entries-empty (omega arith) }
 
-  pub sound_run : (procedure : ProcDef) (values : List Value) → Sound (state_of (block declared S procedure.body (start procedure values)))
-  sound_run procedure values = (kept_block declared S Sound Counted sound_keeps procedure.body (start procedure values) (sound_start procedure values)).is
+  pub sound_run : (procedure : ProcDef) (values : List Value) (now : ℤ) → Sound (state_of (block declared S procedure.body (start procedure values now)))
+  sound_run procedure values now = (kept_block declared S Sound Counted sound_keeps procedure.body (start procedure values now) (sound_start procedure values now)).is
 
 -- what was written at a key stands under it
-pub own_stand : (declared : List TableDef) (S : Tables) (procedure : ProcDef) (values : List Value) → OwnFit declared (state_of (block declared S procedure.body (start procedure values))).own
-own_stand declared S procedure values = All-from_recursion (λ e. IfSome e.1 (StandsIn declared e.0)) _ (all_more _ _ _ stands (sound_run declared S procedure values).fit)
+pub own_stand : (declared : List TableDef) (S : Tables) (procedure : ProcDef) (values : List Value) (now : ℤ) → OwnFit declared (state_of (block declared S procedure.body (start procedure values now))).own
+own_stand declared S procedure values now = All-from_recursion (λ e. IfSome e.1 (StandsIn declared e.0)) _ (all_more _ _ _ stands (sound_run declared S procedure values now).fit)
   where
     part : (found : Option TableDef) (key : List Value) (row : Option (List Value)) → IsSomeAnd found (λ def. KeyFits def key × PartFits def key row) → IfSome row (λ r. IsSomeAnd found (λ def. RowFits def r × (key_of_row def r ≡ key)))
     part found key None h = tt

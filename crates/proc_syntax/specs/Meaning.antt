@@ -1,5 +1,5 @@
--- What the statements of a procedure do, by recursion on their tree. A run has variables, own writes, the reads that it made and the
--- count of its steps. It ends where its block ends, or where it stops on its way.
+-- What the statements of a procedure do, by recursion on their tree. A run has variables and a time, own writes, the reads that it made
+-- and the count of its steps. It ends where its block ends, or where it stops on its way.
 use Rattle.std.specs.Prelude.{ℕ, List, map, Option}
 use Rattle.rel_base.specs.declared.schema.TableDef.{TableDef}
 use Rattle.rel_base.specs.declared.value.Value.{Value}
@@ -8,12 +8,11 @@ use Rattle.proc_syntax.specs.declared.fault.Fault.TheVariants as fault
 use Rattle.proc_syntax.specs.declared.run.Binding.{Binding}
 use Rattle.proc_syntax.specs.declared.run.Binding.TheVariants.{Plain, Held}
 use Rattle.proc_syntax.specs.declared.run.Stop.TheVariants as stop
-use Rattle.proc_syntax.specs.declared.run.Variable.{Variable}
 use Rattle.proc_syntax.specs.declared.tree.Change.{Change}
 use Rattle.proc_syntax.specs.declared.tree.Expr.{Expr}
 use Rattle.proc_syntax.specs.declared.tree.Stmt.{Stmt, Stmt-F, fold-Stmt}
 use Rattle.proc_syntax.specs.declared.tree.Stmt.TheOpen as stmt
-use Rattle.proc_syntax.specs.Scope.{bind, table_named, column_in, value_of, values_of, end_of, changes_of}
+use Rattle.proc_syntax.specs.Scope.{Environment, bind_in, table_named, column_in, value_of, values_of, end_of, changes_of}
 use Rattle.proc_syntax.specs.Steps as steps
 use Rattle.proc_syntax.specs.Steps.{held_or, each_held, set_to, branch, get_row, for_rows, insert_row, update_row, delete_row}
 pub use Rattle.proc_syntax.specs.Steps.{Going, Stopped, then_do, step_then, with_value, with_some, wrote, asked, in_turn, in_turn_if, with_rows}
@@ -22,13 +21,13 @@ pub use Rattle.proc_syntax.specs.Steps.{point_of, end_has, span_on, span_of, row
 -- ---- a run by names
 
 abbrev pub State : Type 0
-State = steps.State (List Variable)
+State = steps.State Environment
 
 abbrev pub Progress : Type 0
-Progress = steps.Progress (List Variable)
+Progress = steps.Progress Environment
 
 abbrev pub bound : State → List ℕ → Binding → State
-bound state name binding = record state { variables = bind state.variables name binding }
+bound state name binding = record state { environment = bind_in state.environment name binding }
 
 -- a name stands for a row of a table from now on
 abbrev pub hold : List ℕ → ℕ → List Value → State → State
@@ -47,28 +46,28 @@ visit table name body = each_held (hold name table) body
 module _ (declared : List TableDef) where
   -- a name gets the value of an expression
   abbrev pub do_set : List ℕ → Expr → State → Progress
-  do_set name e state = set_to (value_of declared e state.variables) (λ v state. bound state name (Plain v)) state
+  do_set name e state = set_to (value_of declared e state.environment) (λ v state. bound state name (Plain v)) state
 
   -- one block where a test holds, and another where it does not
   abbrev pub do_if : Expr → (State → Progress) → (State → Progress) → State → Progress
-  do_if test body other state = branch (value_of declared test state.variables) body other state
+  do_if test body other state = branch (value_of declared test state.environment) body other state
 
 module _ (declared : List TableDef) (tables : Tables) where
   abbrev pub do_get : List ℕ → List ℕ → List Expr → (State → Progress) → (State → Progress) → State → Progress
-  do_get name table key found absent state = get_row tables (table_named declared table) (values_of declared key state.variables) (hold name) found absent state
+  do_get name table key found absent state = get_row tables (table_named declared table) (values_of declared key state.environment) (hold name) found absent state
 
   abbrev pub do_for : List ℕ → List ℕ → List ℕ → Option Expr → Option Expr → (State → Progress) → State → Progress
   do_for name table column low high body state =
-      for_rows tables (table_named declared table) (λ def. column_in def column) (end_of declared low state.variables) (end_of declared high state.variables) (hold name) body state
+      for_rows tables (table_named declared table) (λ def. column_in def column) (end_of declared low state.environment) (end_of declared high state.environment) (hold name) body state
 
   abbrev pub do_insert : List ℕ → List Expr → State → Progress
-  do_insert table values state = insert_row tables (table_named declared table) (values_of declared values state.variables) state
+  do_insert table values state = insert_row tables (table_named declared table) (values_of declared values state.environment) state
 
   abbrev pub do_update : List ℕ → List Expr → List Change → State → Progress
-  do_update table key changes state = update_row tables (table_named declared table) (values_of declared key state.variables) (λ def. changes_of declared def changes state.variables) state
+  do_update table key changes state = update_row tables (table_named declared table) (values_of declared key state.environment) (λ def. changes_of declared def changes state.environment) state
 
   abbrev pub do_delete : List ℕ → List Expr → State → Progress
-  do_delete table key state = delete_row tables (table_named declared table) (values_of declared key state.variables) state
+  do_delete table key state = delete_row tables (table_named declared table) (values_of declared key state.environment) state
 
   -- one step into a statement, once its step is counted: what it does, by what the statements of its blocks do
   abbrev pub act_step : Stmt-F (State → Progress) → State → Progress

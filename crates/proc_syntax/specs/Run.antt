@@ -45,8 +45,8 @@ arguments variables [] values = variables
 arguments variables (param ∷ params) [] = variables
 arguments variables (param ∷ params) (v ∷ vs) = arguments (bind variables param.name.name (Plain v)) params vs
 
-abbrev pub start : ProcDef → List Value → State
-start procedure values = record { variables = arguments [] procedure.params values; own = finite.empty; made = []; steps = 0 }
+abbrev pub start : ProcDef → List Value → ℤ → State
+start procedure values now = record { environment = record { variables = arguments [] procedure.params values; now = now }; own = finite.empty; made = []; steps = 0 }
 
 -- the first procedure of a name
 abbrev pub procedure_named : App → List ℕ → Option ProcDef
@@ -56,11 +56,11 @@ procedure_named app name = find (λ procedure. bytes_eq procedure.name.name name
 abbrev pub takes : ProcDef → List Value → Bool
 takes procedure values = have_kinds (map (λ param. param.kind) procedure.params) values
 
-abbrev pub called : App → List Value → Tables → Option ProcDef → Ran
-called app values tables None = no_run
-called app values tables (Some procedure) =
-    cond (takes procedure values) (ran (tables_of app) tables (block (tables_of app) tables procedure.body (start procedure values))) no_run
+abbrev pub called : App → List Value → ℤ → Tables → Option ProcDef → Ran
+called app values now tables None = no_run
+called app values now tables (Some procedure) =
+    cond (takes procedure values) (ran (tables_of app) tables (block (tables_of app) tables procedure.body (start procedure values now))) no_run
 
--- the run of a transaction's call on tables, at a time in seconds. A call of no procedure, or with arguments that do not fit, is ill typed
+-- the run of a transaction's call on tables, at a time in seconds, which is what `now` is in it. A call of no procedure, or with arguments that do not fit, is ill typed
 abbrev pub run : App → Tx → ℤ → Tables → Ran
-run app tx time tables = called app tx.args tables (procedure_named app tx.procedure)
+run app tx time tables = called app tx.args time tables (procedure_named app tx.procedure)

@@ -1,10 +1,11 @@
 -- The names of a run, and the values of expressions.
-use Rattle.std.specs.Prelude.{ℕ, cond, List, [], ◌∷◌, Option, Some, None, Result, Ok, slice_get}
+use Rattle.std.specs.Prelude.{ℕ, ℤ, cond, List, [], ◌∷◌, Option, Some, None, Result, Ok, slice_get}
 use Rattle.std.specs.List.{position_from, find}
 use Rattle.std.specs.Option.{option_and_then, option_map}
 use Rattle.std.specs.Str.{bytes_eq}
 use Rattle.rel_base.specs.declared.schema.TableDef.{TableDef}
 use Rattle.rel_base.specs.declared.value.Value.{Value}
+use Rattle.rel_base.specs.declared.value.Value.TheVariants.{Int}
 use Rattle.proc_syntax.specs.declared.run.Binding.{Binding}
 use Rattle.proc_syntax.specs.declared.run.Binding.TheVariants.{Plain, Held}
 use Rattle.proc_syntax.specs.declared.run.Stop.{Stop}
@@ -14,11 +15,20 @@ use Rattle.proc_syntax.specs.declared.tree.Expr.{Expr, Expr-F, fold-Expr}
 use Rattle.proc_syntax.specs.declared.tree.Expr.TheOpen as expr
 use Rattle.proc_syntax.specs.Values.{◌>>=◌, found, negation_of, not_of, apply}
 
+-- what the expressions of a run are evaluated in: what its names stand for, and its time in seconds
+pub record Environment : Type 0 where
+  pub variables : List Variable
+  pub now : ℤ
+
 -- a name stands for something from now on. Names that go out of scope stay: a checked procedure has no two of one name in scope, and
 -- uses none that is out of it, so what stands here for them is never looked at
 abbrev pub bind : List Variable → List ℕ → Binding → List Variable
 bind [] name binding = record { name = name; binding = binding } ∷ []
 bind (variable ∷ rest) name binding = cond (bytes_eq variable.name name) (record { name = name; binding = binding } ∷ rest) (variable ∷ bind rest name binding)
+
+-- a name stands for something from now on, at the same time
+abbrev pub bind_in : Environment → List ℕ → Binding → Environment
+bind_in environment name binding = record environment { variables = bind environment.variables name binding }
 
 abbrev pub binding_of : List Variable → List ℕ → Option Binding
 binding_of variables name = option_map (λ variable. variable.binding) (find (λ variable. bytes_eq variable.name name) variables)
@@ -43,34 +53,35 @@ field_of tables column (Held table row) = option_and_then (λ def. option_and_th
 
 module _ (tables : List TableDef) where
   -- one step into an expression: what it is worth, by what its parts are worth, the left one first
-  abbrev pub value_step : Expr-F (List Variable → Result Value Stop) → List Variable → Result Value Stop
-  value_step (expr.Value v line) variables = Ok v
-  value_step (expr.Var named) variables = found (option_and_then plain_of (binding_of variables named.name))
-  value_step (expr.Field row column) variables = found (option_and_then (field_of tables column.name) (binding_of variables row.name))
-  value_step (expr.Not inner line) variables = inner variables >>= not_of
-  value_step (expr.Neg inner line) variables = inner variables >>= negation_of
-  value_step (expr.Paren inner line) variables = inner variables
-  value_step (expr.Two o left right) variables = left variables >>= λ v. apply o v (right variables)
+  abbrev pub value_step : Expr-F (Environment → Result Value Stop) → Environment → Result Value Stop
+  value_step (expr.Value v line) environment = Ok v
+  value_step (expr.Var named) environment = found (option_and_then plain_of (binding_of environment.variables named.name))
+  value_step (expr.Field row column) environment = found (option_and_then (field_of tables column.name) (binding_of environment.variables row.name))
+  value_step (expr.Now line) environment = Ok (Int environment.now)
+  value_step (expr.Not inner line) environment = inner environment >>= not_of
+  value_step (expr.Neg inner line) environment = inner environment >>= negation_of
+  value_step (expr.Paren inner line) environment = inner environment
+  value_step (expr.Two o left right) environment = left environment >>= λ v. apply o v (right environment)
 
   -- the value of an expression
-  abbrev pub value_of : Expr → List Variable → Result Value Stop
-  value_of = fold-Expr (List Variable → Result Value Stop) value_step
+  abbrev pub value_of : Expr → Environment → Result Value Stop
+  value_of = fold-Expr (Environment → Result Value Stop) value_step
 
   -- the values of expressions, from the left
-  abbrev pub values_of : List Expr → List Variable → Result (List Value) Stop
-  values_of [] variables = Ok []
-  values_of (e ∷ es) variables = value_of e variables >>= λ v. values_of es variables >>= λ vs. Ok (v ∷ vs)
+  abbrev pub values_of : List Expr → Environment → Result (List Value) Stop
+  values_of [] environment = Ok []
+  values_of (e ∷ es) environment = value_of e environment >>= λ v. values_of es environment >>= λ vs. Ok (v ∷ vs)
 
   -- an end of a span, where it is given
-  abbrev pub end_of : Option Expr → List Variable → Result (Option Value) Stop
-  end_of None variables = Ok None
-  end_of (Some e) variables = value_of e variables >>= λ v. Ok (Some v)
+  abbrev pub end_of : Option Expr → Environment → Result (Option Value) Stop
+  end_of None environment = Ok None
+  end_of (Some e) environment = value_of e environment >>= λ v. Ok (Some v)
 
   -- a column that an update sets, with its value
-  abbrev pub change_of : TableDef → Change → List Variable → Result (ℕ × Value) Stop
-  change_of def change variables = found (column_in def change.column.name) >>= λ column. value_of change.value variables >>= λ v. Ok (column, v)
+  abbrev pub change_of : TableDef → Change → Environment → Result (ℕ × Value) Stop
+  change_of def change environment = found (column_in def change.column.name) >>= λ column. value_of change.value environment >>= λ v. Ok (column, v)
 
   -- the columns that an update sets, with their values, from the left
-  abbrev pub changes_of : TableDef → List Change → List Variable → Result (List (ℕ × Value)) Stop
-  changes_of def [] variables = Ok []
-  changes_of def (change ∷ changes) variables = change_of def change variables >>= λ first. changes_of def changes variables >>= λ rest. Ok (first ∷ rest)
+  abbrev pub changes_of : TableDef → List Change → Environment → Result (List (ℕ × Value)) Stop
+  changes_of def [] environment = Ok []
+  changes_of def (change ∷ changes) environment = change_of def change environment >>= λ first. changes_of def changes environment >>= λ rest. Ok (first ∷ rest)

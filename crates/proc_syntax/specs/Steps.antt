@@ -1,4 +1,4 @@
--- What a run does step by step, whatever holds its variables: by names, or by numbers.
+-- What a run does step by step, whatever its expressions are evaluated in: with variables by names, or by numbers.
 use Rattle.std.specs.Prelude.{ℕ, ◌+◌, Bool, true, cond, ◌&&◌, ◌==◌, List, [], ◌∷◌, ◌++◌, map, Option, Some, None, Result, Ok, Err, nat_lt, slice_set}
 use Rattle.std.specs.FinMap as finite
 use Rattle.std.specs.List.{list_any}
@@ -21,7 +21,7 @@ use Rattle.proc_syntax.specs.Values.{has_kind, have_kinds, flag_of}
 -- ---- what a run has on its way
 
 pub record State (V : Type 0) : Type 0 where
-  pub variables : V
+  pub environment : V
   pub own : Own
   pub made : List Made
   pub steps : ℕ

@@ -17,6 +17,8 @@ pub enum ChainKind {
     LineTooLong = 6,
     /// The bytes end before the file does.
     Truncated = 7,
+    /// The time of the block is below that of the block before, or no i64.
+    WrongTime = 8,
 }
 
 /// The first fault of a block file.

@@ -128,6 +128,10 @@ pub enum Expr {
         row: Named,
         column: Named,
     },
+    /// `now`: the time of the run, which is that of the block after which it reads the tables.
+    Now {
+        line: u32,
+    },
     /// `not INNER`
     Not {
         inner: Boxed<Expr>,

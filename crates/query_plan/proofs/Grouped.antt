@@ -12,8 +12,8 @@ use Rattle.rel_base.specs.declared.value.Value.{Value}
 use Rattle.query_plan.specs.Answer.{Group, all_of, greatest_on, int_of, item_of, least_on, put_one, put_tuple, put_tuples, sum_on, with_tuple}
 use Rattle.query_plan.specs.Tallies.{greater, kept, lesser, next_tallies, next_tally, passing, put_all, put_tallies, tally_of, value_of, with_tallies}
 use Rattle.query_plan.specs.Tuples.{at, holds_all}
-use Rattle.query_plan.specs.declared.group.Tally.{Tally}
-use Rattle.query_plan.specs.declared.group.Tally.TheVariants as tally
+use Rattle.query_plan.specs.declared.tally.Tally.{Tally}
+use Rattle.query_plan.specs.declared.tally.Tally.TheVariants as tally
 use Rattle.query_plan.specs.declared.select.Col.{Col}
 use Rattle.query_plan.specs.declared.select.Comparison.{Comparison}
 use Rattle.query_plan.specs.declared.select.Item.{Item}

@@ -18,7 +18,7 @@ use Rattle.query_plan.specs.Tuples.{holds_all, tuples}
 use Rattle.query_plan.specs.Walk.{IsReadOf, extended, tables_of}
 use Rattle.query_plan.specs.declared.access.Step.{Step}
 use Rattle.query_plan.specs.declared.fault.AskFault.TheVariants as fault
-use Rattle.query_plan.specs.declared.group.Tally.{Tally}
+use Rattle.query_plan.specs.declared.tally.Tally.{Tally}
 use Rattle.query_plan.specs.declared.select.Comparison.{Comparison}
 use Rattle.query_plan.specs.declared.select.Item.{Item}
 use Rattle.query_plan.specs.declared.select.Select.{Select}

@@ -19,7 +19,7 @@ AccessFits def _ = Unit {0}
 abbrev pub StepFits : List TableDef → Step → Type 0
 StepFits defs step = IsSomeAnd (slice_get defs step.table) (λ def. AccessFits def step.access)
 
--- a query is one over tables: it has 1 to 4 sources, which are declared, its comparisons speak of these, and only a query of one
+-- a query is one over tables: it has at most 4 sources, which are declared, its comparisons speak of these, and only a query of one
 -- source has groups or aggregates
 pub record IsSelectOver (tables : List TableDef) (select : Select) : Type 0 where
   pub declared : All (λ table. IsSome (slice_get tables table)) select.sources

@@ -13,8 +13,8 @@ use Rattle.query_plan.specs.Tuples.{at, holds_all}
 use Rattle.query_plan.specs.declared.fault.WalkFault.{WalkFault}
 use Rattle.query_plan.specs.declared.fault.WalkFault.TheVariants as fault
 use Rattle.query_plan.specs.declared.select.Comparison.{Comparison}
-use Rattle.query_plan.specs.declared.group.Tally.{Tally}
-use Rattle.query_plan.specs.declared.group.Tally.TheVariants as tally
+use Rattle.query_plan.specs.declared.tally.Tally.{Tally}
+use Rattle.query_plan.specs.declared.tally.Tally.TheVariants as tally
 use Rattle.query_plan.specs.declared.select.Col.{Col}
 use Rattle.query_plan.specs.declared.select.Item.{Item}
 use Rattle.query_plan.specs.declared.select.Item.TheVariants.{Plain, Count, Sum, Min, Max}

@@ -120,7 +120,7 @@ fn has_kind(kind: Kind, value: &Value) -> bool
 
 /// The kind of a column of a table.
 #[tactic(auto, using(crate::proofs::KindAt::kind_none, crate::proofs::KindAt::kind_some))]
-fn kind_at(def: &TableDef, column: u32) -> Kind
+pub fn kind_at(def: &TableDef, column: u32) -> Kind
     ensures { result ≡ kind_at def.now column }
 {
     match def.columns.get(column as usize) {

@@ -10,6 +10,7 @@ pub mod order;
 pub mod query;
 pub mod select;
 pub mod steps;
+pub mod tally;
 pub mod walk;
 
 pub use access::Access;

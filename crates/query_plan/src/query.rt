@@ -12,10 +12,11 @@ ghost use Rattle.rel_base.specs.Tables.{tables_at};
 
 use crate::access::read_of;
 use crate::fault::{AskFault, WalkFault};
-use crate::group::{Grouping, Tally, group_rows, rows_of};
+use crate::group::{Grouping, group_rows, rows_of};
 use crate::order::in_order;
 use crate::select::{Col, Item, Select};
 use crate::steps::steps_of;
+use crate::tally::Tally;
 use crate::walk::{Asked, gather, step_at};
 use rel_base::{Key, List, NoMemory, Row, Seen, TableDef};
 use row_sets::Versions;

@@ -13,6 +13,7 @@ kind_text kind.WrongPrev = codes "WrongPrev"
 kind_text kind.TooManyTx = codes "TooManyTx"
 kind_text kind.LineTooLong = codes "LineTooLong"
 kind_text kind.Truncated = codes "Truncated"
+kind_text kind.WrongTime = codes "WrongTime"
 
 -- `stopped LINE KIND`
 abbrev pub stopped_line : ChainFault → List ℕ

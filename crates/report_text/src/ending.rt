@@ -21,6 +21,7 @@ pub fn kind_text(kind: ChainKind) -> &'static str
         ChainKind::TooManyTx => "TooManyTx",
         ChainKind::LineTooLong => "LineTooLong",
         ChainKind::Truncated => "Truncated",
+        ChainKind::WrongTime => "WrongTime",
     }
 }
 

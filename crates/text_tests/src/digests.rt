@@ -4,7 +4,7 @@ use block_digest::{decode, digest_of, encode};
 use std::test::Fail;
 
 /// The code of block 258, in which each kind of outcome and of write stands.
-const CODE: &[u8] = b"\x00\x00\x00\x00\x00\x00\x01\x02\
+const CODE: &[u8] = b"\x00\x00\x00\x00\x00\x00\x01\x02\x00\x00\x00\x00\x00\x00\x01\x03\
     \x00\x00\x00\x12\
     \x02a1\x00\
     \x01b\x01\
@@ -37,13 +37,13 @@ const CODE: &[u8] = b"\x00\x00\x00\x00\x00\x00\x01\x02\
 fn all_kinds_come_back(rt: HostRuntime) -> Result<(), Fail> {
     let alloc = rt.alloc();
     let block = decode(alloc, CODE)?;
-    assert!(rt; block.number == 258 && block.outcomes.len() == 18);
+    assert!(rt; block.number == 258 && block.time == 259 && block.outcomes.len() == 18);
     assert!(rt; block.order.as_slice() == [18, 1].as_slice());
     assert!(rt; encode(alloc, &block)?.as_slice() == CODE);
     let digest = digest_of(alloc, &[7; 32], &block)?;
     assert!(rt;
         digest.as_slice()
-            == b"\x70\xd3\xee\x96\x80\x96\x67\xa4\xbb\xa9\x9b\x00\x2b\x06\x90\x10\xf6\x42\x46\x60\x19\xd9\xfc\x87\x38\x1c\x8e\xaa\xc9\x35\xfa\xb7".as_slice()
+            == b"\x9f\x8a\xfb\xae\xc8\x36\x9e\x77\xbb\x5f\x6b\x26\x6e\x81\xa9\x63\x74\xb3\x14\xef\x7c\x96\x25\xaf\x5a\x13\x8b\x26\x0d\x48\xfe\xe5".as_slice()
     );
     Ok(())
 }

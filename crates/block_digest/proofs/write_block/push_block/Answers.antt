@@ -1,5 +1,7 @@
+use Rattle.std.proofs.Common.{rules, ◌≡◌, ◌++◌}
 use Rattle.std.specs.Int.{w64}
 use Rattle.canon_code.specs.Codes.{be_code, counted}
+use Rattle.canon_code.specs.Values.{int_code}
 use Rattle.canon_code.specs.Writes.{write_code}
 use Rattle.node_model.specs.BlockCode.{small_code, told_code}
 use Rattle.block_digest.proofs.Pushed.{pushed_four}
@@ -8,7 +10,8 @@ use Rattle.block_digest.proofs.write_block.push_block.Goals as goal
 pub returns : goal.returns
 returns c =
     let block = c.args.block.now in
-    pushed_four c.push_writes.result c.args.out.now.items (be_code w64 block.number) c.put_u64.new.out.items
+    let head : c.push_head.new.out.items ≡ c.args.out.now.items ++ (be_code w64 block.number ++ int_code block.time) = search rules in
+    pushed_four c.push_writes.result c.args.out.now.items (be_code w64 block.number ++ int_code block.time) c.push_head.new.out.items
     (counted small_code told_code block.outcomes) c.push_outcomes.new.out.items (counted small_code small_code block.order) c.push_order.new.out.items
     (counted small_code write_code block.writes) c.push_writes.new.out.items
-    c.in_ok-put_u64.ensures.ok c.in_ok-push_outcomes.ensures c.in_ok-push_order.ensures c.push_writes.ensures
+    head c.in_ok-push_outcomes.ensures c.in_ok-push_order.ensures c.push_writes.ensures

@@ -4,7 +4,7 @@ use Rattle.proc_syntax.specs.declared.chain_fault.ChainKind.{ChainKind}
 use Rattle.tx_text.specs.Parts.{line_text}
 use Rattle.chain_file.specs.declared.step.StepFault.{StepFault}
 use Rattle.chain_file.specs.declared.step.StepFault.TheVariants as stop
-use Rattle.chain_file.specs.declared.section.FileForm.{FileForm}
+use Rattle.chain_file.specs.declared.form.FileForm.{FileForm}
 use Rattle.chain_file.specs.Chain.{Walked}
 use Rattle.chain_file.specs.Following.{Knows}
 use Rattle.chain_file.specs.Onward.{GivesTold, told_within}
@@ -44,12 +44,12 @@ loop-line-preserved c =
     let line : List ℕ = c.in-Some.line.now in
     let told : told_within (g.before + length g.txs) line ≡ Ok (Some c.in-Ok-Some.tx) =
     ap (λ (n : ℕ). told_within n line) (sym c.len.ensures) ∙ c.in-Ok-Some.ensures.told ∙ ap (λ (found : Option Tx). Ok found) c.in-Ok-Some.field-0-is in (
-      on.place.2 ∙ c.loop-line.invariant.0,
+      on.place.3 ∙ c.loop-line.invariant.0,
       λ kept digits known before knows.
           let inv = c.loop-line.invariant.1 kept digits known before knows in (
             inv.0 ++ line_text line,
-            subst (λ (f : FileForm). Knows f next.hashes digits (inv.0 ++ line_text line)) (sym on.place.0) (on.hashes digits inv.0 inv.1),
+            subst (λ (f : FileForm). Knows f.kind next.hashes digits (inv.0 ++ line_text line)) (sym on.place.0) (on.hashes digits inv.0 inv.1),
             walk_tx (going_at kept c.args.going digits known) kept g next c.in-Ok-Some.tx c.args.bytes.now c.loop-line.rest.now line c.in-Some.after.now digits inv.0 (c.loop-line.invariant.0 ∙ before) inv.2 c.in-Some.ensures.parts told
-                (record { form = on.place.0; count = on.place.1; line = on.line; txs = on.txs }),
+                (record { form = on.place.0; count = on.place.1; time = on.place.2; line = on.line; txs = on.txs }),
           ),
     )

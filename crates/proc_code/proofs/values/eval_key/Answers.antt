@@ -11,9 +11,9 @@ loop-term-preserved c =
     let within : c.loop-term.term-index < length c.args.terms.now = search rules in
     let here : slice_index_or c.args.terms.now c.loop-term.term-index c.term-item.result ≡ c.term-item.result = search rules in
     let columns = c.args.columns.now in
-    let slots = c.args.slots.now in
-    gathered (λ x. worth_of columns x slots) (λ xs. worths_of columns xs slots) (λ x rest. refl) c.args.terms.now c.loop-term.term-index c.term-item.result c.loop-term.key c.in_ok-key.key c.in_ok-value.value
-    (worths_of columns c.args.terms.now slots) within here c.loop-term.invariant c.in_ok-key.ensures c.in_ok-value.ensures
+    let environment = c.args.environment.now in
+    gathered (λ x. worth_of columns x environment) (λ xs. worths_of columns xs environment) (λ x rest. refl) c.args.terms.now c.loop-term.term-index c.term-item.result c.loop-term.key c.in_ok-key.key c.in_ok-value.value
+    (worths_of columns c.args.terms.now environment) within here c.loop-term.invariant c.in_ok-key.ensures c.in_ok-value.ensures
 
 pub returns : goal.returns
 returns c = grind (arith, common_steps)

@@ -11,9 +11,9 @@ loop-setting-preserved c =
     let within : c.loop-setting.setting-index < length c.args.settings.now = search rules in
     let here : slice_index_or c.args.settings.now c.loop-setting.setting-index c.setting-item.result ≡ c.setting-item.result = search rules in
     let columns = c.args.columns.now in
-    let slots = c.args.slots.now in
-    gathered (λ x. set_worth columns x slots) (λ xs. sets_worth columns xs slots) (λ x rest. refl) c.args.settings.now c.loop-setting.setting-index c.setting-item.result c.loop-setting.values c.push.new.self c.in_ok-value.value
-    (sets_worth columns c.args.settings.now slots) within here c.loop-setting.invariant c.in_ok-push.ensures.ok c.in_ok-value.ensures
+    let environment = c.args.environment.now in
+    gathered (λ x. set_worth columns x environment) (λ xs. sets_worth columns xs environment) (λ x rest. refl) c.args.settings.now c.loop-setting.setting-index c.setting-item.result c.loop-setting.values c.push.new.self c.in_ok-value.value
+    (sets_worth columns c.args.settings.now environment) within here c.loop-setting.invariant c.in_ok-push.ensures.ok c.in_ok-value.ensures
 
 pub returns-in_err-value : goal.returns-in_err-value
 returns-in_err-value c = grind (arith, common_steps)

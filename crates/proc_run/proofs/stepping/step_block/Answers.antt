@@ -23,19 +23,17 @@ pub returns-in-Err-Stop-clause-remains : goal.returns-in-Err-Stop-clause-remains
 returns-in-Err-Stop-clause-remains c = λ S.
     let b = c.requires.here in
     let here : slice_get c.args.block.now c.args.cursor.next ≡ Some c.index-block-next.result = slice_get-get_or c.args.block.now c.args.cursor.next c.index-block-next.result c.if-next-block.false ∙ ap Some (sym c.index-block-next.is) in
-    let why : plan_of c.args.program.now.tables.now c.args.program.now.columns.now c.index-block-next.result c.as_slice-slots.result.now ≡ Err c.in-Err-Stop.why = rw c.in-Err-Stop.field-0-is at c.in-Err-Stop.ensures in
-    let stops = ap (plan_of c.args.program.now.tables.now c.args.program.now.columns.now c.index-block-next.result) (sym c.as_slice-slots.ensures) ∙ why in
+    let why : plan_of c.args.program.now.tables.now c.args.program.now.columns.now c.index-block-next.result c.args.run.now.environment ≡ Err c.in-Err-Stop.why = rw c.in-Err-Stop.field-0-is at c.in-Err-Stop.ensures in
     rw c.in-Err-Stop.field-0-is
-    (block_stops c.args.program.now.tables.now c.args.program.now.columns.now S c.args.program.now.root.now c.args.spots.now.items c.args.cursor.at c.args.cursor.next c.args.cursor.branch c.args.block.now (state c.args.run.now) b c.index-block-next.result here c.in-Err-Stop.why c.if-run-ge-MOST_RUN_STEPS.false stops)
+    (block_stops c.args.program.now.tables.now c.args.program.now.columns.now S c.args.program.now.root.now c.args.spots.now.items c.args.cursor.at c.args.cursor.next c.args.cursor.branch c.args.block.now (state c.args.run.now) b c.index-block-next.result here c.in-Err-Stop.why c.if-run-ge-MOST_RUN_STEPS.false why)
 
 pub returns-in-Ok-clause-remains : goal.returns-in-Ok-clause-remains
 returns-in-Ok-clause-remains c = λ S.
     let b = c.requires.here in
     let here : slice_get c.args.block.now c.args.cursor.next ≡ Some c.index-block-next.result = slice_get-get_or c.args.block.now c.args.cursor.next c.index-block-next.result c.if-next-block.false ∙ ap Some (sym c.index-block-next.is) in
-    let goes = ap (plan_of c.args.program.now.tables.now c.args.program.now.columns.now c.index-block-next.result) (sym c.as_slice-slots.ensures) ∙ c.in-Ok.ensures in
     rw (c.perform.ensures.remains c.args.program.now.tables.now c.args.program.now.columns.now S c.args.program.now.root.now)
-    (block_goes c.args.program.now.tables.now c.args.program.now.columns.now S c.args.program.now.root.now c.args.spots.now.items c.args.cursor.at c.args.cursor.next c.args.cursor.branch c.args.block.now (state c.args.run.now) b c.index-block-next.result here c.in-Ok.plan c.if-run-ge-MOST_RUN_STEPS.false goes)
+    (block_goes c.args.program.now.tables.now c.args.program.now.columns.now S c.args.program.now.root.now c.args.spots.now.items c.args.cursor.at c.args.cursor.next c.args.cursor.branch c.args.block.now (state c.args.run.now) b c.index-block-next.result here c.in-Ok.plan c.if-run-ge-MOST_RUN_STEPS.false c.in-Ok.ensures)
 
 pub returns-in-Ok-clause-fits : goal.returns-in-Ok-clause-fits
 returns-in-Ok-clause-fits c =
-    c.perform.ensures.fits c.args.program.now.tables.now (subst (λ r. IfOk r (PlanFits c.args.program.now.tables.now)) c.in-Ok.ensures (plan_fits c.args.program.now.tables.now c.args.program.now.columns.now c.index-block-next.result c.as_slice-slots.result.now))
+    c.perform.ensures.fits c.args.program.now.tables.now (subst (λ r. IfOk r (PlanFits c.args.program.now.tables.now)) c.in-Ok.ensures (plan_fits c.args.program.now.tables.now c.args.program.now.columns.now c.index-block-next.result c.args.run.now.environment))

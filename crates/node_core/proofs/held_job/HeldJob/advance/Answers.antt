@@ -1,9 +1,8 @@
-use Rattle.std.proofs.Common.{Some, false, refl, rules, subst, true, ◌||◌, ◌≡◌}
+use Rattle.std.proofs.Common.{None, Some, false, refl, rules, subst, true, ◌||◌, ◌≡◌}
 use Rattle.std.specs.Prelude.{IsSome}
 use Rattle.node_core.proofs.Going.{ready_goes, wants_goes}
-use Rattle.node_core.proofs.Hand.{asked}
+use Rattle.node_core.proofs.Hand.{asked, at_end}
 use Rattle.node_core.specs.Hands.{GoesOn}
-use Rattle.node_core.specs.InHand.{IsInHand}
 use Rattle.node_core.specs.declared.answers.Next.TheVariants as next
 use Rattle.node_core.proofs.held_job.HeldJob.advance.Goals as goal
 
@@ -14,6 +13,12 @@ invariant_of-self-in-Rows c =
     let whole : s.cut ≡ false = search rules in
     asked s.tx.value s.machine c.next.new.self s.wants s.ended s.cut c.in_ok-read.field-0 c.in-Rows.read c.self.invariant goes whole c.in-Rows.is c.in_ok-read.ensures.tells c.in_ok-read.ensures.reads
     c.in_ok-read.ensures.fits
+
+pub invariant_of-self-in-Ended : goal.invariant_of-self-in-Ended
+invariant_of-self-in-Ended c =
+    let s = c.self.inside in
+    let none : s.wants ≡ None = search rules in
+    at_end s.tx.value s.machine c.next.new.self s.wants s.ended s.cut c.in_ok-read.field-0 c.self.invariant none c.in-Ended.is c.in_ok-read.ensures.tells c.in_ok-read.ensures.reads
 
 pub returns-then-self-2-clause-may : goal.returns-then-self-2-clause-may
 returns-then-self-2-clause-may c =
@@ -40,6 +45,7 @@ returns-in-Rows-clause-may c =
 pub returns-in-Ended-clause-may : goal.returns-in-Ended-clause-may
 returns-in-Ended-clause-may c =
     let s = c.self.inside in
-    let hand : IsInHand s.tx.value c.next.new.self s.wants true s.cut = search rules in
+    let none : s.wants ≡ None = search rules in
+    let hand = at_end s.tx.value s.machine c.next.new.self s.wants s.ended s.cut c.in_ok-read.field-0 c.self.invariant none c.in-Ended.is c.in_ok-read.ensures.tells c.in_ok-read.ensures.reads in
     let ready : (s.cut || true) ≡ true = search rules in
     ready_goes s.tx.value _ s.wants true hand ready

@@ -1,7 +1,8 @@
-use Rattle.std.proofs.Common.{◌++◌, true, false, sym, subst}
+use Rattle.std.proofs.Common.{◌≡◌, ◌++◌, ◌∙◌, None, ap, cond, refl, true, false, sym, subst}
 use Rattle.proc_syntax.specs.Declaring.{tables_of}
-use Rattle.proc_run.specs.MachineView.{Agrees, IsSound, given_of}
-use Rattle.proc_run.proofs.Sounds.{sound_told, want_fits, next_told}
+use Rattle.proc_syntax.specs.Run.{run}
+use Rattle.proc_run.specs.MachineView.{Agrees, IsNextWant, IsSound, MachineView, given_of, read_of}
+use Rattle.proc_run.proofs.Sounds.{none_wanted, sound_told, want_fits, next_told}
 use Rattle.proc_run.proofs.machine.Machine.next.Goals as goal
 
 pub invariant_of-self : goal.invariant_of-self
@@ -42,3 +43,14 @@ returns-clause-reads c = λ S a.
     let b : Agrees (tables_of m.app.value.app) S (m.run.made.items ++ given_of m.phase) = subst (λ told. Agrees (tables_of told.app) S told.fed) (sym c.self.view_is) a in
     rw (c.in_ok-want.ensures, ← c.self.view_is)
     (next_told m.app.value.app m.tx m.time m.number c.go_to_read.new.phase c.go_to_read.new.spots.items c.go_to_read.new.run false (m.run.made.items ++ given_of m.phase) S sound c.in_ok-go_to_read.ensures.waits (sym c.go_to_read.ensures.fed) b)
+
+pub returns-then-self-clause-reads : goal.returns-then-self-clause-reads
+returns-then-self-clause-reads c = λ S a.
+    let m = c.self.inside in
+    let app = m.app.value.app in
+    let b : Agrees (tables_of app) S (m.run.made.items ++ given_of m.phase) = subst (λ told. Agrees (tables_of told.app) S told.fed) (sym c.self.view_is) a in
+    let asks : cond m.told (read_of m.phase) None ≡ None = ap (λ (told : MachineView). told.asks) c.self.view_is ∙ c.requires in
+    let none : read_of m.phase ≡ None = rw c.if-self.true at asks in
+    rw (← c.self.view_is)
+    (subst (λ w. IsNextWant w (tables_of app) S (m.run.made.items ++ given_of m.phase) (run app m.tx m.time S).reads) (none_wanted m.phase none)
+    (next_told app m.tx m.time m.number m.phase m.spots.items m.run m.told (m.run.made.items ++ given_of m.phase) S c.self.invariant (c.self.invariant.waiting c.if-self.true) refl b))

@@ -1,0 +1,2 @@
+table log (id int, at int) key (id);
+proc note(i int) { insert log (i, now); }
