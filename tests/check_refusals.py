@@ -53,7 +53,8 @@ def side_by_side(folder):
 
 
 def runs(folder):
-    names = ["one-insert", "first-hit-wins", "provenance-of-pay", "first-hit-wins-claimed-early", "guide-bank-seal", "json-of-one-insert", "guide-bank-changed"]
+    names = ["one-insert", "first-hit-wins", "provenance-of-pay", "first-hit-wins-claimed-early", "guide-bank-seal", "json-of-one-insert", "guide-bank-changed",
+             "order-one-of-two", "order-bad-client"]
     return [Run(name, *case(name)) for name in names] + [Run("side-by-side", *side_by_side(folder)), Run("load", folder, ["load", "--number", "1"])]
 
 

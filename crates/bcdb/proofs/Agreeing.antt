@@ -12,7 +12,7 @@ use Rattle.bcdb.specs.Sources.{run_sources, simulation_sources}
 use Rattle.bcdb.specs.Refusals.{refusal_line}
 use Rattle.bcdb.specs.declared.refusal.Refusal.{Refusal}
 use Rattle.chain_file.specs.Chain.{chain}
-use Rattle.cli_words.specs.declared.settings.Settings.TheVariants.{Load, Provenance, Run, Seal, Simulate}
+use Rattle.cli_words.specs.declared.settings.Settings.TheVariants.{Load, Order, Provenance, Run, Seal, Simulate}
 use Rattle.cli_words.specs.declared.settings.Settings.{Settings}
 use Rattle.edge_traits.specs.Shelf.{Files}
 use Rattle.node_model.specs.Fold.{all_rows, node_result, results_of}
@@ -78,6 +78,7 @@ as_run (Some (Simulate app blocks schedule front flags)) files = λ kept. by (ac
 as_run (Some (Provenance app blocks query)) files = tt
 as_run (Some (Seal blocks)) files = tt
 as_run (Some (Load number)) files = tt
+as_run (Some (Order clients count most)) files = tt
 
 pub told_as_run : (settings : Option Settings) (told : Option Files) → IfSome told (AnswersAsRun settings)
 told_as_run settings None = tt

@@ -1,11 +1,13 @@
 -- Pieces of an arrival file, one after another: what was read stays a prefix of the file, and a fault that was met is the file's.
-use Rattle.std.proofs.Common.{Bool, IfSome, List, None, Option, Some, ap, arith, cond, drop, false, length, length-append, refl, subst, sym, take, true, ◌&&◌, ◌+◌, ◌++◌, ◌<◌, ◌==◌, ◌∙◌, ◌≡◌, ◌≤◌, ℕ}
+use Rattle.std.proofs.Common.{Bool, IfOk, IfSome, List, None, Option, Some, [], ap, arith, cond, drop, false, length, length-append, refl, subst, sym, take, true, ◌&&◌, ◌+◌, ◌++◌, ◌<◌, ◌==◌, ◌∙◌, ◌≡◌, ◌≤◌, ℕ}
 use Rattle.std.proofs.lemmas.List.{length-take-le, take-append-drop}
 use Rattle.std.specs.Prelude.{Err, Ok, Result, nat_lt}
 use Rattle.std.specs.Result.{IsOk}
 use Rattle.bcdb.proofs.Taken.{at_size, end_by, front_by}
 use Rattle.bcdb.specs.ArrivalReading.{HasRead, IsRead, IsWholeArrivals}
 use Rattle.edge_traits.specs.Shelf.{Files, IsPiece}
+use Rattle.order_queue.proofs.Submitted.{files_are_submissions}
+use Rattle.order_queue.specs.Orders.{IsSubmission}
 use Rattle.proc_syntax.specs.declared.call.Tx.{Tx}
 use Rattle.tx_text.specs.Arrivals.{ArrivalFaultsLast, ArrivalsAreBounded, arrivals, arrived}
 use Rattle.tx_text.specs.Feeding.{so_far}
@@ -76,3 +78,12 @@ pub told_whole : (told : Option Files) (name : List ℕ) (reader : ArrivalReader
     → ((bytes : List ℕ) → HasRead bytes reader txs → arrivals bytes ≡ result) → IfSome told (λ files. arrivals (files name) ≡ result)
 told_whole None name reader txs result read gives = tt
 told_whole (Some files) name reader txs result read gives = ap arrivals (sym read.whole) ∙ gives read.bytes read.has
+
+-- and a client may submit it, also nothing
+pub none_submitted : IsSubmission []
+none_submitted = record { few = omega arith; lines = tt }
+
+pub submits : (told : Option Files) (name : List ℕ) (reader : ArrivalReader) (txs : List Tx) (result : Result (List Tx) ℕ) → (read : IsWholeArrivals told name reader txs)
+    → ((bytes : List ℕ) → HasRead bytes reader txs → arrivals bytes ≡ result) → IfOk result IsSubmission
+submits told name reader txs (Ok submitted) read gives = files_are_submissions read.bytes submitted (gives read.bytes read.has)
+submits told name reader txs (Err line) read gives = tt

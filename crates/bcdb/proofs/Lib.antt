@@ -1,4 +1,5 @@
 pub mod Accepting
+pub mod Drafts
 pub mod Ends
 pub mod Turns
 pub mod Queries

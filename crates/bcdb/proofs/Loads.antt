@@ -6,8 +6,8 @@ use Rattle.load_gen.specs.Blocks.{later_block, load_blocks}
 
 later_numbered : (number first count : ℕ) → NumberedFrom first (map (later_block number) (range_with_len first count))
 later_numbered number first zero = tt
-later_numbered number first (suc count) = (refl, refl, later_numbered number (first + 1) count)
+later_numbered number first (suc count) = (refl, later_numbered number (first + 1) count)
 
 pub loads_numbered : (number : ℕ) → NumberedFrom 1 (load_blocks number)
 unfolding load_blocks
-loads_numbered number = (refl, refl, later_numbered number 2 40)
+loads_numbered number = (refl, later_numbered number 2 40)

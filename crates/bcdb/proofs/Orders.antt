@@ -9,7 +9,7 @@ use Rattle.bcdb.specs.declared.refusal.Refusal.{Refusal}
 use Rattle.chain_file.proofs.Counted.{file_numbered}
 use Rattle.chain_file.specs.Chain.{chain}
 use Rattle.chain_file.specs.Numbered.{NumberedFrom}
-use Rattle.cli_words.specs.declared.settings.Settings.TheVariants.{Load, Provenance, Run, Seal, Simulate}
+use Rattle.cli_words.specs.declared.settings.Settings.TheVariants.{Load, Order, Provenance, Run, Seal, Simulate}
 use Rattle.cli_words.specs.declared.settings.Settings.{Settings}
 use Rattle.edge_traits.specs.Shelf.{Files}
 use Rattle.node_model.specs.Fold.{results_of}
@@ -28,7 +28,7 @@ use Rattle.serial_laws.specs.Chained.{AreNumbered}
 
 numbered : (number : ℕ) (blocks : List Block) → NumberedFrom number blocks → AreNumbered number blocks
 numbered number [] are = tt
-numbered number (block ∷ rest) are = (are.0, numbered (number + 1) rest are.2)
+numbered number (block ∷ rest) are = (are.0, numbered (number + 1) rest are.1)
 
 -- blocks of a file are numbered as the nodes want them
 pub numbered_from : (blocks taken : List Block) → taken ≡ blocks → NumberedFrom 1 blocks → AreNumbered 1 taken
@@ -64,6 +64,7 @@ runs_in_order (Some (Simulate app blocks schedule front flags)) files =
 runs_in_order (Some (Provenance app blocks query)) files = tt
 runs_in_order (Some (Seal blocks)) files = tt
 runs_in_order (Some (Load number)) files = tt
+runs_in_order (Some (Order clients count most)) files = tt
 
 pub told_in_order : (settings : Option Settings) (told : Option Files) → IfSome told (RunsInOrder settings)
 told_in_order settings None = tt

@@ -48,7 +48,7 @@ told_history app blocks history ids results holds =
 
 run_from : (number : ℕ) (blocks : List Block) → NumberedFrom number blocks → map (λ block. block.number) blocks ≡ range_with_len number (length (map (λ block. block.number) blocks))
 run_from number [] are = refl
-run_from number (block ∷ rest) are = ap (λ n. n ∷ map (λ (b : Block). b.number) rest) are.0 ∙ ap (λ numbers. number ∷ numbers) (run_from (number + 1) rest are.2)
+run_from number (block ∷ rest) are = ap (λ n. n ∷ map (λ (b : Block). b.number) rest) are.0 ∙ ap (λ numbers. number ∷ numbers) (run_from (number + 1) rest are.1)
 
 -- and each write of them stands at the place of a transaction
 pub told_places : (app : App) (blocks : List Block) (history : List Stamped) (ids : IdIndex) (results : List BlockResult) → NumberedFrom 1 blocks → HoldsFold app blocks history ids results → AreTold results

@@ -4,7 +4,7 @@ use Rattle.std.proofs.lemmas.List.{length-take-le, take-append-drop, take_all}
 use Rattle.bcdb.specs.Reading.{HasFault, IsRead, IsWholeChain}
 use Rattle.chain_file.specs.Chain.{chain, lasting}
 use Rattle.chain_file.specs.Files.{FaultsLast, FilesAreBounded}
-use Rattle.chain_file.specs.Text.{longest_draft}
+use Rattle.chain_file.specs.Text.{longest_file}
 use Rattle.edge_traits.proofs.Fronts.{told_grows}
 use Rattle.edge_traits.specs.Shelf.{Files, IsPiece}
 use Rattle.proc_syntax.specs.declared.chain_fault.ChainFault.{ChainFault}
@@ -41,8 +41,8 @@ module _ (told : Option Files) (name buffer : List ℕ) (at count : ℕ) (old ne
   goes_on fault took is none = record { bytes = both; size = size; follows = took; clear = sym is ∙ none; front = at_size told name both (at + count) size front }
 
   -- and has not gone past the longest file
-  pub within : FilesAreBounded → (fault : Option ChainFault) → fault ≡ lasting (chain both).1 → fault ≡ None → at + count ≤ longest_draft
-  within bounded fault is none = subst (λ n. n ≤ longest_draft) size (bounded both (sym is ∙ none))
+  pub within : FilesAreBounded → (fault : Option ChainFault) → fault ≡ lasting (chain both).1 → fault ≡ None → at + count ≤ longest_file
+  within bounded fault is none = subst (λ n. n ≤ longest_file) size (bounded both (sym is ∙ none))
 
   whole_by : (told : Option Files) → IfSome told (λ files. both ≡ take (length both) (files name)) → FaultsLast → (found : ChainFault) → lasting (chain both).1 ≡ Some found
       → IfSome told (λ files. chain (files name) ≡ ((chain both).0, Some found))

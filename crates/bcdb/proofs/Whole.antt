@@ -1,5 +1,6 @@
 -- The answer is whole exactly where nothing is refused.
-use Rattle.std.proofs.Common.{IfSome, List, None, Option, Some, [], ap, inl, inr, refl, subst, sym, ◌∙◌, ◌≡◌, ◌⊎◌, ℕ}
+use Rattle.std.proofs.Common.{Bool, IfSome, List, None, Option, Some, [], ap, cond, false, inl, inr, refl, subst, sym, true, ◌∙◌, ◌≡◌, ◌≤◌, ◌⊎◌, ℕ}
+use Rattle.std.proofs.lemmas.Bool.{le-leb, leb-true}
 use Rattle.std.specs.Prelude.{Err, IsOk, Ok, Result}
 use Rattle.bcdb.proofs.Ends.{ends_refused, ends_short}
 use Rattle.bcdb.proofs.Planning.{all_sound, both_sound, first_sound, rest_sound, sound_all}
@@ -7,8 +8,10 @@ use Rattle.bcdb.specs.Accepted.{accepted}
 use Rattle.bcdb.specs.Answer.{Writes, over_settings, read_refused, usage_refused}
 use Rattle.bcdb.specs.ArrivalFiles.{all_arrived, arrived_before, arrived_in, file_at}
 use Rattle.bcdb.specs.LoadAnswer.{over_load}
+use Rattle.bcdb.specs.OrderAnswer.{IsFew, blocks_needed, is_few, over_order}
 use Rattle.bcdb.specs.Plan.{AppFile, AreSound, BlocksFile, RoseAt, RoseIn, ScheduleFile, arrivals_plan, plan_from_arrivals, plan_from_schedule, plan_of, planned, planned_if, sources_plan}
-use Rattle.bcdb.specs.ProgramAnswer.{ProgramAnswer, look_of, status_of}
+use Rattle.bcdb.specs.ProgramAnswer.{ProgramAnswer, look_of, says, status_of}
+use Rattle.bcdb.specs.Refusals.{order_refusal}
 use Rattle.bcdb.specs.RunAnswer.{over_nodes, over_run}
 use Rattle.bcdb.specs.SealAnswer.{sealed}
 use Rattle.bcdb.specs.Selected.{selected}
@@ -20,12 +23,14 @@ use Rattle.bcdb.specs.Whole.{IsWhole, SealsAll, Selects}
 use Rattle.bcdb.specs.declared.refusal.BadArrivals.{BadArrivals}
 use Rattle.bcdb.specs.declared.refusal.Refusal.{Refusal}
 use Rattle.bcdb.specs.declared.sources.Sources.{Sources}
-use Rattle.bcdb.specs.declared.status.Status.TheVariants.{AppRefused, ArrivalRefused, ChainRefused, Done, NoMemory, QueryRefused, ReadFault, ScheduleRefused, Usage, WriteFault}
+use Rattle.bcdb.specs.declared.status.Status.TheVariants.{AppRefused, ArrivalRefused, ChainRefused, Done, NoMemory, OrderRefused, QueryRefused, ReadFault, ScheduleRefused, Usage, WriteFault}
 use Rattle.bcdb.specs.declared.status.Status.{Status}
 use Rattle.chain_file.specs.Chain.{chain}
+use Rattle.chain_file.specs.Headers.{version_of}
+use Rattle.chain_file.specs.declared.form.ChainVersion.{ChainVersion}
 use Rattle.cli_words.specs.declared.settings.WordsFault.TheVariants as fault
 use Rattle.cli_words.specs.declared.settings.WordsFault.{WordsFault}
-use Rattle.cli_words.specs.declared.settings.Settings.TheVariants.{Load, Provenance, Run, Seal, Simulate}
+use Rattle.cli_words.specs.declared.settings.Settings.TheVariants.{Load, Order, Provenance, Run, Seal, Simulate}
 use Rattle.cli_words.specs.declared.settings.Settings.{Settings}
 use Rattle.edge_traits.specs.Causes.{Counts}
 use Rattle.edge_traits.specs.Shelf.{Files}
@@ -130,13 +135,17 @@ query_done : (query : List ℕ) (found : Result App Refusal) (bytes : List ℕ) 
 query_done query (Err refusal) bytes faultless selects = absurd selects
 query_done query (Ok app) bytes faultless selects = versions_done _ (chain bytes).1 (selected app (chain bytes).0 (query_of query)) faultless selects
 
-sealed_done : (blocks : List Block) (stop : Option ChainFault) → stop ≡ None → (sealed blocks stop).status ≡ Done
-sealed_done blocks None faultless = refl
-sealed_done blocks (Some fault) faultless = absurd (cc)
+sealed_done : (version : Option ChainVersion) (blocks : List Block) (stop : Option ChainFault) → stop ≡ None → (sealed version blocks stop).status ≡ Done
+sealed_done version blocks None faultless = refl
+sealed_done version blocks (Some fault) faultless = absurd (cc)
 
 load_done : (number : ℕ) (found : Result App Refusal) → IsOk found → (over_load number found).status ≡ Done
 load_done number (Err refusal) ok = absurd (cc)
 load_done number (Ok app) ok = refl
+
+order_done : (most : ℕ) (found : Result (List (List Tx)) BadArrivals) → IsFew most found → (over_order most found).status ≡ Done
+order_done most (Err bad) few = absurd few
+order_done most (Ok clients) few = ap (λ b. (cond b (says Done []) (says OrderRefused (order_refusal (blocks_needed clients most)))).status) (le-leb (blocks_needed clients most) 1000000 few)
 
 pub whole_done : (settings : Option Settings) (files : Files) → IsWhole settings files → (over_settings settings files).status ≡ Done
 whole_done None files whole = absurd whole.1
@@ -151,8 +160,9 @@ whole_done (Some (Simulate app blocks schedule arrivals flags)) files whole =
 whole_done (Some (Provenance app blocks query)) files whole =
     let all = all_of (query_sources app blocks) files whole.0 in
     query_done query (accepted (files app)) (files blocks) all.blocks whole.1
-whole_done (Some (Seal blocks)) files whole = sealed_done (chain (files blocks)).0 (chain (files blocks)).1 whole.0.0
+whole_done (Some (Seal blocks)) files whole = sealed_done (version_of (files blocks)) (chain (files blocks)).0 (chain (files blocks)).1 whole.0.0
 whole_done (Some (Load number)) files whole = load_done number (accepted app_text) whole.1
+whole_done (Some (Order clients count most)) files whole = order_done most (all_arrived (Some clients) 1 count files) whole.1
 
 -- ---- and only there
 
@@ -205,13 +215,22 @@ done_query : (query : List ℕ) (found : Result App Refusal) (bytes : List ℕ) 
 done_query query (Err refusal) bytes is = absurd (cc)
 done_query query (Ok app) bytes is = (refl, done_versions _ (chain bytes).1 (selected app (chain bytes).0 (query_of query)) is)
 
-done_sealed : (blocks : List Block) (stop : Option ChainFault) → (sealed blocks stop).status ≡ Done → stop ≡ None
-done_sealed blocks None is = refl
-done_sealed blocks (Some fault) is = absurd (cc)
+done_sealed : (version : Option ChainVersion) (blocks : List Block) (stop : Option ChainFault) → (sealed version blocks stop).status ≡ Done → stop ≡ None
+done_sealed version blocks None is = refl
+done_sealed version blocks (Some fault) is = absurd (cc)
 
 done_load : (number : ℕ) (found : Result App Refusal) → (over_load number found).status ≡ Done → IsOk found
 done_load number (Err refusal) is = absurd (cc)
 done_load number (Ok app) is = refl
+
+few_done : (clients : List (List Tx)) (most : ℕ) (few : Bool) → is_few clients most ≡ few → (cond few (says Done []) (says OrderRefused (order_refusal (blocks_needed clients most)))).status ≡ Done
+    → blocks_needed clients most ≤ 1000000
+few_done clients most true e is = leb-true (blocks_needed clients most) 1000000 e
+few_done clients most false e is = absurd (cc)
+
+done_order : (most : ℕ) (found : Result (List (List Tx)) BadArrivals) → (over_order most found).status ≡ Done → IsOk found × IsFew most found
+done_order most (Err bad) is = absurd (cc)
+done_order most (Ok clients) is = (refl, few_done clients most (is_few clients most) refl is)
 
 pub done_whole : (settings : Option Settings) (files : Files) → (over_settings settings files).status ≡ Done → IsWhole settings files
 done_whole None files is = absurd (cc)
@@ -226,8 +245,11 @@ done_whole (Some (Simulate app blocks schedule arrivals flags)) files is =
 done_whole (Some (Provenance app blocks query)) files is =
     let done = done_query query (accepted (files app)) (files blocks) is in
     (of_all (query_sources app blocks) files (record { app = done.0; arrivals = refl; schedule = refl; blocks = done.1.0 }), done.1.1)
-done_whole (Some (Seal blocks)) files is = ((done_sealed (chain (files blocks)).0 (chain (files blocks)).1 is, tt), tt)
+done_whole (Some (Seal blocks)) files is = ((done_sealed (version_of (files blocks)) (chain (files blocks)).0 (chain (files blocks)).1 is, tt), tt)
 done_whole (Some (Load number)) files is = (tt, done_load number (accepted app_text) is)
+done_whole (Some (Order clients count most)) files is =
+    let done = done_order most (all_arrived (Some clients) 1 count files) is in
+    (all_sound (Some clients) 1 count files done.0, done.1)
 
 -- ---- how a call ends
 
@@ -241,6 +263,7 @@ writes_status meant ChainRefused before now wrote = inr wrote.0
 writes_status meant ArrivalRefused before now wrote = inr wrote.0
 writes_status meant ScheduleRefused before now wrote = inr wrote.0
 writes_status meant QueryRefused before now wrote = inr wrote.0
+writes_status meant OrderRefused before now wrote = inr wrote.0
 writes_status meant NoMemory before now wrote = inr wrote.0
 writes_status meant WriteFault before now wrote = inl refl
 

@@ -1,7 +1,9 @@
 -- What the program means to answer, over whole files: by its words, and for each command by a file of its own.
 use Rattle.std.specs.Prelude.{List, None, Option, Some, codes, ◌≡◌, ℕ}
 use Rattle.bcdb.specs.Accepted.{accepted}
+use Rattle.bcdb.specs.ArrivalFiles.{all_arrived}
 use Rattle.bcdb.specs.LoadAnswer.{over_load}
+use Rattle.bcdb.specs.OrderAnswer.{over_order}
 use Rattle.bcdb.specs.ProgramAnswer.{ProgramAnswer, look_of, says}
 use Rattle.bcdb.specs.RunAnswer.{over_run}
 use Rattle.bcdb.specs.SealAnswer.{sealed}
@@ -11,8 +13,9 @@ use Rattle.bcdb.specs.VersionsAnswer.{over_query}
 use Rattle.bcdb.specs.declared.status.Status.TheVariants.{NoMemory, ReadFault, Usage, WriteFault}
 use Rattle.bcdb.specs.declared.status.Status.{Status}
 use Rattle.chain_file.specs.Chain.{chain}
+use Rattle.chain_file.specs.Headers.{version_of}
 use Rattle.cli_words.specs.Language.{settings_of}
-use Rattle.cli_words.specs.declared.settings.Settings.TheVariants.{Load, Provenance, Run, Seal, Simulate}
+use Rattle.cli_words.specs.declared.settings.Settings.TheVariants.{Load, Order, Provenance, Run, Seal, Simulate}
 use Rattle.cli_words.specs.declared.settings.Settings.{Settings}
 use Rattle.edge_traits.specs.Shelf.{Files}
 use Rattle.edge_traits.specs.Sink.{WroteFront, appended}
@@ -29,8 +32,9 @@ over_settings (Some (Run app blocks arrivals nodes executors flags)) files = ove
 over_settings (Some (Simulate app blocks schedule arrivals flags)) files =
     over_simulation (look_of flags) (simulation_sources app blocks schedule arrivals) (accepted (files app)) files
 over_settings (Some (Provenance app blocks query)) files = over_query query (accepted (files app)) (files blocks)
-over_settings (Some (Seal blocks)) files = sealed (chain (files blocks)).0 (chain (files blocks)).1
+over_settings (Some (Seal blocks)) files = sealed (version_of (files blocks)) (chain (files blocks)).0 (chain (files blocks)).1
 over_settings (Some (Load number)) files = over_load number (accepted app_text)
+over_settings (Some (Order clients count most)) files = over_order most (all_arrived (Some clients) 1 count files)
 
 -- what the words mean over files
 abbrev pub answer : List (List ℕ) → Files → ProgramAnswer

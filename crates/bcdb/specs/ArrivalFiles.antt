@@ -1,4 +1,4 @@
--- What arrives at the nodes: a file for each, by its number.
+-- What arrives at the nodes, or what the clients submit: a file for each, by its number.
 use Rattle.std.specs.Prelude.{Err, List, None, Ok, Option, Result, Some, [], decimal, suc, zero, ◌+◌, ◌++◌, ◌∷◌, ℕ}
 use Rattle.bcdb.specs.declared.refusal.BadArrivals.{BadArrivals}
 use Rattle.edge_traits.specs.Shelf.{Files}
@@ -6,7 +6,7 @@ use Rattle.proc_syntax.specs.declared.call.Tx.{Tx}
 use Rattle.std.specs.Option.{option_map}
 use Rattle.tx_text.specs.Arrivals.{arrivals}
 
--- the file of what arrives at a node is named by the words, and after these the node's number
+-- the file of a node or a client is named by the words, and after these its number
 abbrev pub node_file : List ℕ → ℕ → List ℕ
 node_file prefix node = prefix ++ decimal node
 

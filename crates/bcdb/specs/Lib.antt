@@ -9,6 +9,7 @@ pub mod Given
 pub mod InOrder
 pub mod LoadAnswer
 pub mod Numbers
+pub mod OrderAnswer
 pub mod Plan
 pub mod ProgramAnswer
 pub mod Reading

@@ -9,7 +9,7 @@ use Rattle.bcdb.specs.declared.fault.FilesFault.TheVariants as fault
 use Rattle.bcdb.specs.declared.fault.FilesFault.{FilesFault}
 use Rattle.bcdb.specs.declared.sources.Sources.{Sources}
 use Rattle.chain_file.specs.Chain.{chain, lasting}
-use Rattle.cli_words.specs.declared.settings.Settings.TheVariants.{Load, Provenance, Run, Seal, Simulate}
+use Rattle.cli_words.specs.declared.settings.Settings.TheVariants.{Load, Order, Provenance, Run, Seal, Simulate}
 use Rattle.cli_words.specs.declared.settings.Settings.{Settings}
 use Rattle.edge_traits.specs.Causes.{AllowsFront, Counts, Leave, Rose}
 use Rattle.edge_traits.specs.Shelf.{Files}
@@ -46,7 +46,7 @@ abbrev pub planned_if : FileKind → Option (List ℕ) → List PlannedFile
 planned_if kind None = []
 planned_if kind (Some name) = planned kind name
 
--- what arrives at so many nodes, which are numbered one after another
+-- what arrives at so many nodes, or what so many clients submit; they are numbered one after another
 abbrev pub arrivals_plan : Option (List ℕ) → (node count : ℕ) → List PlannedFile
 arrivals_plan prefix node zero = []
 arrivals_plan prefix node (suc count) = planned_if CallsFile (file_at prefix node) ++ arrivals_plan prefix (node + 1) count
@@ -69,6 +69,7 @@ plan_of (Some (Simulate app blocks schedule arrivals flags)) = sources_plan (sim
 plan_of (Some (Provenance app blocks query)) = sources_plan (query_sources app blocks)
 plan_of (Some (Seal blocks)) = planned BlocksFile blocks
 plan_of (Some (Load number)) = []
+plan_of (Some (Order clients count most)) = arrivals_plan (Some clients) 1 count
 
 -- each file is what it must be
 abbrev pub AreSound : List PlannedFile → Files → Type 0

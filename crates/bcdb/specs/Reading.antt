@@ -5,7 +5,7 @@ use Rattle.bcdb.specs.declared.blocks.ChainPiece.TheVariants as step
 use Rattle.bcdb.specs.declared.intake.Gatherer.{Gatherer}
 use Rattle.chain_file.specs.Chain.{chain, lasting}
 use Rattle.chain_file.specs.Following.{WasFed}
-use Rattle.chain_file.specs.Text.{longest_draft}
+use Rattle.chain_file.specs.Text.{longest_file}
 use Rattle.edge_traits.specs.Shelf.{Files}
 use Rattle.proc_syntax.specs.declared.chain_fault.ChainFault.{ChainFault}
 
@@ -40,6 +40,6 @@ HasRead told name took (Some fault) = HasFault told name took fault
 
 -- what one more piece of a file comes to, where so many bytes were taken before it
 abbrev pub LeadsTo : ChainPiece → Option Files → List ℕ → ℕ → (List ℕ → Type 0) → Type 0
-LeadsTo (step.More count) told name at took = (0 < count) × (at + count ≤ longest_draft) × IsRead told name (at + count) took
+LeadsTo (step.More count) told name at took = (0 < count) × (at + count ≤ longest_file) × IsRead told name (at + count) took
 LeadsTo step.End told name at took = IsWholeChain told name took
 LeadsTo (step.Stop fault) told name at took = HasFault told name took fault

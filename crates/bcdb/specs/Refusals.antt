@@ -1,4 +1,4 @@
--- The lines that say why an application, what arrives, a schedule or a query is refused.
+-- The lines that say why an application, what arrives, a schedule, a query or an order is refused.
 use Rattle.std.specs.Prelude.{List, codes, decimal, ◌++◌, ℕ}
 use Rattle.bcdb.specs.declared.refusal.BadArrivals.{BadArrivals}
 use Rattle.bcdb.specs.declared.refusal.Refusal.{Refusal}
@@ -44,7 +44,7 @@ query_refusal fault = codes "refused query " ++ fault_text fault ++ codes "\n"
 abbrev pub numbered_refusal : List ℕ → ℕ → List ℕ
 numbered_refusal what number = codes "refused " ++ what ++ codes " " ++ decimal number ++ codes "\n"
 
--- `refused arrivals NODE LINE`
+-- `refused arrivals NODE LINE`, and of an order `refused arrivals CLIENT LINE`
 abbrev pub arrivals_refusal : BadArrivals → List ℕ
 arrivals_refusal bad = numbered_refusal (codes "arrivals " ++ decimal bad.node) bad.line
 
@@ -55,3 +55,7 @@ schedule_refusal line = numbered_refusal (codes "schedule line") line
 -- `refused schedule short SEALED`: so many blocks are sealed
 abbrev pub short_refusal : ℕ → List ℕ
 short_refusal sealed = numbered_refusal (codes "schedule short") sealed
+
+-- `refused order BLOCKS`: so many blocks are needed
+abbrev pub order_refusal : ℕ → List ℕ
+order_refusal needed = numbered_refusal (codes "order") needed

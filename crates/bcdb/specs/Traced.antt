@@ -1,8 +1,9 @@
--- The journals that follow the report of a run, if they are asked for.
+-- What follows an answer: after the report of a run its journals, if they are asked for, and of an order its draft.
 use Rattle.std.specs.Prelude.{All, Bool, Err, List, Ok, Option, Result, Some, [], false, length, true, ◌++◌, ◌≡◌, ◌⊎◌, ℕ}
 use Rattle.bcdb.specs.Accepted.{accepted}
 use Rattle.bcdb.specs.Answer.{Writes, over_settings}
 use Rattle.bcdb.specs.ArrivalFiles.{all_arrived}
+use Rattle.bcdb.specs.OrderAnswer.{FollowsOrder, over_order}
 use Rattle.bcdb.specs.ProgramAnswer.{ProgramAnswer, look_of, says}
 use Rattle.bcdb.specs.Reply.{Means}
 use Rattle.bcdb.specs.RunAnswer.{nodes_reported, over_run}
@@ -14,7 +15,7 @@ use Rattle.bcdb.specs.declared.sources.Sources.{Sources}
 use Rattle.bcdb.specs.declared.status.Status.TheVariants.{NoMemory}
 use Rattle.bcdb.specs.declared.status.Status.{Status}
 use Rattle.chain_file.specs.Chain.{chain}
-use Rattle.cli_words.specs.declared.settings.Settings.TheVariants.{Run}
+use Rattle.cli_words.specs.declared.settings.Settings.TheVariants.{Order, Run}
 use Rattle.cli_words.specs.declared.settings.Settings.{Settings}
 use Rattle.cluster_run.specs.Nodes.{IsNodeOf}
 use Rattle.edge_traits.specs.Shelf.{Files}
@@ -50,19 +51,23 @@ FollowsRun look asked (Ok app) files lines = FollowsNodes look asked.nodes app (
 -- and none after what other commands answer
 abbrev pub Follows : Option Settings → Files → List ℕ → Type 0
 Follows (Some (Run app blocks arrivals nodes executors flags)) files lines = FollowsRun (look_of flags) (run_sources app blocks arrivals nodes) (accepted (files app)) files lines
+Follows (Some (Order clients count most)) files lines = FollowsOrder most (all_arrived (Some clients) 1 count files) lines
 Follows settings files lines = lines ≡ []
 
 -- an answer, and lines that follow it
 abbrev pub followed_by : List ℕ → ProgramAnswer → ProgramAnswer
 followed_by lines meant = says meant.status (meant.bytes ++ lines)
 
--- a reply has the answer and what may follow it: of nodes that ran, of a run over files, and of each command
+-- a reply has the answer and what may follow it: of nodes that ran, of a run over files, of an order, and of each command
 abbrev pub RepliesNodes : Look → (nodes : ℕ) → App → List Block → Option ChainFault → Reply → Type 0
 RepliesNodes look nodes app blocks stop reply =
     (lines : List ℕ) × (AreJournals look.trace app blocks nodes lines × Means (followed_by lines (nodes_reported look nodes app blocks stop)) reply)
 
 abbrev pub RepliesRun : Look → Sources → Result App Refusal → Files → Reply → Type 0
 RepliesRun look asked found files reply = (lines : List ℕ) × (FollowsRun look asked found files lines × Means (followed_by lines (over_run look asked found files)) reply)
+
+abbrev pub RepliesOrder : (most : ℕ) → Result (List (List Tx)) BadArrivals → Reply → Type 0
+RepliesOrder most found reply = (lines : List ℕ) × (FollowsOrder most found lines × Means (followed_by lines (over_order most found)) reply)
 
 abbrev pub Replies : Option Settings → Files → Reply → Type 0
 Replies settings files reply = (lines : List ℕ) × (Follows settings files lines × Means (followed_by lines (over_settings settings files)) reply)

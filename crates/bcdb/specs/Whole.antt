@@ -1,12 +1,13 @@
 -- What nothing is refused of: the words are in the language, each file that the command reads is what it must be, and what is asked of them is accepted.
 use Rattle.std.specs.Prelude.{Err, IsOk, List, None, Ok, Option, Result, Some, ℕ}
 use Rattle.bcdb.specs.Accepted.{accepted}
-use Rattle.bcdb.specs.ArrivalFiles.{arrived_in, file_at}
+use Rattle.bcdb.specs.ArrivalFiles.{all_arrived, arrived_in, file_at}
+use Rattle.bcdb.specs.OrderAnswer.{IsFew}
 use Rattle.bcdb.specs.Plan.{AreSound, plan_of}
 use Rattle.bcdb.specs.Selected.{selected}
 use Rattle.bcdb.specs.declared.refusal.Refusal.{Refusal}
 use Rattle.chain_file.specs.Chain.{chain}
-use Rattle.cli_words.specs.declared.settings.Settings.TheVariants.{Load, Provenance, Run, Seal, Simulate}
+use Rattle.cli_words.specs.declared.settings.Settings.TheVariants.{Load, Order, Provenance, Run, Seal, Simulate}
 use Rattle.cli_words.specs.declared.settings.Settings.{Settings}
 use Rattle.edge_traits.specs.Shelf.{Files}
 use Rattle.load_gen.specs.Application.{app_text}
@@ -38,6 +39,7 @@ IsAccepted (Some (Simulate app blocks schedule arrivals flags)) files =
 IsAccepted (Some (Provenance app blocks query)) files = Selects query (accepted (files app)) (files blocks)
 IsAccepted (Some (Seal blocks)) files = Unit {0}
 IsAccepted (Some (Load number)) files = IsOk (accepted app_text)
+IsAccepted (Some (Order clients count most)) files = IsFew most (all_arrived (Some clients) 1 count files)
 
 abbrev pub IsWhole : Option Settings → Files → Type 0
 IsWhole settings files = AreSound (plan_of settings) files × IsAccepted settings files

@@ -5,6 +5,7 @@ ghost use Rattle.bcdb.specs.ArrivalFiles.{arrived_in};
 ghost use Rattle.bcdb.specs.ArrivalReading.{LeadsTo, HasRead, IsRead, TakesLines};
 ghost use Rattle.bcdb.specs.Plan.{AllowsCalls, AllowsPlan, CallsFile, Counted, RoseAt, planned_if};
 ghost use Rattle.edge_traits.specs.Causes.{Keeps, Rose};
+ghost use Rattle.order_queue.specs.Orders.{IsSubmission};
 ghost use Rattle.tx_text.specs.Arrivals.{ArrivalFaultsLast, ArrivalsAreBounded, arrivals};
 
 use crate::fault::FilesFault;
@@ -94,7 +95,7 @@ fn read_piece<S: Shelf>(
 }
 
 // Reads a file from its start, by a buffer that has room.
-#[tactic(auto, using(crate::proofs::Arriving::told_whole))]
+#[tactic(auto, using(crate::proofs::Arriving::told_whole, crate::proofs::Arriving::submits))]
 fn read_through<S: Shelf>(
     alloc: Global,
     shelf: &mut S,
@@ -104,6 +105,7 @@ fn read_through<S: Shelf>(
     requires allowed { AllowsCalls (S.told shelf.old) (S.may_read shelf.old) name.now }
     requires room { length buffer.old ≡ 65536 }
     ensures told { IfOk result (λ read. IfSome (S.told shelf.old) (λ files. arrivals (files name.now) ≡ read)) }
+    ensures submission { IfOk result (λ read. IfOk read IsSubmission) }
     ensures same { S.told shelf.new ≡ S.told shelf.old }
     ensures allowed { Keeps (S.may_read shelf.old) (S.may_read shelf.new) }
     ensures counted { Counted result (Rose (S.faults shelf.old name.now) (S.faults shelf.new name.now)) (S.faults shelf.old) (S.faults shelf.new) }
@@ -131,7 +133,7 @@ fn read_through<S: Shelf>(
     }
 }
 
-// The transactions of a file, or its first line with a fault.
+// The transactions of a file, which a client may submit, or its first line with a fault.
 fn read_file<S: Shelf>(
     alloc: Global,
     shelf: &mut S,
@@ -139,6 +141,7 @@ fn read_file<S: Shelf>(
 ) -> Result<Result<List<Tx>, u64>, FilesFault>
     requires allowed { AllowsCalls (S.told shelf.old) (S.may_read shelf.old) name.now }
     ensures told { IfOk result (λ read. IfSome (S.told shelf.old) (λ files. arrivals (files name.now) ≡ read)) }
+    ensures submission { IfOk result (λ read. IfOk read IsSubmission) }
     ensures same { S.told shelf.new ≡ S.told shelf.old }
     ensures allowed { Keeps (S.may_read shelf.old) (S.may_read shelf.new) }
     ensures counted { Counted result (Rose (S.faults shelf.old name.now) (S.faults shelf.new name.now)) (S.faults shelf.old) (S.faults shelf.new) }
@@ -151,7 +154,7 @@ fn read_file<S: Shelf>(
 ///
 /// Each call to the shelf asks for 65,536 bytes, and none is made once the fault is met: a file is asked for no byte after the
 /// piece that has its fault. A read that fails is not tried again.
-#[tactic(auto, using(crate::proofs::Planning::counted_one))]
+#[tactic(auto, using(crate::proofs::Planning::counted_one, crate::proofs::Arriving::none_submitted))]
 pub fn read_arrivals<S: Shelf>(
     alloc: Global,
     shelf: &mut S,
@@ -159,6 +162,7 @@ pub fn read_arrivals<S: Shelf>(
 ) -> Result<Result<List<Tx>, u64>, FilesFault>
     requires allowed { AllowsPlan (planned_if CallsFile name.now) (S.told shelf.old) (S.may_read shelf.old) }
     ensures told { IfOk result (λ read. IfSome (S.told shelf.old) (λ files. arrived_in name.now files ≡ read)) }
+    ensures submission { IfOk result (λ read. IfOk read IsSubmission) }
     ensures same { S.told shelf.new ≡ S.told shelf.old }
     ensures allowed { Keeps (S.may_read shelf.old) (S.may_read shelf.new) }
     ensures counted { Counted result (RoseAt (planned_if CallsFile name.now) (S.faults shelf.old) (S.faults shelf.new)) (S.faults shelf.old) (S.faults shelf.new) }

@@ -7,6 +7,7 @@ ghost use Rattle.cli_words.specs.Language.{AreWithin};
 
 use crate::fault::FilesFault;
 use crate::loading::answer_load;
+use crate::ordering::answer_order;
 use crate::querying::answer_query;
 use crate::reply::{Reply, look_of};
 use crate::running::answer_run;
@@ -72,5 +73,15 @@ pub fn reply_to<R: Threads + Wait + Sync, S: Shelf, G: Gate>(
         }
         Settings::Seal { blocks } => seal_file(alloc, shelf, blocks.as_str()),
         Settings::Load { number } => Ok(answer_load(rt, alloc, number, gate)?),
+        Settings::Order {
+            clients,
+            count,
+            most,
+        } => {
+            let prefix = Some(clients);
+            let reply = answer_order(rt, alloc, shelf, &prefix, count, most);
+            drop(prefix);
+            reply
+        }
     }
 }

@@ -1,6 +1,6 @@
 //! A permissioned blockchain database: runs a file of blocks on an application, on one node or several whose executors run what arrives
 //! meanwhile, or as a schedule says, and prints outcomes and tables, or the versions that a query selects; or writes the blocks as a chain.
-//! It also runs blocks that are generated from a number.
+//! It also runs blocks that are generated from a number, and puts what clients submit at once into blocks.
 #![tactic(auto)]
 
 pub mod application;
@@ -12,6 +12,7 @@ pub mod given;
 pub mod intake;
 pub mod loading;
 pub mod node_arrivals;
+pub mod ordering;
 pub mod plain;
 pub mod querying;
 pub mod refusal;

@@ -1,9 +1,10 @@
-//! What arrives at the nodes of a run: a file for each, read one after another.
+//! What arrives at the nodes of a run, or what the clients of an order submit: a file for each, read one after another.
 
-ghost use Rattle.std.specs.Prelude.{◌≡◌, IfOk, IfSome, IsErrOf, length};
+ghost use Rattle.std.specs.Prelude.{◌≡◌, All, IfOk, IfSome, IsErrOf, length};
 ghost use Rattle.bcdb.specs.ArrivalFiles.{all_arrived, arrived_in, file_at, node_file};
 ghost use Rattle.bcdb.specs.Plan.{AllowsPlan, CallsFile, Counted, RoseAt, RoseIn, arrivals_plan, planned_if};
 ghost use Rattle.edge_traits.specs.Causes.{Keeps};
+ghost use Rattle.order_queue.specs.Orders.{IsSubmission};
 
 use crate::arrivals::read_arrivals;
 use crate::fault::FilesFault;
@@ -44,6 +45,7 @@ fn read_node<S: Shelf>(
 ) -> Result<Result<List<Tx>, u64>, FilesFault>
     requires allowed { AllowsPlan (planned_if CallsFile (file_at prefix.now node)) (S.told shelf.old) (S.may_read shelf.old) }
     ensures told { IfOk result (λ read. IfSome (S.told shelf.old) (λ files. arrived_in (file_at prefix.now node) files ≡ read)) }
+    ensures submission { IfOk result (λ read. IfOk read IsSubmission) }
     ensures same { S.told shelf.new ≡ S.told shelf.old }
     ensures allowed { Keeps (S.may_read shelf.old) (S.may_read shelf.new) }
     ensures counted { Counted result (RoseAt (planned_if CallsFile (file_at prefix.now node)) (S.faults shelf.old) (S.faults shelf.new)) (S.faults shelf.old) (S.faults shelf.new) }
@@ -65,6 +67,7 @@ pub fn read_all_arrivals<S: Shelf>(
     requires allowed { AllowsPlan (arrivals_plan prefix.now 1 nodes) (S.told shelf.old) (S.may_read shelf.old) }
     ensures told { IfOk result (λ read. IfSome (S.told shelf.old) (λ files. all_arrived prefix.now 1 nodes files ≡ read)) }
     ensures all { IfOk result (λ read. IfOk read (λ txs. length txs ≡ nodes)) }
+    ensures submissions { IfOk result (λ read. IfOk read (All IsSubmission)) }
     ensures same { S.told shelf.new ≡ S.told shelf.old }
     ensures allowed { Keeps (S.may_read shelf.old) (S.may_read shelf.new) }
     ensures turn { IsErrOf result FilesFault.Failed → IfSome (S.told shelf.old) (λ files. RoseIn (arrivals_plan prefix.now 1 nodes) files (S.faults shelf.old) (S.faults shelf.new)) }

@@ -1,7 +1,7 @@
-//! Why an application, what arrives, a schedule or a query is refused, and the line that says so.
+//! Why an application, what arrives, a schedule, a query or an order is refused, and the line that says so.
 
 ghost use Rattle.std.specs.Prelude.{◌≡◌, ◌++◌, IfOk, OnOk};
-ghost use Rattle.bcdb.specs.Refusals.{arrivals_refusal, fault_text, kind_text, numbered_refusal, place_text, query_refusal, refusal_line, schedule_refusal, short_refusal};
+ghost use Rattle.bcdb.specs.Refusals.{arrivals_refusal, fault_text, kind_text, numbered_refusal, order_refusal, place_text, query_refusal, refusal_line, schedule_refusal, short_refusal};
 
 use literals::push_number;
 use proc_check::BadKind;
@@ -28,7 +28,7 @@ pub struct Refusal {
     pub kind: RefusalKind,
 }
 
-/// Why what arrives is refused: the node, and the first line of its file that has a fault.
+/// Why what arrives is refused, or what a client submits: the number of the node or client, and the first line of its file that has a fault.
 #[derive(Clone, Copy, Debug, PartialEq, Eq)]
 pub struct BadArrivals {
     pub node: u32,
@@ -142,4 +142,11 @@ pub fn short_refusal(alloc: Global, sealed: u64) -> Result<List<u8>, NoMemory>
     ensures { IfOk result (λ bytes. bytes ≡ short_refusal sealed) }
 {
     numbered_refusal(alloc, b"schedule short", sealed)
+}
+
+/// The line that says how many blocks an order needs that may not have so many.
+pub fn order_refusal(alloc: Global, needed: u64) -> Result<List<u8>, NoMemory>
+    ensures { IfOk result (λ bytes. bytes ≡ order_refusal needed) }
+{
+    numbered_refusal(alloc, b"order", needed)
 }

@@ -2,13 +2,14 @@
 
 ghost use Rattle.std.specs.Prelude.{◌≡◌, ◌++◌, IfOk, OnOk, true};
 ghost use Rattle.bcdb.specs.ProgramAnswer.{look_of, says, status_of};
-ghost use Rattle.bcdb.specs.Refusals.{arrivals_refusal, refusal_line, schedule_refusal, short_refusal};
+ghost use Rattle.bcdb.specs.Refusals.{arrivals_refusal, order_refusal, refusal_line, schedule_refusal, short_refusal};
 ghost use Rattle.bcdb.specs.Reply.{Means, is_answer};
 ghost use Rattle.report_text.specs.Ending.{end_line};
 ghost use Rattle.report_text.specs.Report.{report_text};
 
 use crate::refusal::{
-    BadArrivals, Refusal, arrivals_refusal, refusal_line, schedule_refusal, short_refusal,
+    BadArrivals, Refusal, arrivals_refusal, order_refusal, refusal_line, schedule_refusal,
+    short_refusal,
 };
 use crate::status::Status;
 use cli_words::Flags;
@@ -59,7 +60,7 @@ pub fn refuse_app(alloc: Global, refusal: Refusal) -> Result<Reply, NoMemory>
     })
 }
 
-/// The reply that refuses what arrives at a node.
+/// The reply that refuses what arrives at a node, or what a client submits.
 pub fn refuse_arrivals(alloc: Global, bad: BadArrivals) -> Result<Reply, NoMemory>
     ensures means { IfOk result (λ reply. Means (says Status.ArrivalRefused (arrivals_refusal bad)) reply) }
     ensures kind { IfOk result (λ reply. is_answer reply.status ≡ true) }
@@ -91,6 +92,18 @@ pub fn refuse_short(alloc: Global, sealed: u64) -> Result<Reply, NoMemory>
     let bytes = short_refusal(alloc, sealed)?;
     Ok(Reply {
         status: Status::ScheduleRefused,
+        bytes,
+    })
+}
+
+/// The reply that refuses an order which needs so many blocks.
+pub fn refuse_order(alloc: Global, needed: u64) -> Result<Reply, NoMemory>
+    ensures means { IfOk result (λ reply. Means (says Status.OrderRefused (order_refusal needed)) reply) }
+    ensures kind { IfOk result (λ reply. is_answer reply.status ≡ true) }
+{
+    let bytes = order_refusal(alloc, needed)?;
+    Ok(Reply {
+        status: Status::OrderRefused,
         bytes,
     })
 }

@@ -6,6 +6,7 @@ ghost use Rattle.bcdb.specs.Reading.{HasRead};
 ghost use Rattle.bcdb.specs.Reply.{Means, is_answer};
 ghost use Rattle.bcdb.specs.SealAnswer.{sealed};
 ghost use Rattle.chain_file.specs.Chain.{chain};
+ghost use Rattle.chain_file.specs.Headers.{version_of};
 ghost use Rattle.chain_file.specs.Sealed.{Seals, SealsAs};
 ghost use Rattle.edge_traits.specs.Shelf.{Files};
 
@@ -13,7 +14,7 @@ use crate::blocks::read_file;
 use crate::fault::FilesFault;
 use crate::reply::Reply;
 use crate::status::Status;
-use chain_file::Sealer;
+use chain_file::{ChainVersion, Sealer};
 use edge_traits::Shelf;
 use proc_syntax::{Block, ChainFault};
 use rel_base::{List, NoMemory};
@@ -22,7 +23,7 @@ use std::alloc::Global;
 
 // The chain file of a file that ended, or where it was stopped.
 fn end_seal(sealer: Sealer, stop: Option<ChainFault>) -> Result<List<u8>, ChainFault>
-    ensures { (told : Option Files) (name : List ℕ) → HasRead told name (Seals sealer) stop → IfSome told (λ files. SealsAs result (chain (files name))) }
+    ensures { (told : Option Files) (name : List ℕ) → HasRead told name (Seals sealer) stop → IfSome told (λ files. SealsAs result (version_of (files name)) (chain (files name))) }
 {
     match stop {
         None => sealer.end(),
@@ -35,7 +36,7 @@ fn end_seal(sealer: Sealer, stop: Option<ChainFault>) -> Result<List<u8>, ChainF
 
 // The reply to a seal: the chain file of the blocks of a file without a fault, and else where the file stopped.
 fn answer_seal(alloc: Global, text: Result<List<u8>, ChainFault>) -> Result<Reply, NoMemory>
-    ensures means { (blocks : List Block) (fault : Option ChainFault) → SealsAs text (blocks, fault) → IfOk result (λ reply. Means (sealed blocks fault) reply) }
+    ensures means { (version : Option ChainVersion) (blocks : List Block) (fault : Option ChainFault) → SealsAs text version (blocks, fault) → IfOk result (λ reply. Means (sealed version blocks fault) reply) }
     ensures kind { IfOk result (λ reply. is_answer reply.status ≡ true) }
 {
     match text {
@@ -53,7 +54,7 @@ fn answer_seal(alloc: Global, text: Result<List<u8>, ChainFault>) -> Result<Repl
 /// The reply to a seal of a file.
 pub fn seal_file<S: Shelf>(alloc: Global, shelf: &mut S, name: &str) -> Result<Reply, FilesFault>
     requires allowed { AllowsPlan (planned BlocksFile name.now) (S.told shelf.old) (S.may_read shelf.old) }
-    ensures told { IfOk result (λ reply. IfSome (S.told shelf.old) (λ files. Means (sealed (chain (files name.now)).0 (chain (files name.now)).1) reply)) }
+    ensures told { IfOk result (λ reply. IfSome (S.told shelf.old) (λ files. Means (sealed (version_of (files name.now)) (chain (files name.now)).0 (chain (files name.now)).1) reply)) }
     ensures counted { Counted result (RoseAt (planned BlocksFile name.now) (S.faults shelf.old) (S.faults shelf.new)) (S.faults shelf.old) (S.faults shelf.new) }
     ensures kind { IfOk result (λ reply. is_answer reply.status ≡ true) }
 {

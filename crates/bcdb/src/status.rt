@@ -19,7 +19,7 @@ pub enum Status {
     AppRefused = 4,
     /// The block file stops at a fault, before its end.
     ChainRefused = 5,
-    /// A file of what arrives is outside its grammar.
+    /// A file of what arrives, or of a client, is outside its grammar.
     ArrivalRefused = 6,
     /// The output could not be written.
     WriteFault = 7,
@@ -29,6 +29,8 @@ pub enum Status {
     QueryRefused = 9,
     /// The schedule has a bad line, or ends before all blocks are sealed.
     ScheduleRefused = 10,
+    /// What the clients submit needs more blocks than a block file may have.
+    OrderRefused = 11,
 }
 
 /// What the process ends with: the number of the status.

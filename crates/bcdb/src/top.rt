@@ -88,7 +88,8 @@ fn serve<R: Threads + Wait + Sync, S: Shelf, W: Sink, G: Gate>(
 /// or the summary of a load; or the refusal that comes first. So for every permitted number of nodes and of executors, whatever arrives,
 /// and for every interleaving of the turns of the nodes' locks, a run reports the same results at each node: the fold of the blocks. If
 /// journals are asked for, those of as many nodes follow: each is one that steps can make, delivers these blocks and comes to these
-/// results.
+/// results. An order answers a draft in which what the clients submit is merged, and which is read back as its blocks, whatever
+/// their threads do; which client comes first is left open.
 ///
 /// Over a shelf that tells its files, either no read failed and the call ends with the status and all the bytes of that answer; or the
 /// count of a named file rose in its turn, and it ends with those of a failed read. At `WriteFault` and `NoMemory` a prefix of the bytes

@@ -5,7 +5,7 @@ use Rattle.std.specs.List.{find, list_all}
 use Rattle.std.proofs.lemmas.Bool.{and_parts}
 use Rattle.std.proofs.lemmas.Slice.Eq.{bytes_eq-Decides}
 use Rattle.cli_words.specs.declared.command.Command.{Command}
-use Rattle.cli_words.specs.declared.command.Command.TheVariants.{Run, Simulate, Provenance, Seal, Load}
+use Rattle.cli_words.specs.declared.command.Command.TheVariants.{Run, Simulate, Provenance, Seal, Load, Order}
 use Rattle.cli_words.specs.declared.options.CommandOption.{CommandOption}
 use Rattle.cli_words.specs.declared.options.CommandOption.TheVariants as option
 use Rattle.cli_words.specs.Table.{command_of, command_word, commands, is_same, option_of, options, word_of}
@@ -27,6 +27,7 @@ command_back Simulate = refl
 command_back Provenance = refl
 command_back Seal = refl
 command_back Load = refl
+command_back Order = refl
 
 pub named_command : (word : List ℕ) (command : Command) → command_of word ≡ Some command → word ≡ command_word command
 named_command word command e = sym (equal_bytes (command_word command) word (find_true (λ other. bytes_eq (command_word other) word) commands command e))
@@ -38,6 +39,9 @@ option_back option.Schedule = refl
 option_back option.Arrivals = refl
 option_back option.Query = refl
 option_back option.Number = refl
+option_back option.Clients = refl
+option_back option.Count = refl
+option_back option.Most = refl
 option_back option.Nodes = refl
 option_back option.Executors = refl
 option_back option.Orders = refl
@@ -66,9 +70,12 @@ of_each test all option.Schedule = in_list test (take 2 options) (drop 3 options
 of_each test all option.Arrivals = in_list test (take 3 options) (drop 4 options) option.Arrivals all
 of_each test all option.Query = in_list test (take 4 options) (drop 5 options) option.Query all
 of_each test all option.Number = in_list test (take 5 options) (drop 6 options) option.Number all
-of_each test all option.Nodes = in_list test (take 6 options) (drop 7 options) option.Nodes all
-of_each test all option.Executors = in_list test (take 7 options) (drop 8 options) option.Executors all
-of_each test all option.Orders = in_list test (take 8 options) (drop 9 options) option.Orders all
-of_each test all option.Digests = in_list test (take 9 options) (drop 10 options) option.Digests all
-of_each test all option.Json = in_list test (take 10 options) (drop 11 options) option.Json all
-of_each test all option.Trace = in_list test (take 11 options) (drop 12 options) option.Trace all
+of_each test all option.Clients = in_list test (take 6 options) (drop 7 options) option.Clients all
+of_each test all option.Count = in_list test (take 7 options) (drop 8 options) option.Count all
+of_each test all option.Most = in_list test (take 8 options) (drop 9 options) option.Most all
+of_each test all option.Nodes = in_list test (take 9 options) (drop 10 options) option.Nodes all
+of_each test all option.Executors = in_list test (take 10 options) (drop 11 options) option.Executors all
+of_each test all option.Orders = in_list test (take 11 options) (drop 12 options) option.Orders all
+of_each test all option.Digests = in_list test (take 12 options) (drop 13 options) option.Digests all
+of_each test all option.Json = in_list test (take 13 options) (drop 14 options) option.Json all
+of_each test all option.Trace = in_list test (take 14 options) (drop 15 options) option.Trace all

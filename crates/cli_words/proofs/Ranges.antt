@@ -49,11 +49,23 @@ nodes_in items sound = all_in option.Nodes 1 8 1 items refl (omega arith, omega 
 executors_in : (items : List Item) → AllByRecursion IsSound items → IsFrom 0 16 (number_or 2 (values_in items option.Executors))
 executors_in items sound = all_in option.Executors 0 16 2 items refl (omega arith, omega arith) sound
 
+clients_in : (items : List Item) → AllByRecursion IsSound items → IsFrom 1 8 (number_or 1 (values_in items option.Count))
+clients_in items sound = all_in option.Count 1 8 1 items refl (omega arith, omega arith) sound
+
+most_in : (items : List Item) → AllByRecursion IsSound items → IsFrom 1 1024 (number_or 1 (values_in items option.Most))
+most_in items sound = all_in option.Most 1 1024 1 items refl (omega arith, omega arith) sound
+
 pub few_nodes : (words : List (List ℕ)) → number_or 1 (given words option.Nodes) ≤ 8
 few_nodes words = (nodes_in (items_from None words) (all_sound words None)).1
 
 pub few_executors : (words : List (List ℕ)) → number_or 2 (given words option.Executors) ≤ 16
 few_executors words = (executors_in (items_from None words) (all_sound words None)).1
+
+pub few_clients : (words : List (List ℕ)) → number_or 1 (given words option.Count) ≤ 8
+few_clients words = (clients_in (items_from None words) (all_sound words None)).1
+
+pub few_in_a_block : (words : List (List ℕ)) → number_or 1 (given words option.Most) ≤ 1024
+few_in_a_block words = (most_in (items_from None words) (all_sound words None)).1
 
 made_within : (c : Command) (items : List Item) → AllByRecursion IsSound items → AreWithin (made c (values_in items))
 made_within command.Run items sound = let nodes = nodes_in items sound in (nodes.0, nodes.1, (executors_in items sound).1)
@@ -61,6 +73,7 @@ made_within command.Simulate items sound = tt
 made_within command.Provenance items sound = tt
 made_within command.Seal items sound = tt
 made_within command.Load items sound = tt
+made_within command.Order items sound = let clients = clients_in items sound in let most = most_in items sound in (clients.0, clients.1, most.0, most.1)
 
 -- the settings that words say
 pub settings_within : (words : List (List ℕ)) (settings : Settings) → settings_of words ≡ Some settings → AreWithin settings

@@ -29,6 +29,9 @@ other_than option.Schedule = inl refl
 other_than option.Arrivals = inl refl
 other_than option.Query = inl refl
 other_than option.Number = inl refl
+other_than option.Clients = inl refl
+other_than option.Count = inl refl
+other_than option.Most = inl refl
 other_than option.Nodes = inl refl
 other_than option.Executors = inl refl
 other_than option.Orders = inl refl
@@ -114,6 +117,7 @@ by_command words command.Simulate items blocks spelled line same = absurd (cc)
 by_command words command.Provenance items blocks spelled line same = absurd (cc)
 by_command words command.Seal items blocks spelled line same = seal_of words items blocks spelled line same
 by_command words command.Load items blocks spelled line same = absurd (cc)
+by_command words command.Order items blocks spelled line same = absurd (cc)
 
 pub only_seals : (words : List (List ℕ)) (blocks : List ℕ) → settings_of words ≡ Some (Seal blocks) → IsSeal words blocks
 only_seals words blocks e =

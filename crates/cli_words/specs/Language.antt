@@ -16,7 +16,7 @@ use Rattle.cli_words.specs.declared.options.Takes.TheVariants.{Nothing, Text, Nu
 use Rattle.cli_words.specs.declared.options.Use.{Use}
 use Rattle.cli_words.specs.declared.options.Use.TheVariants.{No, May, Must}
 use Rattle.cli_words.specs.declared.settings.Settings.{Settings}
-use Rattle.cli_words.specs.declared.settings.Settings.TheVariants.{Run, Simulate, Provenance, Seal, Load}
+use Rattle.cli_words.specs.declared.settings.Settings.TheVariants.{Run, Simulate, Provenance, Seal, Load, Order}
 
 -- the words of a `&[&str]`
 abbrev pub texts : List (Bor (List ℕ)) → List (List ℕ)
@@ -162,6 +162,7 @@ made command.Simulate values =
 made command.Provenance values = Provenance (text_or_none (values option.App)) (text_or_none (values option.Blocks)) (text_or_none (values option.Query))
 made command.Seal values = Seal (text_or_none (values option.Blocks))
 made command.Load values = Load (number_or 0 (values option.Number))
+made command.Order values = Order (text_or_none (values option.Clients)) (number_or 1 (values option.Count)) (number_or 1 (values option.Most))
 
 -- what a command and the words after it come to
 abbrev pub settled : Option Command → List (List ℕ) → Option Settings
@@ -173,7 +174,9 @@ abbrev pub settings_of : List (List ℕ) → Option Settings
 settings_of [] = None
 settings_of (word ∷ words) = settled (command_of word) words
 
--- the numbers of a run lie in their ranges: it has 1 to 8 nodes, and each node at most 16 executors
+-- the numbers lie in their ranges: a run has 1 to 8 nodes, and each node at most 16 executors; an order has 1 to 8 clients, and 1 to 1,024
+-- transactions a block
 abbrev pub AreWithin : Settings → Type 0
 AreWithin (Run app blocks arrivals nodes executors flags) = (1 ≤ nodes) × (nodes ≤ 8) × (executors ≤ 16)
+AreWithin (Order clients count most) = (1 ≤ count) × (count ≤ 8) × (1 ≤ most) × (most ≤ 1024)
 AreWithin _ = Unit {0}

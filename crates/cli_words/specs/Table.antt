@@ -2,7 +2,7 @@
 use Rattle.std.specs.Prelude.{ℕ, ◌-◌, ◌^◌, List, [], ◌∷◌, Bool, cond, Option, codes, bytes_eq}
 use Rattle.std.specs.List.{find, list_any}
 use Rattle.cli_words.specs.declared.command.Command.{Command}
-use Rattle.cli_words.specs.declared.command.Command.TheVariants.{Run, Simulate, Provenance, Seal, Load}
+use Rattle.cli_words.specs.declared.command.Command.TheVariants.{Run, Simulate, Provenance, Seal, Load, Order}
 use Rattle.cli_words.specs.declared.options.CommandOption.{CommandOption}
 use Rattle.cli_words.specs.declared.options.CommandOption.TheVariants as option
 use Rattle.cli_words.specs.declared.options.Takes.{Takes}
@@ -18,9 +18,10 @@ command_word Simulate = codes "simulate"
 command_word Provenance = codes "provenance"
 command_word Seal = codes "seal"
 command_word Load = codes "load"
+command_word Order = codes "order"
 
 abbrev pub commands : List Command
-commands = Run ∷ Simulate ∷ Provenance ∷ Seal ∷ Load ∷ []
+commands = Run ∷ Simulate ∷ Provenance ∷ Seal ∷ Load ∷ Order ∷ []
 
 -- the command that a word names
 abbrev pub command_in : List Command → List ℕ → Option Command
@@ -48,6 +49,9 @@ rule_of option.Schedule = rule (codes "--schedule") Text (Simulate ∷ []) []
 rule_of option.Arrivals = rule (codes "--arrivals") Text [] (Run ∷ Simulate ∷ [])
 rule_of option.Query = rule (codes "--query") Text (Provenance ∷ []) []
 rule_of option.Number = rule (codes "--number") (Number 0 (2 ^ 64 - 1)) (Load ∷ []) []
+rule_of option.Clients = rule (codes "--clients") Text (Order ∷ []) []
+rule_of option.Count = rule (codes "--count") (Number 1 8) (Order ∷ []) []
+rule_of option.Most = rule (codes "--most") (Number 1 1024) (Order ∷ []) []
 rule_of option.Nodes = rule (codes "--nodes") (Number 1 8) [] (Run ∷ [])
 rule_of option.Executors = rule (codes "--executors") (Number 0 16) [] (Run ∷ [])
 rule_of option.Orders = rule (codes "--orders") Nothing [] (Run ∷ Simulate ∷ [])
@@ -57,8 +61,8 @@ rule_of option.Trace = rule (codes "--trace") Nothing [] (Run ∷ Simulate ∷ [
 
 abbrev pub options : List CommandOption
 options =
-    option.App ∷ option.Blocks ∷ option.Schedule ∷ option.Arrivals ∷ option.Query ∷ option.Number ∷ option.Nodes ∷ option.Executors ∷ option.Orders
-    ∷ option.Digests ∷ option.Json ∷ option.Trace ∷ []
+    option.App ∷ option.Blocks ∷ option.Schedule ∷ option.Arrivals ∷ option.Query ∷ option.Number ∷ option.Clients ∷ option.Count ∷ option.Most
+    ∷ option.Nodes ∷ option.Executors ∷ option.Orders ∷ option.Digests ∷ option.Json ∷ option.Trace ∷ []
 
 abbrev pub word_of : CommandOption → List ℕ
 word_of x = (rule_of x).word

@@ -16,15 +16,18 @@ pub enum Command {
     Seal,
     /// `load`: runs blocks that are generated from a number.
     Load,
+    /// `order`: puts what clients submit at once into blocks.
+    Order,
 }
 
 /// All commands.
-pub const COMMANDS: [Command; 5] = [
+pub const COMMANDS: [Command; 6] = [
     Command::Run,
     Command::Simulate,
     Command::Provenance,
     Command::Seal,
     Command::Load,
+    Command::Order,
 ];
 
 impl Command {
@@ -38,6 +41,7 @@ impl Command {
             Command::Provenance => "provenance",
             Command::Seal => "seal",
             Command::Load => "load",
+            Command::Order => "order",
         }
     }
 }

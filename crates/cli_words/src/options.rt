@@ -20,6 +20,12 @@ pub enum CommandOption {
     Query,
     /// `--number`, from which blocks are generated.
     Number,
+    /// `--clients`, the files of clients, by the prefix of their names.
+    Clients,
+    /// `--count`, how many clients there are.
+    Count,
+    /// `--most`, how many transactions a block may have.
+    Most,
     /// `--nodes`, how many nodes run the blocks.
     Nodes,
     /// `--executors`, how many executors each node has.
@@ -35,13 +41,16 @@ pub enum CommandOption {
 }
 
 /// All options.
-pub const OPTIONS: [CommandOption; 12] = [
+pub const OPTIONS: [CommandOption; 15] = [
     CommandOption::App,
     CommandOption::Blocks,
     CommandOption::Schedule,
     CommandOption::Arrivals,
     CommandOption::Query,
     CommandOption::Number,
+    CommandOption::Clients,
+    CommandOption::Count,
+    CommandOption::Most,
     CommandOption::Nodes,
     CommandOption::Executors,
     CommandOption::Orders,
@@ -97,6 +106,9 @@ impl CommandOption {
             CommandOption::Arrivals => ("--arrivals", Takes::Text),
             CommandOption::Query => ("--query", Takes::Text),
             CommandOption::Number => ("--number", numbers(0, u64::MAX)),
+            CommandOption::Clients => ("--clients", Takes::Text),
+            CommandOption::Count => ("--count", numbers(1, 8)),
+            CommandOption::Most => ("--most", numbers(1, 1024)),
             CommandOption::Nodes => ("--nodes", numbers(1, 8)),
             CommandOption::Executors => ("--executors", numbers(0, 16)),
             CommandOption::Orders => ("--orders", Takes::Nothing),
@@ -135,6 +147,7 @@ fn use_in_run(option: CommandOption) -> Use
     match option {
         CommandOption::App | CommandOption::Blocks => Use::Must,
         CommandOption::Schedule | CommandOption::Query | CommandOption::Number => Use::No,
+        CommandOption::Clients | CommandOption::Count | CommandOption::Most => Use::No,
         _ => Use::May,
     }
 }
@@ -146,6 +159,7 @@ fn use_in_simulate(option: CommandOption) -> Use
     match option {
         CommandOption::App | CommandOption::Blocks | CommandOption::Schedule => Use::Must,
         CommandOption::Query | CommandOption::Number => Use::No,
+        CommandOption::Clients | CommandOption::Count | CommandOption::Most => Use::No,
         CommandOption::Nodes | CommandOption::Executors => Use::No,
         _ => Use::May,
     }
@@ -181,6 +195,16 @@ fn use_in_load(option: CommandOption) -> Use
     }
 }
 
+// How often `order` takes an option.
+fn use_in_order(option: CommandOption) -> Use
+    ensures { result ≡ use_of Command.Order option }
+{
+    match option {
+        CommandOption::Clients | CommandOption::Count | CommandOption::Most => Use::Must,
+        _ => Use::No,
+    }
+}
+
 /// How often a command takes an option.
 pub fn use_of(command: Command, option: CommandOption) -> Use
     ensures { result ≡ use_of command option }
@@ -191,6 +215,7 @@ pub fn use_of(command: Command, option: CommandOption) -> Use
         Command::Provenance => use_in_provenance(option),
         Command::Seal => use_in_seal(option),
         Command::Load => use_in_load(option),
+        Command::Order => use_in_order(option),
     }
 }
 

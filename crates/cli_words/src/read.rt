@@ -76,6 +76,22 @@ fn executors_of(words: &[&str]) -> u32
     number_or(2, words, CommandOption::Executors) as u32
 }
 
+// How many clients the words name.
+#[tactic(auto, using(crate::proofs::Ranges::few_clients))]
+fn count_of(words: &[&str]) -> u32
+    ensures { result ≡ number_or 1 (given (texts words.now) CommandOption.Count) }
+{
+    number_or(1, words, CommandOption::Count) as u32
+}
+
+// How many transactions the words allow a block.
+#[tactic(auto, using(crate::proofs::Ranges::few_in_a_block))]
+fn most_of(words: &[&str]) -> u32
+    ensures { result ≡ number_or 1 (given (texts words.now) CommandOption.Most) }
+{
+    number_or(1, words, CommandOption::Most) as u32
+}
+
 // The value of an option, if the words give it.
 fn text_if_given(
     alloc: Global,
@@ -152,6 +168,16 @@ fn to_seal(alloc: Global, words: &[&str]) -> Result<Settings, NoMemory>
     })
 }
 
+fn to_order(alloc: Global, words: &[&str]) -> Result<Settings, NoMemory>
+    ensures { IfOk result (λ settings. settings ≡ made Command.Order (given (texts words.now))) }
+{
+    Ok(Settings::Order {
+        clients: text_of(alloc, words, CommandOption::Clients)?,
+        count: count_of(words),
+        most: most_of(words),
+    })
+}
+
 // The settings of a command by what the words give its options.
 fn to_settings(alloc: Global, command: Command, words: &[&str]) -> Result<Settings, NoMemory>
     ensures { IfOk result (λ settings. settings ≡ made command (given (texts words.now))) }
@@ -164,6 +190,7 @@ fn to_settings(alloc: Global, command: Command, words: &[&str]) -> Result<Settin
         Command::Load => Ok(Settings::Load {
             number: number_or(0, words, CommandOption::Number),
         }),
+        Command::Order => to_order(alloc, words),
     }
 }
 
@@ -180,7 +207,8 @@ fn settle(alloc: Global, command: Command, words: &[&str]) -> Result<Settings, W
 }
 
 /// Reads the words after the program's name. The fault `Usage` comes exactly where the words are not in the language of
-/// the command line; so a run that is asked for has 1 to 8 nodes, and at most 16 executors a node.
+/// the command line; so a run that is asked for has 1 to 8 nodes, and at most 16 executors a node, and an order has 1 to 8 clients
+/// and 1 to 1,024 transactions a block.
 pub fn read_words(alloc: Global, words: &[&str]) -> Result<Settings, WordsFault>
     ensures ok { IfOk result (λ settings. settings_of (texts words.now) ≡ Some settings) }
     ensures within { IfOk result AreWithin }

@@ -54,6 +54,15 @@ pub enum Settings {
         /// The number.
         number: u64,
     },
+    /// Puts what clients submit at once into blocks.
+    Order {
+        /// The prefix of the names of the clients' files.
+        clients: Word,
+        /// How many clients there are, 1 to 8.
+        count: u32,
+        /// How many transactions a block has at most, 1 to 1,024.
+        most: u32,
+    },
 }
 
 /// Why there are no settings.

@@ -40,3 +40,8 @@ returns-in-Provenance-clause-told g c =
     (subst (λ (query : List ℕ). IfOk result (λ reply. IfSome told (λ files. Means (over_query query (accepted (files c.in-Provenance.app)) (files c.in-Provenance.blocks)) reply))) c.as_str.ensures
     (subst (λ (asked : Sources). IfOk result (λ reply. IfSome told (λ files. Means (over_query c.as_str.result.now (accepted (files asked.app)) (files asked.blocks)) reply)))
     c.of_query-asked.ensures c.answer_query-reply.ensures.told)))
+
+pub returns-in-Order-clause-told : goal.returns-in-Order-clause-told
+returns-in-Order-clause-told g c =
+    let told = g.S.Shelf.told c.args.shelf.now in
+    subst (λ (settings : Settings). IfOk c.answer_order-reply.result (λ reply. IfSome told (λ files. Replies (Some settings) files reply))) (sym c.in-Order.is) c.answer_order-reply.ensures.told

@@ -1,6 +1,7 @@
 use Rattle.std.proofs.Common.{arith}
 use Rattle.std.proofs.lemmas.Grind.{common_steps}
-use Rattle.std.proofs.Common.{Err, IfSome, List, Ok, Option, Result, rules, subst, sym, ◌+◌, ◌∙◌, ◌≡◌, ℕ}
+use Rattle.std.proofs.lemmas.List.Elements.{All-append, All-cons, All-nil}
+use Rattle.std.proofs.Common.{All, Err, IfOk, IfSome, List, Ok, Option, Result, [], rules, subst, sym, ◌+◌, ◌∙◌, ◌≡◌, ◌∷◌, ℕ}
 use Rattle.bcdb.proofs.Gathering.{Gathers, failed_counts, failed_turns, gathers_more, is_bad, may_read_node}
 use Rattle.bcdb.proofs.node_arrivals.read_all_arrivals.Goals as goal
 use Rattle.bcdb.specs.ArrivalFiles.{arrived_in, file_at}
@@ -9,6 +10,7 @@ use Rattle.bcdb.specs.declared.fault.FilesFault.{FilesFault}
 use Rattle.bcdb.specs.declared.refusal.BadArrivals.{BadArrivals}
 use Rattle.edge_traits.specs.Causes.{Counts}
 use Rattle.edge_traits.specs.Shelf.{Files}
+use Rattle.order_queue.specs.Orders.{IsSubmission}
 use Rattle.proc_syntax.specs.declared.call.Tx.{Tx}
 
 pub read_node-requires : goal.read_node-requires
@@ -46,13 +48,16 @@ loop-node-preserved g c =
     let name = file_at c.args.prefix.now c.loop-node.node in
     let arrives : IfSome told (λ files. arrived_in name files ≡ Ok c.in-Ok.txs) =
     subst (λ (read : Result (List Tx) ℕ). IfSome told (λ files. arrived_in name files ≡ read)) c.in-Ok.is
-    (subst (λ (shown : Option Files). IfSome shown (λ files. arrived_in name files ≡ c.in_ok-txs.field-0)) c.loop-node.invariant.0 c.in_ok-txs.ensures.told) in (
+    (subst (λ (shown : Option Files). IfSome shown (λ files. arrived_in name files ≡ c.in_ok-txs.field-0)) c.loop-node.invariant.0 c.in_ok-txs.ensures.told) in
+    let submission : IsSubmission c.in-Ok.txs = subst (λ (read : Result (List Tx) ℕ). IfOk read IsSubmission) c.in-Ok.is c.in_ok-txs.ensures.submission in (
       c.read_node.ensures.same ∙ c.loop-node.invariant.0,
       c.in_ok-txs.ensures.counted ∙ c.loop-node.invariant.1,
       subst (λ all. (left : ℕ) × Gathers c.args.prefix.now c.args.nodes told (g.S.Shelf.may_read c.read_node.new.shelf) (c.loop-node.node + 1) all left) (sym c.in_ok-push-in-Ok.ensures.ok)
           (gathers_more c.args.prefix.now c.args.nodes told (g.S.Shelf.may_read c.loop-node.shelf) c.loop-node.node c.loop-node.all (g.S.Shelf.may_read c.read_node.new.shelf) c.in-Ok.txs c.loop-node.invariant.2
           c.loop-node-test.true arrives c.read_node.ensures.allowed),
       λ name at size may. c.read_node.ensures.allowed name at size (c.loop-node.invariant.3 name at size may),
+      subst (All IsSubmission) (sym c.in_ok-push-in-Ok.ensures.ok)
+          (All-append IsSubmission c.loop-node.all (c.in-Ok.txs ∷ []) c.loop-node.invariant.4 (All-cons IsSubmission c.in-Ok.txs [] submission (All-nil IsSubmission))),
     )
 
 pub returns-in-Err-clause-told : goal.returns-in-Err-clause-told

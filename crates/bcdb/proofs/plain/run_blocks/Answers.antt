@@ -23,7 +23,7 @@ loop-block-preserved g c =
     (sym before.0) before.5 in (
       done.app ∙ before.0,
       done.count ∙ ap (λ n. n + 1) before.1,
-      numbered.2,
+      numbered.1,
       done.store,
       done.ids,
       subst (λ blocks. HoldsFold c.args.app.now.value.app blocks (g.V.Versions.history c.process.new.self.chain.versions) c.process.new.self.ids c.process.new.self.chain.blocks) (sym front)
