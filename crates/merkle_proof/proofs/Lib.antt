@@ -8,3 +8,5 @@ mod Verified
 mod Member
 mod Roots
 mod Heads
+mod CodeBytes
+mod Filed

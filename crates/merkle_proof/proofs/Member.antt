@@ -103,7 +103,7 @@ leads_to_root writes level count i steps own leaf claimed root is_level is_count
     ∙ sym is_claimed ∙ same ∙ is_root
     ∙ sym (tree_is writes level is_level (omega (arith, is_count, inside)))
 
-some_by : (n : ℕ) (test : Bool) → test ≡ (n == 0) → test ≡ false → 1 ≤ n
+pub some_by : (n : ℕ) (test : Bool) → test ≡ (n == 0) → test ≡ false → 1 ≤ n
 some_by zero test e none = absurd (false≢true (sym none ∙ e))
 some_by (suc n) test e none = omega arith
 

@@ -1,6 +1,7 @@
 //! The laws of the tree and of its proofs, each the contract of a function that does nothing.
 
 ghost use Rattle.merkle_proof.specs.Laws.{LeavesStand, MembersHaveProofs, OneIsLeaf, PathsAreShort, PathsLead, ProofsHaveMembers, ShapesCount, TreesSplit};
+ghost use Rattle.merkle_proof.specs.FileLaws.{ProofsComeBack, ProofsHaveOneFile};
 ghost use Rattle.sha2.specs.Sha256.{sha256};
 
 /// The tree is the one that its equations say: of one leaf, and of more than one by halves.
@@ -25,4 +26,10 @@ pub fn members_have_proofs()
 /// And a proof has a member, or two inputs have one hash.
 pub fn proofs_have_members()
     ensures { ProofsHaveMembers sha256 }
+{}
+
+/// A proof file that is read is the file of its write and its proof, and these are read back from it.
+pub fn proofs_have_one_file()
+    ensures one { ProofsHaveOneFile }
+    ensures back { ProofsComeBack }
 {}

@@ -10,12 +10,16 @@ mod explaining;
 mod hashes;
 pub mod laws;
 pub mod proof;
+mod proof_files;
 mod proving;
 mod root;
 mod verifying;
+mod writing;
 
 pub use explaining::{Verdict, explain};
 pub use proof::Proof;
+pub use proof_files::{MOST_STEPS, ProofFault, read_proof};
 pub use proving::prove;
 pub use root::head_of;
 pub use verifying::verify;
+pub use writing::write_proof;

@@ -2,7 +2,7 @@
 
 ghost use Rattle.block_digest.specs.Codable.{IsFewWrite};
 ghost use Rattle.merkle_proof.specs.Head.{IsPlaced, IsProof};
-ghost use Rattle.merkle_proof.specs.Proofs.{IsVerified};
+ghost use Rattle.merkle_proof.specs.Proofs.{IsVerified, is_verified};
 ghost use Rattle.merkle_proof.specs.Shape.{levels, shape, turns};
 ghost use Rattle.merkle_proof.specs.Tree.{climb};
 ghost use Rattle.sha2.specs.Sha256.{sha256};
@@ -57,7 +57,8 @@ pub fn verify(
     proof: &Proof,
 ) -> Result<bool, NoMemory>
     requires { IsFewWrite write.now }
-    ensures { IfOk result (λ verified. IsTrue verified ↔ IsVerified head.now write.now proof.now) }
+    ensures shown { IfOk result (λ verified. IsTrue verified ↔ IsVerified head.now write.now proof.now) }
+    ensures test { IfOk result (λ verified. verified ≡ is_verified head.now write.now proof.now) }
 {
     let code = code_of(alloc, write)?;
     Ok(leads(head, &code, proof))

@@ -1,0 +1,3 @@
+mod Filed
+mod Folding
+mod Majorities

@@ -1,0 +1,8 @@
+use Rattle.checkpoint.proofs.Filed.{file_again, file_spelled}
+use Rattle.checkpoint.proofs.laws.files_have_one_text.Goals as goal
+
+pub returns-clause-one : goal.returns-clause-one
+returns-clause-one c = file_spelled
+
+pub returns-clause-back : goal.returns-clause-back
+returns-clause-back c = file_again

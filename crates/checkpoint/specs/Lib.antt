@@ -1,0 +1,5 @@
+pub mod Files
+pub mod Majority
+pub mod Printed
+pub mod Folded
+pub mod Laws
