@@ -130,7 +130,7 @@ def linked(cell):
 
 def has_words(words, report):
     """Whether a report has a line with these words, where each word in capitals stands for what a run fills in."""
-    parts = [r".+" if word in ("KEY", '"TEXT"') else r"\S+" if word.isupper() else re.escape(word) for word in words.split(" ")]
+    parts = [r".+" if word in ("KEY", "POSITIONS", '"TEXT"') else r"\S+" if word.isupper() else re.escape(word) for word in words.split(" ")]
     return re.search("^tx .* " + " ".join(parts) + "$", report, re.MULTILINE) is not None
 
 

@@ -14,7 +14,8 @@ import tempfile
 HERE = os.path.dirname(os.path.abspath(__file__))
 # cases with contention, each an application and a file of blocks without a fault
 CASES = ["first-hit-wins", "chain-of-three", "chain-of-three-middle-last", "write-skew", "stale-pay", "phantom-sweep", "sweep-untouched", "early-outcomes",
-         "lots", "same-key-in-block", "late-insert", "duplicate-key", "stale-after-reinsert", "interest-by-time"]
+         "lots", "same-key-in-block", "late-insert", "duplicate-key", "stale-after-reinsert", "interest-by-time",
+         "exact-write-skew", "exact-chain-of-three", "exact-ring-of-three", "exact-shorter-cycle-first", "exact-least-positions"]
 ACTORS = range(1, 17)
 READS = 12
 FILES = ["--app", "a.app", "--blocks", "b.draft"]

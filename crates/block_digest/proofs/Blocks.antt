@@ -1,8 +1,7 @@
 -- The codes of blocks are exact.
-use Rattle.std.proofs.Common.{◌≡◌, ◌<◌, ◌≤◌, ◌^◌, ℕ, ℤ, List, true, refl, sym, ◌∙◌, ap, arith, length}
+use Rattle.std.proofs.Common.{◌≡◌, ◌<◌, ◌≤◌, ◌^◌, ℕ, ℤ, List, true, refl, sym, ap, arith, length}
 use Rattle.std.specs.Int.{w64}
-use Rattle.std.specs.Prelude.{FitsSigned, int_le, nat_le, pos}
-use Rattle.std.proofs.lemmas.Bool.{and_from, and_parts, le-leb, leb-true}
+use Rattle.std.specs.Prelude.{FitsSigned, int_le, pos}
 use Rattle.canon_code.specs.Codes.{be_code, short_code, counted, HasCounted}
 use Rattle.canon_code.specs.Parts.{number_at, counted_at}
 use Rattle.canon_code.specs.Values.{int_at, int_code}
@@ -14,11 +13,12 @@ use Rattle.node_model.specs.declared.result.BlockResult.{BlockResult}
 use Rattle.node_model.specs.declared.result.Told.{Told}
 use Rattle.rel_base.specs.Text.{has_id_form}
 use Rattle.rel_base.specs.declared.access.Placed.{Placed}
-use Rattle.block_digest.specs.Grammar.{most_counted, most_outcomes, IsSmall, IsPosition, IsTime, HasOutcomeCode, HasToldCode, HasPlacedCode, HaveCodes, HasBlockCode}
+use Rattle.block_digest.specs.Grammar.{most_counted, most_outcomes, IsPosition, IsTime, HasOutcomeCode, HasToldCode, HasPlacedCode, HaveCodes, HasBlockCode}
 use Rattle.block_digest.specs.Joined.{Reading, then_at, then_by}
 use Rattle.block_digest.specs.Readings.{small_at, id_at, outcome_at, told_with, told_at, is_position, position_at, placed_at, rise, outcomes_at, order_at, writes_at, time_at, head_at, block_of, block_at}
 use Rattle.block_digest.proofs.Joins.{form_exact, held_exact, tested_exact, pair_code, HasPairCode, then_exact, made_exact}
-use Rattle.block_digest.proofs.Outcomes.{HasBoth, both_exact, small_exact, outcome_exact}
+use Rattle.block_digest.proofs.Outcomes.{HasBoth, both_exact, outcome_exact}
+use Rattle.block_digest.proofs.PositionCodes.{is_position_from, position_exact, position_from, small_exact}
 use Rattle.block_digest.proofs.Rising.{sorted_from_rise, rise_from_sorted}
 
 -- ---- transactions
@@ -40,23 +40,6 @@ outcomes_exact : IsExact (counted small_code told_code) (HasCounted most_outcome
 outcomes_exact = counted_exact small_code (2 ^ 32) small_at small_exact told_code HasToldCode told_at told_exact most_outcomes (omega arith)
 
 -- ---- positions
-
-position_from : (count position : ℕ) → is_position count position ≡ true → IsPosition count position
-position_from count position fine =
-    let parts = and_parts (nat_le 1 position) (nat_le position count) fine in
-    record { from_one = leb-true 1 position parts.0; within = leb-true position count parts.1 }
-
-is_position_from : (count position : ℕ) → IsPosition count position → is_position count position ≡ true
-is_position_from count position has =
-    and_from (nat_le 1 position) (nat_le position count) (le-leb 1 position has.from_one) (le-leb position count has.within)
-
-small_from : (count position : ℕ) → count ≤ 1024 → IsPosition count position → IsSmall position
-small_from count position few has = let within : position ≤ count = has.within in omega arith
-
-position_exact : (count : ℕ) → count ≤ 1024 → IsExact small_code (IsPosition count) (position_at count)
-position_exact count few =
-    held_exact small_code (λ n. IsSmall n × (is_position count n ≡ true)) (IsPosition count) (position_at count) (tested_exact small_code IsSmall small_at (is_position count) small_exact)
-    (λ n has. position_from count n has.1) (λ n has. (small_from count n few has, is_position_from count n has))
 
 order_exact : (count : ℕ) → count ≤ 1024 → IsExact (counted small_code small_code) (HasCounted most_counted (IsPosition count)) (order_at count)
 order_exact count few =

@@ -1,5 +1,6 @@
 pub mod Pushed
 pub mod Joins
+pub mod PositionCodes
 pub mod Outcomes
 pub mod Rising
 pub mod Blocks

@@ -2,12 +2,12 @@
 use Rattle.std.proofs.Common.{◌≡◌, ◌<◌, ◌^◌, ℕ, List, [], ◌∷◌, ◌++◌, Bool, true, false, cond, Some, refl, sym, ◌∙◌, ap}
 use Rattle.std.specs.Int.{w64}
 use Rattle.std.proofs.lemmas.Option.{none-some}
-use Rattle.canon_code.specs.Codes.{be_code, short_code}
+use Rattle.canon_code.specs.Codes.{be_code, counted, short_code}
 use Rattle.canon_code.specs.Laws.{ComesBack, WasWritten}
 use Rattle.canon_code.specs.Parts.{◌>>=◌, number_at}
 use Rattle.canon_code.specs.Rows.{row_code, HasRowCode, row_at}
 use Rattle.canon_code.specs.Values.{is_text, text_at}
-use Rattle.canon_code.proofs.Exact.{IsExact, bytes_tail, u32_exact, u64_exact}
+use Rattle.canon_code.proofs.Exact.{IsExact, bytes_tail, u64_exact}
 use Rattle.canon_code.proofs.Things.{row_exact}
 use Rattle.node_model.specs.BlockCode.{small_code, fault_code, clash_code, danger_code, outcome_code}
 use Rattle.node_model.specs.declared.danger.Danger.TheVariants as danger
@@ -15,9 +15,10 @@ use Rattle.node_model.specs.declared.outcome.Late.{Late}
 use Rattle.node_model.specs.declared.outcome.Outcome.TheVariants as outcome
 use Rattle.proc_syntax.specs.declared.fault.Fault.TheVariants as fault
 use Rattle.rel_base.specs.declared.value.Value.{Value}
-use Rattle.block_digest.specs.Grammar.{IsSmall, HasLateCode, HasFaultCode, HasClashCode, HasDangerCode, HasOutcomeCode}
+use Rattle.block_digest.specs.Grammar.{IsSmall, HasLateCode, HasFaultCode, HasClashCode, HasPathCode, HasDangerCode, HasOutcomeCode}
 use Rattle.block_digest.specs.Joined.{Reading, then_at}
-use Rattle.block_digest.specs.Readings.{small_at, named_at, late_of, late_at, fault_at, clash_of, clash_at, one_of, two_of, danger_at, outcome_at}
+use Rattle.block_digest.specs.Readings.{small_at, named_at, late_of, late_at, fault_at, clash_of, clash_at, one_of, two_of, path_at, danger_at, outcome_at}
+use Rattle.block_digest.proofs.PositionCodes.{path_exact, small_exact}
 use Rattle.block_digest.proofs.Joins.{form_exact, pair_code, HasPairCode, then_exact, made_exact, SaysAll, none_says, plain_says, made_says, or_says}
 
 -- ---- parts
@@ -29,9 +30,6 @@ HasBoth HasFirst HasSecond = HasPairCode HasFirst (λ a. HasSecond)
 pub both_exact : {A B : Type 0} (first : A → List ℕ) (HasFirst : A → Type 0) (first_at : Reading A) (second : B → List ℕ) (HasSecond : B → Type 0) (second_at : Reading B)
     → IsExact first HasFirst first_at → IsExact second HasSecond second_at → IsExact (pair_code first second) (HasBoth HasFirst HasSecond) (then_at first_at second_at)
 both_exact first HasFirst first_at second HasSecond second_at one two = then_exact first HasFirst first_at second (λ a. HasSecond) (λ a. second_at) one (λ a has. two)
-
-pub small_exact : IsExact small_code IsSmall small_at
-small_exact = u32_exact
 
 abbrev named_code : ℕ × List Value → List ℕ
 named_code = pair_code small_code row_code
@@ -152,11 +150,13 @@ danger_says : SaysAll danger_code HasDangerCode (λ form bytes. danger_at (form 
 danger_says =
     or_says (made_says one_of smalls_code AreSmall (then_at small_at small_at) danger_code HasDangerCode 1 smalls_exact (λ found has. (has.0, has.1)) (λ found has. refl))
     (or_says (made_says two_of smalls_code AreSmall (then_at small_at small_at) danger_code HasDangerCode 2 smalls_exact (λ found has. (has.0, has.1)) (λ found has. refl))
-    (none_says danger_code HasDangerCode))
+    (or_says (made_says danger.Cycle (counted small_code small_code) HasPathCode path_at danger_code HasDangerCode 3 path_exact (λ path has. has) (λ path has. refl))
+    (none_says danger_code HasDangerCode)))
 
 danger_back : ComesBack danger_code HasDangerCode danger_at
 danger_back (danger.One z x) rest has = ap (λ found. found >>= λ a. Some (one_of a.0, a.1)) (smalls_exact.back (z, x) rest (has.0, has.1))
 danger_back (danger.Two y z) rest has = ap (λ found. found >>= λ a. Some (two_of a.0, a.1)) (smalls_exact.back (y, z) rest (has.0, has.1))
+danger_back (danger.Cycle path) rest has = ap (λ found. found >>= λ a. Some (danger.Cycle a.0, a.1)) (path_exact.back path rest has)
 
 danger_written : WasWritten danger_code HasDangerCode danger_at
 danger_written [] danger rest fits e = absurd (none-some (danger, rest) e)

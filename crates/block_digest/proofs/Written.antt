@@ -2,14 +2,21 @@
 use Rattle.std.proofs.Common.{List, None, Option, Some, arith, ◌≤◌}
 use Rattle.std.proofs.lemmas.List.Elements.{All-from_recursion, All-weaker}
 use Rattle.canon_code.specs.Writes.{HasChangeCode, HasWriteCode, IsFewPart}
+use Rattle.node_model.specs.declared.danger.Danger.TheVariants as danger
+use Rattle.node_model.specs.declared.danger.Danger.{Danger}
 use Rattle.node_model.specs.declared.outcome.Outcome.TheVariants as outcome
 use Rattle.node_model.specs.declared.outcome.Outcome.{Outcome}
 use Rattle.node_model.specs.declared.result.BlockResult.{BlockResult}
 use Rattle.rel_base.specs.declared.access.Placed.{Placed}
 use Rattle.rel_base.specs.declared.value.Value.{Value}
-use Rattle.block_digest.specs.Codable.{HasFewKey, IsFewWrite, IsCodable}
-use Rattle.block_digest.specs.Grammar.{HasBlockCode, HasOutcomeCode, HasPlacedCode, HasToldCode}
+use Rattle.block_digest.specs.Codable.{HasFewKey, HasFewPath, IsFewWrite, IsCodable}
+use Rattle.block_digest.specs.Grammar.{HasBlockCode, HasDangerCode, HasOutcomeCode, HasPlacedCode, HasToldCode}
 use Rattle.std.specs.Prelude.{length}
+
+few_path : (found : Danger) → HasDangerCode found → HasFewPath found
+few_path (danger.One z x) has = tt
+few_path (danger.Two y z) has = tt
+few_path (danger.Cycle path) has = let few : length path ≤ 1023 = has.0.0 in omega arith
 
 few_key : (outcome : Outcome) → HasOutcomeCode outcome → HasFewKey outcome
 few_key outcome.Committed has = tt
@@ -20,7 +27,7 @@ few_key outcome.BadArguments has = tt
 few_key (outcome.Late late) has = has.key.0
 few_key (outcome.Fault fault) has = tt
 few_key (outcome.WriteConflict clash) has = has.key.0
-few_key (outcome.Danger danger) has = tt
+few_key (outcome.Danger found) has = few_path found has
 
 few_parts : (before after : Option (List Value)) → HasChangeCode before after → IsFewPart before × IsFewPart after
 few_parts None None has = absurd has

@@ -17,15 +17,21 @@ use Rattle.proc_syntax.specs.declared.fault.Fault.{Fault}
 use Rattle.rel_base.specs.Tables.{ref_cmp, write_ref}
 use Rattle.rel_base.specs.Text.{has_id_form}
 use Rattle.rel_base.specs.declared.access.Placed.{Placed}
+use Rattle.std.specs.Bool.{nat_eq}
+use Rattle.std.specs.List.{list_all}
 use Rattle.std.specs.List.Sorted.{IsStrictlySortedBy}
 use Rattle.std.specs.Ordering.{nat_cmp, ordering_then}
 use Rattle.std.specs.Int.{w64}
-use Rattle.std.specs.Prelude.{FitsSigned, List, int_le, length, pos, replicate, true, ◌<◌, ◌^◌, ◌≡◌, ◌≤◌, ℕ, ℤ}
+use Rattle.std.specs.Prelude.{Bool, FitsSigned, List, [], false, int_le, length, not, pos, replicate, true, ◌&&◌, ◌<◌, ◌^◌, ◌≡◌, ◌≤◌, ◌∷◌, ℕ, ℤ}
 use Rattle.std.specs.declared.cmp.Ordering.{Ordering}
 
 -- the most transactions of a block
 abbrev pub most_outcomes : ℕ
 most_outcomes = 1024
+
+-- the most transactions on a path: all of a block but one
+abbrev pub most_on_path : ℕ
+most_on_path = 1023
 
 -- the greatest count of four bytes
 abbrev pub most_counted : ℕ
@@ -56,9 +62,29 @@ pub record HasClashCode (clash : Clash) : Type 0 where
   pub table : IsSmall clash.table
   pub key : HasRowCode clash.key
 
+-- a position of a block of so many transactions, from 1
+pub record IsPosition (count position : ℕ) : Type 0 where
+  pub from_one : 1 ≤ position
+  pub within : position ≤ count
+
+-- no two are equal
+abbrev pub are_apart : List ℕ → Bool
+are_apart [] = true
+are_apart (first ∷ rest) = list_all (λ other. not (nat_eq first other)) rest && are_apart rest
+
+-- some, no two of them equal
+abbrev pub is_way : List ℕ → Bool
+is_way [] = false
+is_way (first ∷ rest) = are_apart (first ∷ rest)
+
+-- a path has from 1 to 1,023 positions, no two of them equal
+abbrev pub HasPathCode : List ℕ → Type 0
+HasPathCode path = HasCounted most_on_path (IsPosition most_outcomes) path × (is_way path ≡ true)
+
 abbrev pub HasDangerCode : Danger → Type 0
 HasDangerCode (danger.One z x) = IsSmall z × IsSmall x
 HasDangerCode (danger.Two y z) = IsSmall y × IsSmall z
+HasDangerCode (danger.Cycle path) = HasPathCode path
 
 -- the numbers of a cause fit their bytes, a key has at most 32 values, each with a code, and a text is one
 abbrev pub HasOutcomeCode : Outcome → Type 0
@@ -75,11 +101,6 @@ HasOutcomeCode (outcome.Danger danger) = HasDangerCode danger
 pub record HasToldCode (told : Told) : Type 0 where
   pub id : has_id_form told.id ≡ true
   pub outcome : HasOutcomeCode told.outcome
-
--- a position of a block of so many transactions, from 1
-pub record IsPosition (count position : ℕ) : Type 0 where
-  pub from_one : 1 ≤ position
-  pub within : position ≤ count
 
 -- a write by a transaction of a block of so many
 pub record HasPlacedCode (count : ℕ) (placed : Placed) : Type 0 where

@@ -1,5 +1,5 @@
 -- How the result of a block is read from the start of some bytes.
-use Rattle.block_digest.specs.Grammar.{most_counted, most_outcomes, placed_cmp}
+use Rattle.block_digest.specs.Grammar.{is_way, most_counted, most_on_path, most_outcomes, placed_cmp}
 use Rattle.block_digest.specs.Joined.{Reading, made_at, tested_at, then_at, then_by}
 use Rattle.canon_code.specs.Parts.{counted_at, number_at, short_at}
 use Rattle.canon_code.specs.Rows.{row_at}
@@ -31,6 +31,19 @@ id_at bytes = tested_at has_id_form short_at bytes
 -- a table and a key
 abbrev pub named_at : Reading (ℕ × List Value)
 named_at = then_at small_at row_at
+
+-- ---- positions
+
+-- whether a position lies between 1 and the number of transactions
+abbrev pub is_position : ℕ → ℕ → Bool
+is_position count position = nat_le 1 position && nat_le position count
+
+abbrev pub position_at : ℕ → Reading ℕ
+position_at count = tested_at (is_position count) small_at
+
+-- from 1 to 1,023 positions, no two of them equal
+abbrev pub path_at : Reading (List ℕ)
+path_at = tested_at is_way (counted_at small_at most_on_path (position_at most_outcomes))
 
 -- ---- outcomes
 
@@ -68,7 +81,8 @@ two_of found = danger.Two found.0 found.1
 abbrev pub danger_at : Reading Danger
 danger_at [] = None
 danger_at (form ∷ bytes) =
-    cond (form == 1) (made_at one_of (then_at small_at small_at) bytes) (cond (form == 2) (made_at two_of (then_at small_at small_at) bytes) None)
+    cond (form == 1) (made_at one_of (then_at small_at small_at) bytes)
+    (cond (form == 2) (made_at two_of (then_at small_at small_at) bytes) (cond (form == 3) (made_at danger.Cycle path_at bytes) None))
 
 abbrev pub outcome_at : Reading Outcome
 outcome_at [] = None
@@ -91,13 +105,6 @@ told_with found = record { id = found.0; outcome = found.1 }
 
 abbrev pub told_at : Reading Told
 told_at = made_at told_with (then_at id_at outcome_at)
-
--- whether a position lies between 1 and the number of transactions
-abbrev pub is_position : ℕ → ℕ → Bool
-is_position count position = nat_le 1 position && nat_le position count
-
-abbrev pub position_at : ℕ → Reading ℕ
-position_at count = tested_at (is_position count) small_at
 
 abbrev pub placed_at : ℕ → Reading Placed
 placed_at count = tested_at (λ placed. is_position count placed.pos) write_at

@@ -4,11 +4,13 @@
 pub mod digest;
 mod items;
 pub mod laws;
+pub mod positions;
 pub mod read_block;
 pub mod read_outcome;
 pub mod write_block;
 pub mod write_outcome;
 
 pub use digest::digest_of;
-pub use read_block::{MOST_OUTCOMES, decode};
+pub use positions::MOST_OUTCOMES;
+pub use read_block::decode;
 pub use write_block::encode;

@@ -9,18 +9,16 @@ ghost use Rattle.rel_base.specs.Text.{has_id_form};
 ghost use Rattle.block_digest.specs.Codable.{IsCodable};
 ghost use Rattle.block_digest.specs.Decoding.{Decodes};
 ghost use Rattle.block_digest.specs.Grammar.{most_outcomes, most_counted, placed_cmp, HasBlockCode};
-ghost use Rattle.block_digest.specs.Readings.{small_at, id_at, told_at, is_position, position_at, placed_at, rise_behind, rise, outcomes_at, order_at, writes_at, time_at, head_at, block_at};
+ghost use Rattle.block_digest.specs.Readings.{small_at, id_at, told_at, placed_at, rise_behind, rise, outcomes_at, order_at, writes_at, time_at, head_at, block_at};
 
 use crate::items::{Item, read_items};
+use crate::positions::{MOST_OUTCOMES, is_position};
 use crate::read_outcome::read_outcome;
 use canon_code::short::read_short;
 use canon_code::{CodeFault, read_u32, read_u64, read_write};
 use node_model::{BlockResult, NO_DIGEST, Told};
 use rel_base::{Id, List, NameFault, Placed};
 use std::alloc::Global;
-
-/// The most transactions of a block.
-pub const MOST_OUTCOMES: u32 = 1024;
 
 /// The id of some bytes, if they are one.
 #[tactic(auto, using(rel_base::proofs::Utf8::no_id))]
@@ -77,30 +75,6 @@ fn read_outcomes(alloc: Global, bytes: &[u8]) -> Result<(List<Told>, &[u8]), Cod
 {
     let (count, rest) = read_u32(bytes)?;
     read_few_told(alloc, count, rest)
-}
-
-/// Whether a position is one of a block of so many transactions.
-fn is_position(count: usize, position: u32) -> bool
-    ensures { result ≡ is_position count position }
-{
-    1 <= position && position as usize <= count
-}
-
-/// A position of a block of so many transactions.
-impl Item for u32 {
-    ghost item_at = { position_at };
-
-    fn read<'a>(
-        _alloc: Global,
-        count: usize,
-        bytes: &'a [u8],
-    ) -> Result<(u32, &'a [u8]), CodeFault> {
-        let (position, rest) = read_u32(bytes)?;
-        if !is_position(count, position) {
-            return Err(CodeFault::Bad);
-        }
-        Ok((position, rest))
-    }
 }
 
 /// Reads the order of a block of so many transactions.

@@ -2,12 +2,14 @@
 
 ghost use Rattle.std.specs.Prelude.{◌≡◌, ◌==◌, Some, None};
 ghost use Rattle.canon_code.specs.Reads.{Reads};
+ghost use Rattle.node_model.specs.declared.danger.Danger.TheVariants as danger;
 ghost use Rattle.node_model.specs.declared.outcome.Outcome.TheVariants as outcome;
 ghost use Rattle.proc_syntax.specs.declared.fault.Fault.TheVariants as fault;
 ghost use Rattle.canon_code.specs.Values.{text_at};
 ghost use Rattle.block_digest.specs.Joined.{made_at, then_at};
-ghost use Rattle.block_digest.specs.Readings.{small_at, one_of, two_of, late_at, fault_at, clash_at, danger_at, outcome_at};
+ghost use Rattle.block_digest.specs.Readings.{small_at, one_of, two_of, path_at, late_at, fault_at, clash_at, danger_at, outcome_at};
 
+use crate::positions::read_path;
 use canon_code::{CodeFault, read_key, read_text, read_u32, read_u64};
 use node_model::{Clash, Danger, Late, Outcome};
 use proc_syntax::Fault;
@@ -93,22 +95,31 @@ fn read_two(bytes: &[u8]) -> Result<(Danger, &[u8]), CodeFault>
     Ok((Danger::Two { y, z }, rest))
 }
 
+/// Reads the path of a cycle.
+fn read_cycle(alloc: Global, bytes: &[u8]) -> Result<(Danger, &[u8]), CodeFault>
+    ensures { Reads result (made_at danger.Cycle path_at bytes.now) }
+{
+    let (path, rest) = read_path(alloc, bytes)?;
+    Ok((Danger::Cycle { path }, rest))
+}
+
 /// Reads the form and the positions of a danger.
-fn read_form(bytes: &[u8]) -> Result<(Danger, &[u8]), CodeFault>
+fn read_form(alloc: Global, bytes: &[u8]) -> Result<(Danger, &[u8]), CodeFault>
     ensures { Reads result (danger_at bytes.now) }
 {
     match bytes {
         [1, rest @ ..] => read_one(rest),
         [2, rest @ ..] => read_two(rest),
+        [3, rest @ ..] => read_cycle(alloc, rest),
         _ => Err(CodeFault::Bad),
     }
 }
 
 /// Reads a danger.
-fn read_danger(bytes: &[u8]) -> Result<(Outcome, &[u8]), CodeFault>
+fn read_danger(alloc: Global, bytes: &[u8]) -> Result<(Outcome, &[u8]), CodeFault>
     ensures { Reads result (made_at outcome.Danger danger_at bytes.now) }
 {
-    let (danger, rest) = read_form(bytes)?;
+    let (danger, rest) = read_form(alloc, bytes)?;
     Ok((Outcome::Danger(danger), rest))
 }
 
@@ -126,7 +137,7 @@ pub fn read_outcome(alloc: Global, bytes: &[u8]) -> Result<(Outcome, &[u8]), Cod
         [6, rest @ ..] => read_late(alloc, false, rest),
         [7, rest @ ..] => read_faulted(alloc, rest),
         [8, rest @ ..] => read_clash(alloc, rest),
-        [9, rest @ ..] => read_danger(rest),
+        [9, rest @ ..] => read_danger(alloc, rest),
         _ => Err(CodeFault::Bad),
     }
 }

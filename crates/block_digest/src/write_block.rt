@@ -9,6 +9,7 @@ ghost use Rattle.canon_code.specs.Writes.{write_code};
 ghost use Rattle.node_model.specs.BlockCode.{small_code, told_code, block_code};
 ghost use Rattle.block_digest.specs.Codable.{HasFewKey, IsFewWrite, IsCodable};
 
+use crate::positions::push_order;
 use crate::write_outcome::push_outcome;
 use canon_code::short::put_short;
 use canon_code::{put_u32, put_u64, put_write};
@@ -44,25 +45,6 @@ fn push_outcomes(out: &mut Vec<u8>, outcomes: &List<Told>) -> Result<(), NoMemor
 {
     put_u32(out, outcomes.len() as u32)?;
     push_all_told(out, outcomes.as_slice())
-}
-
-/// Writes positions at the end.
-fn push_positions(out: &mut Vec<u8>, order: &[u32]) -> Result<(), NoMemory>
-    ensures { OnOk result (out.new.items ≡ out.old.items ++ flat_map small_code order.now) }
-{
-    for pos in order {
-        put_u32(out, *pos)?;
-    }
-    Ok(())
-}
-
-/// Writes positions at the end, after their count.
-fn push_order(out: &mut Vec<u8>, order: &List<u32>) -> Result<(), NoMemory>
-    requires { length order.now < 2 ^ 32 }
-    ensures { OnOk result (out.new.items ≡ out.old.items ++ counted small_code small_code order.now) }
-{
-    put_u32(out, order.len() as u32)?;
-    push_positions(out, order.as_slice())
 }
 
 /// Writes writes at the end.

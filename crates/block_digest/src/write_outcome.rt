@@ -1,16 +1,17 @@
 //! The codes of outcomes.
 
-ghost use Rattle.std.specs.Prelude.{◌≡◌, ◌≤◌, ◌∷◌, ◌++◌, [], length, cond, OnOk};
+ghost use Rattle.std.specs.Prelude.{◌≡◌, ◌<◌, ◌≤◌, ◌^◌, ◌∷◌, ◌++◌, [], length, cond, OnOk};
 ghost use Rattle.std.specs.Int.{w64};
-ghost use Rattle.canon_code.specs.Codes.{be_code};
+ghost use Rattle.canon_code.specs.Codes.{be_code, counted};
 ghost use Rattle.canon_code.specs.Rows.{key_code};
 ghost use Rattle.node_model.specs.BlockCode.{small_code, late_code, fault_code, clash_code, danger_code, outcome_code};
-ghost use Rattle.block_digest.specs.Codable.{HasFewKey};
+ghost use Rattle.block_digest.specs.Codable.{HasFewKey, HasFewPath};
 
+use crate::positions::push_order;
 use canon_code::{put_row, put_text, put_u32, put_u64};
 use node_model::{Clash, Danger, Late, Outcome};
 use proc_syntax::Fault;
-use rel_base::{Key, NoMemory, Str};
+use rel_base::{Key, List, NoMemory, Str};
 
 /// Writes a byte at the end.
 fn push_byte(out: &mut Vec<u8>, byte: u8) -> Result<(), NoMemory>
@@ -104,18 +105,30 @@ fn push_positions(out: &mut Vec<u8>, form: u8, first: u32, second: u32) -> Resul
     put_u32(out, second)
 }
 
+/// Writes the path of a cycle at the end, after its form.
+fn push_cycle(out: &mut Vec<u8>, path: &List<u32>) -> Result<(), NoMemory>
+    requires { length path.now < 2 ^ 32 }
+    ensures { OnOk result (out.new.items ≡ out.old.items ++ 3 ∷ counted small_code small_code path.now) }
+{
+    out.push(3)?;
+    push_order(out, path)
+}
+
 /// Writes the positions of a danger at the end, after its form.
 fn push_form(out: &mut Vec<u8>, danger: &Danger) -> Result<(), NoMemory>
+    requires { HasFewPath danger.now }
     ensures { OnOk result (out.new.items ≡ out.old.items ++ danger_code danger.now) }
 {
     match danger {
         Danger::One { z, x } => push_positions(out, 1, *z, *x),
         Danger::Two { y, z } => push_positions(out, 2, *y, *z),
+        Danger::Cycle { path } => push_cycle(out, path),
     }
 }
 
 /// Writes a danger at the end, after the byte of its outcome.
 fn push_danger(out: &mut Vec<u8>, danger: &Danger) -> Result<(), NoMemory>
+    requires { HasFewPath danger.now }
     ensures { OnOk result (out.new.items ≡ out.old.items ++ 9 ∷ danger_code danger.now) }
 {
     out.push(9)?;

@@ -106,16 +106,16 @@ or_last None None c d = refl
 or_last None (Some b) c d = refl
 or_last (Some a) b c d = refl
 
-module _ (tables : List TableDef) (since : List Stamped) (committed : List Committed) (ran : Ran) where
-  by_parts : by_run tables since committed ran ≡ option_or (before_edges tables since committed ran) (danger_outcome (danger tables committed ran.reads ran.writes))
+module _ (exact : Bool) (tables : List TableDef) (since : List Stamped) (committed : List Committed) (ran : Ran) where
+  by_parts : by_run exact tables since committed ran ≡ option_or (before_edges tables since committed ran) (danger_outcome (danger exact tables committed ran.reads ran.writes))
   by_parts =
       or_last (late_outcome tables (late tables (map (λ made. made.read) ran.reads) since)) (fault_outcome ran.ending) (conflict_outcome ran.writes (clash committed ran.writes))
-      (danger_outcome (danger tables committed ran.reads ran.writes))
+      (danger_outcome (danger exact tables committed ran.reads ran.writes))
 
   -- where nothing else aborts a transaction, its danger decides
-  pub danger_decides : before_edges tables since committed ran ≡ None → or_committed (danger_outcome (danger tables committed ran.reads ran.writes)) ≡ or_committed (by_run tables since committed ran)
-  danger_decides none = ap (λ first. or_committed (option_or first (danger_outcome (danger tables committed ran.reads ran.writes)))) (sym none) ∙ ap or_committed (sym by_parts)
+  pub danger_decides : before_edges tables since committed ran ≡ None → or_committed (danger_outcome (danger exact tables committed ran.reads ran.writes)) ≡ or_committed (by_run exact tables since committed ran)
+  danger_decides none = ap (λ first. or_committed (option_or first (danger_outcome (danger exact tables committed ran.reads ran.writes)))) (sym none) ∙ ap or_committed (sym by_parts)
 
   -- a cause that it shows without its edges comes before a danger
-  pub cause_decides : (cause : Outcome) → before_edges tables since committed ran ≡ Some cause → cause ≡ or_committed (by_run tables since committed ran)
-  cause_decides cause is = ap (λ first. or_committed (option_or first (danger_outcome (danger tables committed ran.reads ran.writes)))) (sym is) ∙ ap or_committed (sym by_parts)
+  pub cause_decides : (cause : Outcome) → before_edges tables since committed ran ≡ Some cause → cause ≡ or_committed (by_run exact tables since committed ran)
+  cause_decides cause is = ap (λ first. or_committed (option_or first (danger_outcome (danger exact tables committed ran.reads ran.writes)))) (sym is) ∙ ap or_committed (sym by_parts)

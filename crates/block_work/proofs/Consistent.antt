@@ -1,8 +1,8 @@
 -- What a block in work keeps, as it grows.
-use Rattle.std.proofs.Common.{All, Bool, List, [], ap, arith, false, length, refl, subst, sym, true, ◌++◌, ◌+◌, ◌<◌, ◌∙◌, ◌≡◌, ◌≤◌, ◌∷◌, ℕ}
+use Rattle.std.proofs.Common.{All, Bool, List, [], ap, arith, false, length, refl, subst, sym, true, ◌++◌, ◌+◌, ◌<◌, ◌∙◌, ◌≡◌, ◌≤◌, ◌∷◌, ◌^◌, ℕ}
 use Rattle.std.proofs.lemmas.List.Elements.{All-append, All-cons, All-map, All-nil, All-same, All-weaker, recursion_from_All}
 use Rattle.std.proofs.lemmas.List.Kept.{AllPairs-cons}
-use Rattle.std.proofs.lemmas.List.{length-append, map-append}
+use Rattle.std.proofs.lemmas.List.{length-append, length-map, map-append}
 use Rattle.std.specs.List.{AllByRecursion}
 use Rattle.std.specs.Prelude.{AllPairs, IsTrue}
 use Rattle.block_digest.specs.Codable.{HasFewKey}
@@ -10,7 +10,7 @@ use Rattle.conflict_rules.specs.Marking.{IsDirectoryOf}
 use Rattle.block_work.specs.Block.{CanCommitWith, IsConsistent, KeepsEdges, StandInOrder}
 use Rattle.block_work.specs.Causes.{AreOwnEdges}
 use Rattle.block_work.specs.declared.block.BlockInWork.{BlockInWork}
-use Rattle.node_model.specs.Danger.{danger, danger_among}
+use Rattle.node_model.specs.Danger.{danger, danger_by}
 use Rattle.node_model.specs.Edges.{comes_from, edge_at, leads_to}
 use Rattle.node_model.specs.declared.outcome.Outcome.TheVariants as outcome
 use Rattle.node_model.specs.declared.result.Committed.{Committed}
@@ -105,11 +105,19 @@ module _ (tables : List TableDef) (work : BlockInWork) (ran : Ran) (edges : Edge
   into_among into =
       among_set work.edges work.committed.items (holds edges.into) (comes_from tables work.committed.items ran.writes) is.edges.positions into (are_among tables work.committed.items ran.reads ran.writes).1
 
-  pub danger_is : ((pos : ℕ) → holds edges.out pos ≡ leads_to tables work.committed.items ran.reads pos) → ((pos : ℕ) → holds edges.into pos ≡ comes_from tables work.committed.items ran.writes pos)
-      → danger_among (λ pos. pos) (has_edge work.edges) (holds edges.out) (holds edges.into) (positions_of work.edges) ≡ danger tables work.committed.items ran.reads ran.writes
-  danger_is out into =
-      (λ i. danger_among (λ pos. pos) (λ from to. is.edges.edges from to i) (λ pos. out pos i) (λ pos. into pos i) (is.edges.positions i))
-      ∙ danger_shown tables work.committed.items ran.reads ran.writes (rising tables 0 (length work.outcomes.items) work.committed.items is.committed)
+  pub danger_is : (exact : Bool) → ((pos : ℕ) → holds edges.out pos ≡ leads_to tables work.committed.items ran.reads pos)
+      → ((pos : ℕ) → holds edges.into pos ≡ comes_from tables work.committed.items ran.writes pos)
+      → danger_by (λ pos. pos) (has_edge work.edges) (holds edges.out) (holds edges.into) exact (positions_of work.edges) ≡ danger exact tables work.committed.items ran.reads ran.writes
+  danger_is exact out into =
+      (λ i. danger_by (λ pos. pos) (λ from to. is.edges.edges from to i) (λ pos. out pos i) (λ pos. into pos i) exact (is.edges.positions i))
+      ∙ danger_shown exact tables work.committed.items ran.reads ran.writes (rising tables 0 (length work.outcomes.items) work.committed.items is.committed)
+
+-- a block of few transactions has few positions
+pub few_positions : (tables : List TableDef) (work : BlockInWork) → IsConsistent tables work → length work.outcomes.items < 1024 → length (positions_of work.edges) < 2 ^ 32
+few_positions tables work is few =
+    let all = fewer tables 0 (length work.outcomes.items) work.committed.items is.committed in
+    let same : length (positions_of work.edges) ≡ length work.committed.items = ap length is.edges.positions ∙ length-map work.committed.items (λ done. done.pos) in
+    omega (arith, all, same, few)
 
 -- ---- a block that grows
 

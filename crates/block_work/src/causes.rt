@@ -1,26 +1,30 @@
 //! The causes of an abort that a run shows.
 
-ghost use Rattle.std.specs.Prelude.{◌≡◌, ◌<◌, ◌≤◌, ◌^◌, ◌-◌, All, IfOk, length, map};
+ghost use Rattle.std.specs.Prelude.{◌≡◌, ◌<◌, ◌≤◌, ◌^◌, ◌-◌, All, IfOk, IfSome, length, map};
 ghost use Rattle.std.specs.Option.{option_map};
+ghost use Rattle.block_digest.specs.Codable.{HasFewPath};
 ghost use Rattle.conflict_rules.specs.Marking.{IsDirectoryOf};
 ghost use Rattle.block_work.specs.Block.{IsConsistent};
 ghost use Rattle.block_work.specs.Causes.{AreOwnEdges, IsVerdictOn, RunFits, before_edges, outcome_of, outcome_of_late};
 ghost use Rattle.conflict_rules.specs.Late.{overtaken_of};
-ghost use Rattle.node_model.specs.Danger.{danger};
+ghost use Rattle.node_model.specs.Danger.{danger, danger_by};
 ghost use Rattle.node_model.specs.Decide.{by_run, clash, conflict_outcome, danger_outcome, fault_outcome, late_outcome, or_committed};
 ghost use Rattle.proc_check.specs.Sizes.{IsSmall};
 ghost use Rattle.rel_base.specs.Among.{ReadFitsIn};
 ghost use Rattle.rel_base.specs.Late.{late};
 ghost use Rattle.rel_base.specs.Tables.{HistoryFits, writes_between};
+ghost use Rattle.rw_graph.specs.Graph.{has_edge, positions_of};
+ghost use Rattle.rw_graph.specs.Held.{holds};
+ghost use Rattle.rw_graph.specs.Sets.{AreAmong};
 
 use crate::block::BlockInWork;
 use crate::verdict::Verdict;
 use conflict_rules::{LateRef, late};
-use node_model::{Clash, Late, Outcome};
+use node_model::{Clash, Danger, Late, Outcome};
 use proc_syntax::run::{Ending, Ran};
 use rel_base::{List, Made, NoMemory, TableDef, Twin, Write};
 use row_sets::Versions;
-use rw_graph::{Edges, danger};
+use rw_graph::{EdgeSet, Edges, cycle, danger};
 use std::alloc::Global;
 
 // The outcome of a late read, with a copy of its key.
@@ -130,17 +134,47 @@ fn own_edges(tables: &List<TableDef>, work: &BlockInWork, ran: &Ran) -> Edges
     )
 }
 
-/// What is decided of a transaction by its edges, where nothing else aborts it: it commits unless it stands in a danger.
-pub fn judge_edges(tables: &List<TableDef>, work: &BlockInWork, ran: &Ran) -> Verdict
+// The danger of a transaction by its edges: with exact isolation a cycle that they would close.
+fn find_danger(
+    alloc: Global,
+    exact: bool,
+    set: &EdgeSet,
+    edges: &Edges,
+) -> Result<Option<Danger>, NoMemory>
+    requires few { length (positions_of set.now) < 2 ^ 32 }
+    requires out { AreAmong (positions_of set.now) (holds edges.now.out) }
+    requires into { AreAmong (positions_of set.now) (holds edges.now.into) }
+    ensures found { IfOk result (λ found. found ≡ danger_by (λ pos. pos) (has_edge set.now) (holds edges.now.out) (holds edges.now.into) exact (positions_of set.now)) }
+    ensures few { IfOk result (λ found. IfSome found HasFewPath) }
+{
+    if !exact {
+        return Ok(danger(set, edges));
+    }
+    match cycle(alloc, set, edges)? {
+        None => Ok(None),
+        Some(path) => Ok(Some(Danger::Cycle { path })),
+    }
+}
+
+/// What is decided of a transaction by its edges, where nothing else aborts it: it commits unless it stands in a danger, with exact
+/// isolation or without. The only refusal is out of memory, with exact isolation alone.
+pub fn judge_edges(
+    alloc: Global,
+    exact: bool,
+    tables: &List<TableDef>,
+    work: &BlockInWork,
+    ran: &Ran,
+) -> Result<Verdict, NoMemory>
     requires consistent { IsConsistent tables.now work.now }
     requires few { length work.now.outcomes.items < 1024 }
     requires fits { RunFits tables.now ran.now }
-    ensures outcome { outcome_of result ≡ or_committed (danger_outcome (danger tables.now work.now.committed.items ran.now.reads ran.now.writes)) }
-    ensures verdict { IsVerdictOn tables.now work.now.committed.items ran.now result }
+    ensures outcome { IfOk result (λ verdict. outcome_of verdict
+        ≡ or_committed (danger_outcome (danger exact tables.now work.now.committed.items ran.now.reads ran.now.writes))) }
+    ensures verdict { IfOk result (λ verdict. IsVerdictOn tables.now work.now.committed.items ran.now verdict) }
 {
     let edges = own_edges(tables, work, ran);
-    match danger(&work.edges, &edges) {
-        Some(found) => Verdict::Aborts(Outcome::Danger(found)),
-        None => Verdict::Commits(edges),
+    match find_danger(alloc, exact, &work.edges, &edges)? {
+        Some(found) => Ok(Verdict::Aborts(Outcome::Danger(found))),
+        None => Ok(Verdict::Commits(edges)),
     }
 }

@@ -159,13 +159,19 @@ impl<V: Versions> Chain<V> {
         requires few { length work.now.outcomes.items < 1024 }
         requires consistent { IsConsistent (tables_of self.now.app.value.app) work.now }
         requires fits { RunFits (tables_of self.now.app.value.app) ran.now }
-        ensures outcome { IfOk result (λ verdict. outcome_of verdict ≡ or_committed (by_run (tables_of self.now.app.value.app)
+        ensures outcome { IfOk result (λ verdict. outcome_of verdict ≡ or_committed (by_run self.now.app.value.app.exact (tables_of self.now.app.value.app)
             (writes_between height (work.now.number - 1) (V.history self.now.versions)) work.now.committed.items ran.now)) }
         ensures verdict { IfOk result (λ verdict. IsVerdictOn (tables_of self.now.app.value.app) work.now.committed.items ran.now verdict) }
     {
         match find_cause(self.alloc, &self.versions, work, ran, height)? {
             Some(cause) => Ok(Verdict::Aborts(cause)),
-            None => Ok(judge_edges(self.app.tables(), work, ran)),
+            None => judge_edges(
+                self.alloc,
+                self.app.app().exact,
+                self.app.tables(),
+                work,
+                ran,
+            ),
         }
     }
 

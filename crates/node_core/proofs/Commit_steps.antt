@@ -117,18 +117,18 @@ module _ (kept : Kept) (node : IsNode kept) (working : DeliveredBlock) (here : k
 
   early_is_so : (cause : Outcome) (early : IsEarly kept.app kept.ids working cause) → decided_so early.tx ≡ cause
   early_is_so cause early =
-      ap (λ (o : Option Outcome). or_committed (option_or o (by_run (tables_of kept.app) (writes_between early.tx.height (working.block.value.number - 1) (history_of (world_in kept).sealed)) working.done.committed.items (ran_of early.tx))))
+      ap (λ (o : Option Outcome). or_committed (option_or o (by_run kept.app.exact (tables_of kept.app) (writes_between early.tx.height (working.block.value.number - 1) (history_of (world_in kept).sealed)) working.done.committed.items (ran_of early.tx))))
       (sym (early_is kept node working early.tx here) ∙ early.early)
 
   job_is_so : (number : ℕ) (found : IsByJob kept.app kept.ids working kept.rows number)
-      → decided_so found.tx ≡ outcome_by (tables_of kept.app) kept.history working.done kept.rows (is_done kept node working number found)
+      → decided_so found.tx ≡ outcome_by kept.app.exact (tables_of kept.app) kept.history working.done kept.rows (is_done kept node working number found)
   job_is_so number found =
-      ap (λ (o : Option Outcome). or_committed (option_or o (by_run (tables_of kept.app) (writes_between found.tx.height (working.block.value.number - 1) (history_of (world_in kept).sealed)) working.done.committed.items (ran_of found.tx))))
+      ap (λ (o : Option Outcome). or_committed (option_or o (by_run kept.app.exact (tables_of kept.app) (writes_between found.tx.height (working.block.value.number - 1) (history_of (world_in kept).sealed)) working.done.committed.items (ran_of found.tx))))
       (sym (early_is kept node working found.tx here) ∙ found.late)
-      ∙ ap (λ (ran : Ran). or_committed (by_run (tables_of kept.app) (writes_between found.tx.height (working.block.value.number - 1) (history_of (world_in kept).sealed)) working.done.committed.items ran)) (ran_is kept node working number found)
-      ∙ ap (λ (tx : Tx). or_committed (by_run (tables_of kept.app) (writes_between tx.height (working.block.value.number - 1) (history_of (world_in kept).sealed)) working.done.committed.items found.recorded.ran)) (sym (row_tx kept node working number found))
-      ∙ ap (λ n. or_committed (by_run (tables_of kept.app) (writes_between found.row.tx.value.height (n - 1) (history_of (world_in kept).sealed)) working.done.committed.items found.recorded.ran)) (sym (works_on kept node working here).number)
-      ∙ ap (λ (history : List Stamped). or_committed (by_run (tables_of kept.app) (writes_between found.row.tx.value.height (working.done.number - 1) history) working.done.committed.items found.recorded.ran)) (sym node.holds.writes)
+      ∙ ap (λ (ran : Ran). or_committed (by_run kept.app.exact (tables_of kept.app) (writes_between found.tx.height (working.block.value.number - 1) (history_of (world_in kept).sealed)) working.done.committed.items ran)) (ran_is kept node working number found)
+      ∙ ap (λ (tx : Tx). or_committed (by_run kept.app.exact (tables_of kept.app) (writes_between tx.height (working.block.value.number - 1) (history_of (world_in kept).sealed)) working.done.committed.items found.recorded.ran)) (sym (row_tx kept node working number found))
+      ∙ ap (λ n. or_committed (by_run kept.app.exact (tables_of kept.app) (writes_between found.row.tx.value.height (n - 1) (history_of (world_in kept).sealed)) working.done.committed.items found.recorded.ran)) (sym (works_on kept node working here).number)
+      ∙ ap (λ (history : List Stamped). or_committed (by_run kept.app.exact (tables_of kept.app) (writes_between found.row.tx.value.height (working.done.number - 1) history) working.done.committed.items found.recorded.ran)) (sym node.holds.writes)
 
   module _ (actor pos : ℕ) (zero_actor : actor ≡ 0) (told : reply kept.app (world_in kept) ToCommit ≡ (Decided pos, Some (event.Commit pos))) (journal' : List Entry)
       (more : journal' ≡ kept.journal ++ record { actor = actor; event = event.Commit pos } ∷ []) where
@@ -184,7 +184,7 @@ module _ (kept : Kept) (node : IsNode kept) (working : DeliveredBlock) (here : k
 
     -- by what is recorded of a job
     pub by_job_kept : (number : ℕ) (found : IsByJob kept.app kept.ids working kept.rows number) (working' : DeliveredBlock) (ids' : IdIndex) (rows' : List JobRow)
-        → IsDecided working working' kept.ids ids' found.tx found.recorded.ran (outcome_by (tables_of kept.app) kept.history working.done kept.rows (is_done kept node working number found))
+        → IsDecided working working' kept.ids ids' found.tx found.recorded.ran (outcome_by kept.app.exact (tables_of kept.app) kept.history working.done kept.rows (is_done kept node working number found))
         → IsConsistent (tables_of kept.app) working'.done → rows' ≡ put_row kept.rows number stage.Taken → IsNode (record kept { ids = ids'; work = Some working'; rows = rows'; journal = journal' })
     by_job_kept number found working' ids' rows' decided consistent rows_are =
         commit_kept found.tx working' ids' rows' so consistent

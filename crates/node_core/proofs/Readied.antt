@@ -1,5 +1,5 @@
 -- A transaction of the block in work is decided once its room is taken and its id is noted.
-use Rattle.std.proofs.Common.{List, Some, ap, length, refl, subst, sym, ◌+◌, ◌-◌, ◌∙◌, ◌≡◌, ℕ}
+use Rattle.std.proofs.Common.{Bool, List, Some, ap, length, refl, subst, sym, ◌+◌, ◌-◌, ◌∙◌, ◌≡◌, ℕ}
 use Rattle.std.proofs.lemmas.Option.{same_Some}
 use Rattle.std.specs.Option.{option_map}
 use Rattle.block_work.specs.Block.{IsConsistent, IsSameWork, work_of, work_with}
@@ -53,11 +53,11 @@ module _ (tables : List TableDef) (rows : List JobRow) (number : ℕ) (done : Is
   row_is row there = same_Some row done.row (sym there ∙ done.stands)
 
   -- the outcome by its run, where that is read from the table
-  pub judged_as : (history : List Stamped) (work : BlockInWork) (row : JobRow) (recorded : Record) (height : ℕ) → row_at rows number ≡ Some row → row.stage ≡ stage.Done recorded → height ≡ row.tx.value.height
-      → or_committed (by_run tables (writes_between height (work.number - 1) history) work.committed.items recorded.ran) ≡ outcome_by tables history work rows done
-  judged_as history work row recorded height there stands at =
-      ap (λ h. or_committed (by_run tables (writes_between h (work.number - 1) history) work.committed.items recorded.ran)) (at ∙ ap (λ (r : JobRow). r.tx.value.height) (row_is row there))
-      ∙ ap (λ (one : Record). or_committed (by_run tables (writes_between done.row.tx.value.height (work.number - 1) history) work.committed.items one.ran))
+  pub judged_as : (exact : Bool) (history : List Stamped) (work : BlockInWork) (row : JobRow) (recorded : Record) (height : ℕ) → row_at rows number ≡ Some row → row.stage ≡ stage.Done recorded → height ≡ row.tx.value.height
+      → or_committed (by_run exact tables (writes_between height (work.number - 1) history) work.committed.items recorded.ran) ≡ outcome_by exact tables history work rows done
+  judged_as exact history work row recorded height there stands at =
+      ap (λ h. or_committed (by_run exact tables (writes_between h (work.number - 1) history) work.committed.items recorded.ran)) (at ∙ ap (λ (r : JobRow). r.tx.value.height) (row_is row there))
+      ∙ ap (λ (one : Record). or_committed (by_run exact tables (writes_between done.row.tx.value.height (work.number - 1) history) work.committed.items one.ran))
       (recorded_is recorded (ap (option_map (λ (r : JobRow). r.stage)) there ∙ ap (λ (now : Stage). Some now) stands))
 
 -- ---- the room is taken and the id noted
@@ -82,8 +82,8 @@ module _ (old made : DeliveredBlock) (before after : IdIndex) (id : List ℕ) (s
 
 -- ---- by what is recorded of a done job
 
-module _ (tables : List TableDef) (history : List Stamped) (rows : List JobRow) (number : ℕ) (old made : DeliveredBlock) (verdict : Verdict) (same : IsSameWork old.done made.done) (consistent : IsConsistent tables made.done)
-    (judged : (done : IsDone tables rows number) → outcome_of verdict ≡ outcome_by tables history old.done rows done)
+module _ (exact : Bool) (tables : List TableDef) (history : List Stamped) (rows : List JobRow) (number : ℕ) (old made : DeliveredBlock) (verdict : Verdict) (same : IsSameWork old.done made.done) (consistent : IsConsistent tables made.done)
+    (judged : (done : IsDone tables rows number) → outcome_of verdict ≡ outcome_by exact tables history old.done rows done)
     (sound : (done : IsDone tables rows number) → IsVerdictOn tables old.done.committed.items done.recorded.ran verdict) (recorded : Record)
     (there : option_map (λ (row : JobRow). row.stage) (row_at rows number) ≡ Some (stage.Done recorded)) where
   pub can_add : IsDone tables rows number → CanBeAdded tables made.done recorded.ran verdict
@@ -94,7 +94,7 @@ module _ (tables : List TableDef) (history : List Stamped) (rows : List JobRow) 
   })
 
   pub decided_by : (new : DeliveredBlock) (before after : IdIndex) (tx : Tx) → IsDecided old new before after tx recorded.ran (outcome_of verdict) → (done : IsDone tables rows number)
-      → IsDecided old new before after tx done.recorded.ran (outcome_by tables history old.done rows done)
+      → IsDecided old new before after tx done.recorded.ran (outcome_by exact tables history old.done rows done)
   decided_by new before after tx decided done =
-      subst (λ (one : Record). IsDecided old new before after tx one.ran (outcome_by tables history old.done rows done)) (recorded_is tables rows number done recorded there)
+      subst (λ (one : Record). IsDecided old new before after tx one.ran (outcome_by exact tables history old.done rows done)) (recorded_is tables rows number done recorded there)
       (subst (λ (found : Outcome). IsDecided old new before after tx recorded.ran found) (judged done) decided)

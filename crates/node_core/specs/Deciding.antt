@@ -18,7 +18,7 @@ use Rattle.proc_syntax.specs.declared.call.Tx.{Tx}
 use Rattle.proc_syntax.specs.declared.run.Ran.{Ran}
 use Rattle.rel_base.specs.Tables.{Stamped, writes_between}
 use Rattle.rel_base.specs.declared.schema.TableDef.{TableDef}
-use Rattle.std.specs.Prelude.{List, Some, length, ◌+◌, ◌-◌, ◌≡◌, ℕ}
+use Rattle.std.specs.Prelude.{Bool, List, Some, length, ◌+◌, ◌-◌, ◌≡◌, ℕ}
 
 -- a verdict on a run can be added to a block in work
 pub record CanBeAdded (tables : List TableDef) (work : BlockInWork) (ran : Ran) (verdict : Verdict) : Type 0 where
@@ -35,9 +35,9 @@ pub record IsDone (tables : List TableDef) (rows : List JobRow) (number : ℕ) :
   pub fits : RunFits tables recorded.ran
 
 -- the outcome of a transaction of a block in work by what is recorded of its job's run, on a history
-abbrev pub outcome_by : {number : ℕ} → (tables : List TableDef) → List Stamped → BlockInWork → (rows : List JobRow) → IsDone tables rows number → Outcome
-outcome_by tables history work rows done =
-    or_committed (by_run tables (writes_between done.row.tx.value.height (work.number - 1) history) work.committed.items done.recorded.ran)
+abbrev pub outcome_by : {number : ℕ} → Bool → (tables : List TableDef) → List Stamped → BlockInWork → (rows : List JobRow) → IsDone tables rows number → Outcome
+outcome_by exact tables history work rows done =
+    or_committed (by_run exact tables (writes_between done.row.tx.value.height (work.number - 1) history) work.committed.items done.recorded.ran)
 
 -- the first undecided transaction of a block in work was decided with an outcome, by a run, and its id was noted
 pub record IsDecided (old new : DeliveredBlock) (before after : IdIndex) (tx : Tx) (ran : Ran) (found : Outcome) : Type 0 where

@@ -125,7 +125,7 @@ fn judge_job<V: Versions>(
     requires few { length work.now.outcomes.items < 1024 }
     requires consistent { IsConsistent (tables_of chain.now.app.value.app) work.now }
     ensures outcome { IfOk result (λ verdict. (done : IsDone (tables_of chain.now.app.value.app) jobs.now number)
-        → outcome_of verdict ≡ outcome_by (tables_of chain.now.app.value.app) (V.history chain.now.versions) work.now jobs.now done) }
+        → outcome_of verdict ≡ outcome_by chain.now.app.value.app.exact (tables_of chain.now.app.value.app) (V.history chain.now.versions) work.now jobs.now done) }
     ensures sound { IfOk result (λ verdict. (done : IsDone (tables_of chain.now.app.value.app) jobs.now number)
         → IsVerdictOn (tables_of chain.now.app.value.app) work.now.committed.items done.recorded.ran verdict) }
 {
@@ -158,7 +158,7 @@ fn decide_due<V: Versions>(
     requires consistent { IsConsistent (tables_of chain.now.app.value.app) working.old.done }
     ensures decided { OnOk result ((tx : Tx) → due (shown_work working.old) ≡ Some tx → (done : IsDone (tables_of chain.now.app.value.app) jobs.old number)
         → IsDecided working.old working.new ids.old ids.new tx done.recorded.ran
-        (outcome_by (tables_of chain.now.app.value.app) (V.history chain.now.versions) working.old.done jobs.old done)) }
+        (outcome_by chain.now.app.value.app.exact (tables_of chain.now.app.value.app) (V.history chain.now.versions) working.old.done jobs.old done)) }
     ensures consistent { IsConsistent (tables_of chain.now.app.value.app) working.new.done }
     ensures block { working.new.block ≡ working.old.block }
     ensures rows { OnOk result (jobs.new ≡ put_row jobs.old number Taken) }

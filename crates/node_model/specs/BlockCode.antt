@@ -42,10 +42,11 @@ fault_code (fault.Failed text) = 7 ∷ short_code text
 abbrev pub clash_code : Clash → List ℕ
 clash_code clash = small_code clash.with ++ small_code clash.table ++ key_code clash.key
 
--- a danger: its form, and its positions in the order in which they are found
+-- a danger: its form, and its positions in the order in which they are found, of a cycle after their count
 abbrev pub danger_code : Danger → List ℕ
 danger_code (danger.One z x) = 1 ∷ small_code z ++ small_code x
 danger_code (danger.Two y z) = 2 ∷ small_code y ++ small_code z
+danger_code (danger.Cycle path) = 3 ∷ counted small_code small_code path
 
 -- an outcome: a byte for what became of the transaction, and the cause
 abbrev pub outcome_code : Outcome → List ℕ

@@ -1,9 +1,10 @@
 -- The danger in which a transaction T stands among those that committed before it in its block: two edges in a row as each cycle
--- of edges has them at its earliest member. Where T is refused for them, no cycle comes about.
+-- of edges has them at its earliest member, or, with exact isolation, a cycle. Where T is refused for it, no cycle comes about.
 -- (Two such edges are the dangerous structure of Fekete and others, TODS 30(2), 2005, and Cahill and others, SIGMOD 2008; the two
 -- forms, by position in the block, are this project's own.)
 use Rattle.node_model.specs.Edges.{edge, touches}
-use Rattle.node_model.specs.declared.danger.Danger.TheVariants.{One, Two}
+use Rattle.node_model.specs.Paths.{least_path}
+use Rattle.node_model.specs.declared.danger.Danger.TheVariants.{Cycle, One, Two}
 use Rattle.node_model.specs.declared.danger.Danger.{Danger}
 use Rattle.node_model.specs.declared.result.Committed.{Committed}
 use Rattle.rel_base.specs.declared.access.Made.{Made}
@@ -11,7 +12,7 @@ use Rattle.rel_base.specs.declared.access.Write.{Write}
 use Rattle.rel_base.specs.declared.schema.TableDef.{TableDef}
 use Rattle.std.specs.List.{list_any}
 use Rattle.std.specs.Option.{option_map, option_or}
-use Rattle.std.specs.Prelude.{Bool, List, None, Option, Some, find, nat_le, nat_lt, ◌&&◌, ℕ}
+use Rattle.std.specs.Prelude.{Bool, List, None, Option, Some, cond, find, map, nat_le, nat_lt, ◌&&◌, ℕ}
 
 abbrev pub with_partner : {M : Type 0} → (M → M → Bool) → List M → Option M → Option (M × M)
 with_partner related members None = None
@@ -37,7 +38,15 @@ module _ {M : Type 0} (pos : M → ℕ) (edge : M → M → Bool) (out into : M 
       option_or (option_map (λ pair. One (pos pair.0) (pos pair.1)) (first_pair is_form_one members))
       (option_map (λ pair. Two (pos pair.0) (pos pair.1)) (first_pair is_form_two members))
 
--- the danger of a transaction, by its reads and its writes
-abbrev pub danger : List TableDef → List Committed → List Made → List Write → Option Danger
-danger tables committed reads writes =
-    danger_among (λ done. done.pos) (edge tables) (λ done. touches tables reads done.writes) (λ done. touches tables done.reads writes) committed
+  -- a cycle: the positions on the least path
+  abbrev pub cycle_among : List M → Option Danger
+  cycle_among members = option_map (λ path. Cycle (map pos path)) (least_path pos edge out into members)
+
+  -- with exact isolation a cycle, and else one of the two forms
+  abbrev pub danger_by : Bool → List M → Option Danger
+  danger_by exact members = cond exact (cycle_among members) (danger_among members)
+
+-- the danger of a transaction, by its reads and its writes, with exact isolation or without
+abbrev pub danger : Bool → List TableDef → List Committed → List Made → List Write → Option Danger
+danger exact tables committed reads writes =
+    danger_by (λ done. done.pos) (edge tables) (λ done. touches tables reads done.writes) (λ done. touches tables done.reads writes) exact committed

@@ -103,12 +103,12 @@ run_at app chain tx = run app tx (time_at tx.height chain) (snapshot tx.height c
 abbrev pub writes_since : List SealedBlock → ℕ → Tx → List Stamped
 writes_since chain number tx = writes_between tx.height (number - 1) (history_of chain)
 
--- the causes that its run shows
-abbrev pub by_run : List TableDef → List Stamped → List Committed → Ran → Option Outcome
-by_run tables since committed ran =
+-- the causes that its run shows, with exact isolation or without
+abbrev pub by_run : Bool → List TableDef → List Stamped → List Committed → Ran → Option Outcome
+by_run exact tables since committed ran =
     option_or (late_outcome tables (late tables (map (λ made. made.read) ran.reads) since))
     (option_or (fault_outcome ran.ending)
-    (option_or (conflict_outcome ran.writes (clash committed ran.writes)) (danger_outcome (danger tables committed ran.reads ran.writes))))
+    (option_or (conflict_outcome ran.writes (clash committed ran.writes)) (danger_outcome (danger exact tables committed ran.reads ran.writes))))
 
 -- whether an outcome is that the transaction commits
 abbrev pub is_committed : Outcome → Bool
@@ -123,7 +123,7 @@ or_committed (Some cause) = cause
 -- committed transactions of its block so far, and by a run
 abbrev pub decide_by : App → List SealedBlock → ℕ → List Told → List Committed → Tx → Ran → Outcome
 decide_by app chain number outcomes committed tx ran = or_committed (option_or (early app (ids_of chain ++ ids_told outcomes) number tx)
-    (by_run (tables_of app) (writes_since chain number tx) committed ran))
+    (by_run app.exact (tables_of app) (writes_since chain number tx) committed ran))
 
 -- by its run on the tables of its height
 abbrev pub decide : App → List SealedBlock → ℕ → List Told → List Committed → Tx → Outcome

@@ -1,6 +1,7 @@
 pub mod History
 pub mod Decide
 pub mod Edges
+pub mod Paths
 pub mod Danger
 pub mod Order
 pub mod BlockCode

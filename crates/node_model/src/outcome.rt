@@ -24,7 +24,8 @@ pub enum Outcome {
     Fault(Fault),
     /// A transaction that committed earlier in the block wrote a key that it writes.
     WriteConflict(Clash),
-    /// With some of the transactions that committed earlier in the block it would make two edges in a row as a cycle has them.
+    /// With some of the transactions that committed earlier in the block it would make two edges in a row as a cycle has them, or
+    /// with exact isolation a cycle.
     Danger(Danger),
 }
 
@@ -82,7 +83,7 @@ impl Twin for Outcome {
             Outcome::Late(late) => Ok(Outcome::Late(late.copy(alloc)?)),
             Outcome::Fault(fault) => Ok(Outcome::Fault(fault.copy(alloc)?)),
             Outcome::WriteConflict(clash) => Ok(Outcome::WriteConflict(clash.copy(alloc)?)),
-            Outcome::Danger(danger) => Ok(Outcome::Danger(*danger)),
+            Outcome::Danger(danger) => Ok(Outcome::Danger(danger.copy(alloc)?)),
         }
     }
 }

@@ -42,6 +42,18 @@ table t (i int) key (i);
 table t (i int, j text, k bool, l bytes) key (l, k, j, i) index (i, i);
 table t(i int)key(i);table t(i int)key(i);
 table t (i int) key (i); proc p() { } @table t (i int) key (i);
+isolation@
+isolation @;
+isolation @exactly;
+isolation exact@
+isolation exact @table t (i int) key (i);
+isolation exact; @isolation exact;
+isolation exact; @exact;
+table t (i int) key (i); @isolation exact;
+@exact;
+isolation exact;
+isolation exact; table t (i int) key (i); proc p() { }
+isolation exact;proc p() { }
 "##;
 
 /// Heads of procedures, and what follows them.

@@ -41,29 +41,29 @@ pub early_decides : (app : App) (sealed : List SealedBlock) (number : ℕ) (work
     → known ≡ list_any (bytes_eq tx.id) (ids_of sealed ++ ids_told work.outcomes) → work_with work tx.id no_run cause ≡ work_on app sealed number work tx
 early_decides app sealed number work tx known cause is aborts stands =
     same_abort work tx.id no_run (run_at app sealed tx) cause aborts
-    ∙ ap (λ found. work_with work tx.id (run_at app sealed tx) (or_committed (option_or found (by_run (tables_of app) (writes_since sealed number tx) work.committed (run_at app sealed tx)))))
+    ∙ ap (λ found. work_with work tx.id (run_at app sealed tx) (or_committed (option_or found (by_run app.exact (tables_of app) (writes_since sealed number tx) work.committed (run_at app sealed tx)))))
     (is ∙ ap (λ known. early_by known app number tx) stands)
 
 -- else its run does
 pub run_decides : (app : App) (sealed : List SealedBlock) (number : ℕ) (work : Work) (tx : Tx) (known : Bool) → None ≡ early_by known app number tx
     → known ≡ list_any (bytes_eq tx.id) (ids_of sealed ++ ids_told work.outcomes)
-    → work_with work tx.id (run_at app sealed tx) (or_committed (by_run (tables_of app) (writes_since sealed number tx) work.committed (run_at app sealed tx))) ≡ work_on app sealed number work tx
+    → work_with work tx.id (run_at app sealed tx) (or_committed (by_run app.exact (tables_of app) (writes_since sealed number tx) work.committed (run_at app sealed tx))) ≡ work_on app sealed number work tx
 run_decides app sealed number work tx known none stands =
-    ap (λ found. work_with work tx.id (run_at app sealed tx) (or_committed (option_or found (by_run (tables_of app) (writes_since sealed number tx) work.committed (run_at app sealed tx)))))
+    ap (λ found. work_with work tx.id (run_at app sealed tx) (or_committed (option_or found (by_run app.exact (tables_of app) (writes_since sealed number tx) work.committed (run_at app sealed tx)))))
     (none ∙ ap (λ known. early_by known app number tx) stands)
 
 -- what a verdict on a run comes to is what the definition decides
 module _ (app : App) (sealed : List SealedBlock) (history : List Stamped) (number : ℕ) (work : Work) (tx : Tx) (ran : Ran) (own : ran ≡ run_at app sealed tx) (writes : history ≡ history_of sealed) where
-  pub commit_judged : (found : Outcome) → found ≡ or_committed (by_run (tables_of app) (writes_between tx.height (number - 1) history) work.committed ran)
+  pub commit_judged : (found : Outcome) → found ≡ or_committed (by_run app.exact (tables_of app) (writes_between tx.height (number - 1) history) work.committed ran)
       → work_with work tx.id ran found
-      ≡ work_with work tx.id (run_at app sealed tx) (or_committed (by_run (tables_of app) (writes_since sealed number tx) work.committed (run_at app sealed tx)))
+      ≡ work_with work tx.id (run_at app sealed tx) (or_committed (by_run app.exact (tables_of app) (writes_since sealed number tx) work.committed (run_at app sealed tx)))
   commit_judged found is =
       ap (work_with work tx.id ran) is
-      ∙ (λ i. work_with work tx.id (own i) (or_committed (by_run (tables_of app) (writes_between tx.height (number - 1) (writes i)) work.committed (own i))))
+      ∙ (λ i. work_with work tx.id (own i) (or_committed (by_run app.exact (tables_of app) (writes_between tx.height (number - 1) (writes i)) work.committed (own i))))
 
-  pub abort_judged : (cause : Outcome) → IsCause cause → cause ≡ or_committed (by_run (tables_of app) (writes_between tx.height (number - 1) history) work.committed ran)
+  pub abort_judged : (cause : Outcome) → IsCause cause → cause ≡ or_committed (by_run app.exact (tables_of app) (writes_between tx.height (number - 1) history) work.committed ran)
       → work_with work tx.id no_run cause
-      ≡ work_with work tx.id (run_at app sealed tx) (or_committed (by_run (tables_of app) (writes_since sealed number tx) work.committed (run_at app sealed tx)))
+      ≡ work_with work tx.id (run_at app sealed tx) (or_committed (by_run app.exact (tables_of app) (writes_since sealed number tx) work.committed (run_at app sealed tx)))
   abort_judged cause aborts is = same_abort work tx.id no_run ran cause aborts ∙ commit_judged cause is
 
 -- ---- the block in work

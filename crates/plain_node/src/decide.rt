@@ -75,7 +75,7 @@ fn decide_run<V: Versions>(
     requires consistent { IsConsistent (tables_of chain.now.app.value.app) work.now }
     ensures work { IfOk result (λ decided. (sealed : List SealedBlock) → HoldsChain (tables_of chain.now.app.value.app) sealed (V.history chain.now.versions) chain.now.blocks
         → with_decided (work_of work.now) tx.now.id decided ≡ work_with (work_of work.now) tx.now.id (run_at chain.now.app.value.app sealed tx.now)
-        (or_committed (by_run (tables_of chain.now.app.value.app) (writes_since sealed work.now.number tx.now) work.now.committed.items (run_at chain.now.app.value.app sealed tx.now)))) }
+        (or_committed (by_run chain.now.app.value.app.exact (tables_of chain.now.app.value.app) (writes_since sealed work.now.number tx.now) work.now.committed.items (run_at chain.now.app.value.app sealed tx.now)))) }
     ensures decision { IfOk result (λ decided. IsDecision (tables_of chain.now.app.value.app) work.now decided) }
 {
     let ran = run_tx(alloc, chain, tx)?;

@@ -20,7 +20,7 @@ use Rattle.proc_parse.specs.declared.statements.Head.TheVariants as head
 use Rattle.proc_parse.specs.Phrases.{the_word, the_sign, ended, in_parens, named, named_behind, kind_rule, column, columns, names}
 use Rattle.proc_parse.specs.Expressions.{op_before, if_op, op_at, with_op, chain_from, chain_of, comparison_op, or_op, and_op, sum_op, term_op, single, is_name, name_or_field, line_at, Inner, inner, deeper, atom_of, unary_of, term_of, sum_of, comparison_of, negation_of, conjunction_of, expression_of, expression}
 use Rattle.proc_parse.specs.Statements.{keys, keyed, new_value, let_statement, assignment, some_block, branches, if_statement, two_blocks, get_statement, span_end, span, for_statement, insert_statement, change, changes, update_statement, delete_statement, fail_statement, text_rule, head_of, statement_by, statement_of, no_close, block_at, block}
-use Rattle.proc_parse.specs.Grammar.{table_end, table, parameters, procedure, is_end, application}
+use Rattle.proc_parse.specs.Grammar.{table_end, table, parameters, procedure, is_end, declares_exact, application}
 use Rattle.proc_parse.specs.declared.lexer.Piece.{Piece}
 use Rattle.proc_parse.specs.declared.lexer.Piece.TheVariants as piece
 use Rattle.proc_parse.specs.declared.lexer.Position.{Position}
@@ -321,6 +321,9 @@ pub halts_procedure : Halts procedure
 halts_procedure = halts_then (named_behind word.Proc) _ (halts_named_behind word.Proc)
     (λ name. halts_then parameters _ halts_parameters (λ params. halts_then block _ (halts_block 16) (λ body. halts_done _)))
 
+halts_exact : Halts declares_exact
+halts_exact = halts_behind (is_word word.Isolation) refl refl _ _ (halts_word word.Exact _ (halts_sign sign.Semicolon _ (halts_done true))) (halts_done false)
+
 -- ---- a whole text
 
 -- where nothing is read, something is left
@@ -340,9 +343,10 @@ left_end {A = A} x (t ∷ xs) h =
 
 application_left : (ts : List Token) → has_last ts ≡ true → SomeLeft (application ts)
 application_left ts h =
-    left_then (many_of (is_word word.Table) table ts) _ ((halts_many (is_word word.Table) table halts_table).ends ts h)
+    left_then (declares_exact ts) _ (halts_exact.ends ts h)
+    (λ exact us i. left_then (many_of (is_word word.Table) table us) _ ((halts_many (is_word word.Table) table halts_table).ends us i)
     (λ tables xs k. left_then (many_of (is_word word.Proc) procedure xs) _ ((halts_many (is_word word.Proc) procedure halts_procedure).ends xs k)
-    (λ procs ys m. left_end (record { tables = tables; procs = procs }) ys m))
+    (λ procs ys m. left_end (record { exact = exact; tables = tables; procs = procs }) ys m)))
 
 put_last : (last : Bool) (behind : List Token) → (last ≡ false → has_last behind ≡ true) → (last || has_last (cond last [] behind)) ≡ true
 put_last true behind h = refl

@@ -1,5 +1,5 @@
 -- Each rule of the grammar decides by the tokens that it has seen.
-use Rattle.std.specs.Prelude.{ℕ, zero, suc, List, [], None, refl}
+use Rattle.std.specs.Prelude.{ℕ, zero, suc, List, [], None, false, true, refl}
 use Rattle.proc_parse.specs.declared.token.Word.{Word}
 use Rattle.proc_parse.specs.declared.token.Word.TheVariants as word
 use Rattle.proc_parse.specs.declared.token.Sign.{Sign}
@@ -18,7 +18,7 @@ use Rattle.proc_parse.specs.declared.statements.Head.TheVariants as head
 use Rattle.proc_parse.specs.Phrases.{the_word, the_sign, ended, in_parens, named, named_behind, kind_rule, column, columns, names}
 use Rattle.proc_parse.specs.Expressions.{comparison_op, or_op, and_op, sum_op, term_op, single, is_name, name_or_field, line_at, Inner, inner, deeper, atom_of, unary_of, term_of, sum_of, comparison_of, negation_of, conjunction_of, expression_of, expression}
 use Rattle.proc_parse.specs.Statements.{keys, keyed, new_value, let_statement, assignment, some_block, branches, if_statement, two_blocks, get_statement, span_end, span, for_statement, insert_statement, change, changes, update_statement, delete_statement, fail_statement, text_rule, head_of, statement_by, statement_of, no_close, block_at, block}
-use Rattle.proc_parse.specs.Grammar.{table_end, table, parameters, procedure, is_end, application}
+use Rattle.proc_parse.specs.Grammar.{table_end, table, parameters, procedure, is_end, declares_exact, application}
 
 local_word : {A : Type 0} → (w : Word) (next : Reader A) → IsLocal next → IsLocal (the_word w >> next)
 local_word w next l = local_then (the_word w) (λ _. next) (local_expect (is_word w)) (λ _. l)
@@ -193,7 +193,11 @@ local_procedure = local_then (named_behind word.Proc) _ (local_named_behind word
 local_end : {A : Type 0} → (next : Reader A) → IsLocal next → IsLocal (expect is_end >> next)
 local_end next l = local_then (expect is_end) (λ _. next) (local_expect is_end) (λ _. l)
 
+local_exact : IsLocal declares_exact
+local_exact = local_behind (is_word word.Isolation) _ _ (local_word word.Exact _ (local_sign sign.Semicolon _ (local_done true))) (local_done false)
+
 pub local_application : IsLocal application
-local_application = local_then (many_of (is_word word.Table) table) _ (local_many (is_word word.Table) table shortens_table local_table)
+local_application = local_then declares_exact _ local_exact
+    (λ exact. local_then (many_of (is_word word.Table) table) _ (local_many (is_word word.Table) table shortens_table local_table)
     (λ tables. local_then (many_of (is_word word.Proc) procedure) _ (local_many (is_word word.Proc) procedure shortens_procedure local_procedure)
-    (λ procs. local_end _ (local_done _)))
+    (λ procs. local_end _ (local_done _))))

@@ -320,6 +320,10 @@ whole_parameters = whole_sign sign.Open (whole_behind (is_sign sign.Close) (done
     (whole_done any []) whole_more_parameters
     (never_empty (is_sign sign.Close) more_parameters any (shortens_then (list_of column) _ (shortens_list column shortens_column) (λ params. keeps_sign sign.Close _ (keeps_done params)))) (λ s k. refl))
 
+-- what follows `isolation`
+pub whole_exact : Whole (the_word word.Exact >> ended sign.Semicolon true) (the_word word.Exact >> ended sign.Semicolon true) any (Some (word_token word.Exact))
+whole_exact = whole_word word.Exact (whole_sign sign.Semicolon (whole_done any true))
+
 pub viable_procedure : Viable procedure (procedure_of (block_at 17)) any
 viable_procedure = viable_of (whole_then (whole_named_behind word.Proc) (λ name. whole_then whole_parameters (λ params. whole_then (whole_block 16) (λ body.
     whole_done any (record { name = name; params = params; body = body })))))

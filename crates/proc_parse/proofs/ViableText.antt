@@ -8,19 +8,20 @@ use Rattle.proc_parse.specs.declared.token.Lexeme.{Lexeme}
 use Rattle.proc_parse.specs.declared.token.Lexeme.TheVariants as lexeme
 use Rattle.proc_parse.specs.declared.token.Word.{Word}
 use Rattle.proc_parse.specs.declared.token.Word.TheVariants as word
+use Rattle.proc_parse.specs.declared.token.Sign.TheVariants as sign
 use Rattle.proc_parse.specs.Words.{is_word}
 use Rattle.proc_parse.specs.Tokens.{tokens_of}
-use Rattle.proc_parse.specs.Reading.{Read, Reader, on_read, ◌>>=◌, ◌>>◌, done, if_past, expect, Shortens}
+use Rattle.proc_parse.specs.Reading.{Read, Reader, on_read, ◌>>=◌, ◌>>◌, behind, done, if_past, expect, Shortens}
 use Rattle.proc_parse.specs.Lists.{many_of}
-use Rattle.proc_parse.specs.Phrases.{named_behind}
+use Rattle.proc_parse.specs.Phrases.{ended, named_behind, the_word}
 use Rattle.proc_parse.specs.Statements.{block_at}
-use Rattle.proc_parse.specs.Grammar.{table, parameters, procedure_of, procedure, is_end, application_of, application, deeper_application}
+use Rattle.proc_parse.specs.Grammar.{table, parameters, procedure_of, procedure, is_end, declares_exact, application_of, application, deeper_application}
 use Rattle.proc_parse.specs.Shorter.{shortens_then, shortens_named_behind, shortens_table, shortens_procedure, keeps_then, keeps_done, keeps_parameters, keeps_block}
 use Rattle.proc_parse.specs.Faults.{position_of, IsViable, IsBehindViable}
 use Rattle.proc_parse.proofs.Halts.{has_last, some_left}
-use Rattle.proc_parse.proofs.Viable.{Accepts, MayContinue, Case, Whole, any, whole_done, whole_maybe}
-use Rattle.proc_parse.proofs.ViableForms.{whole_many}
-use Rattle.proc_parse.proofs.ViableRules.{token, viable_table, viable_procedure}
+use Rattle.proc_parse.proofs.Viable.{Accepts, MayContinue, Case, Whole, any, whole_any, whole_done, whole_maybe}
+use Rattle.proc_parse.proofs.ViableForms.{whole_behind, whole_many}
+use Rattle.proc_parse.proofs.ViableRules.{token, viable_table, viable_procedure, whole_exact}
 
 abbrev deeper_procedure : Reader ProcDef
 deeper_procedure = procedure_of (block_at 17)
@@ -31,24 +32,34 @@ shortens_deeper = shortens_then (named_behind word.Proc) _ (shortens_named_behin
 
 -- an application up to its end
 abbrev body_of : Reader ProcDef → Reader App
-body_of proc = many_of (is_word word.Table) table >>= λ tables. many_of (is_word word.Proc) proc >>= λ procs. done (record { tables = tables; procs = procs })
+body_of proc = declares_exact >>= λ exact. many_of (is_word word.Table) table >>= λ tables. many_of (is_word word.Proc) proc >>= λ procs.
+    done (record { exact = exact; tables = tables; procs = procs })
 
 abbrev finish : App → Reader App
 finish app = expect is_end >> done app
 
-after_procs : (tables : List TableText) (r : Read (List ProcDef))
-    → on_read r (λ procs. finish (record { tables = tables; procs = procs })) ≡ on_read (on_read r (λ procs. done (record { tables = tables; procs = procs }))) finish
-after_procs tables (Ok x) = refl
-after_procs tables (Err rest) = refl
+after_procs : (exact : Bool) (tables : List TableText) (r : Read (List ProcDef))
+    → on_read r (λ procs. finish (record { exact = exact; tables = tables; procs = procs }))
+    ≡ on_read (on_read r (λ procs. done (record { exact = exact; tables = tables; procs = procs }))) finish
+after_procs exact tables (Ok x) = refl
+after_procs exact tables (Err rest) = refl
 
-after_tables : (proc : Reader ProcDef) (r : Read (List TableText))
-    → on_read r (λ tables. many_of (is_word word.Proc) proc >>= λ procs. finish (record { tables = tables; procs = procs }))
-    ≡ on_read (on_read r (λ tables. many_of (is_word word.Proc) proc >>= λ procs. done (record { tables = tables; procs = procs }))) finish
-after_tables proc (Ok x) = after_procs x.0 (many_of (is_word word.Proc) proc x.1)
-after_tables proc (Err rest) = refl
+after_tables : (proc : Reader ProcDef) (exact : Bool) (r : Read (List TableText))
+    → on_read r (λ tables. many_of (is_word word.Proc) proc >>= λ procs. finish (record { exact = exact; tables = tables; procs = procs }))
+    ≡ on_read (on_read r (λ tables. many_of (is_word word.Proc) proc >>= λ procs. done (record { exact = exact; tables = tables; procs = procs }))) finish
+after_tables proc exact (Ok x) = after_procs exact x.0 (many_of (is_word word.Proc) proc x.1)
+after_tables proc exact (Err rest) = refl
+
+after_exact : (proc : Reader ProcDef) (r : Read Bool)
+    → on_read r (λ exact. many_of (is_word word.Table) table >>= λ tables. many_of (is_word word.Proc) proc >>= λ procs.
+    finish (record { exact = exact; tables = tables; procs = procs }))
+    ≡ on_read (on_read r (λ exact. many_of (is_word word.Table) table >>= λ tables. many_of (is_word word.Proc) proc >>= λ procs.
+    done (record { exact = exact; tables = tables; procs = procs }))) finish
+after_exact proc (Ok x) = after_tables proc x.0 (many_of (is_word word.Table) table x.1)
+after_exact proc (Err rest) = refl
 
 by_body : (proc : Reader ProcDef) (ts : List Token) → application_of proc ts ≡ on_read (body_of proc ts) finish
-by_body proc ts = after_tables proc (many_of (is_word word.Table) table ts)
+by_body proc ts = after_exact proc (declares_exact ts)
 
 end_quiet : (w : Word) (l : Lexeme) → is_end l ≡ true → is_word w l ≡ false
 end_quiet w (lexeme.Word v) h = absurd cc
@@ -60,10 +71,16 @@ end_quiet w (lexeme.Sign v) h = absurd cc
 end_quiet w lexeme.Bad h = absurd cc
 end_quiet w lexeme.End h = refl
 
+whole_isolation : Whole declares_exact declares_exact is_end None
+whole_isolation = whole_behind (is_word word.Isolation) (the_word word.Exact >> ended sign.Semicolon true) (done false)
+    (the_word word.Exact >> ended sign.Semicolon true) (done false) is_end (whole_any is_end whole_exact) (whole_done is_end false)
+    (λ ts x e. end_quiet word.Isolation) (λ s k. end_quiet word.Isolation s.lexeme k)
+
 whole_body : Whole (body_of procedure) (body_of deeper_procedure) is_end None
-whole_body = whole_maybe (whole_many (is_word word.Table) table table shortens_table shortens_table is_end (end_quiet word.Table) any (λ l k. refl) viable_table)
+whole_body = whole_maybe whole_isolation
+    (λ exact. whole_maybe (whole_many (is_word word.Table) table table shortens_table shortens_table is_end (end_quiet word.Table) any (λ l k. refl) viable_table)
     (λ tables. whole_maybe (whole_many (is_word word.Proc) procedure deeper_procedure shortens_procedure shortens_deeper is_end (end_quiet word.Proc) any (λ l k. refl) viable_procedure)
-    (λ procs. whole_done is_end (record { tables = tables; procs = procs })))
+    (λ procs. whole_done is_end (record { exact = exact; tables = tables; procs = procs }))))
 
 abbrev end_token : Token
 end_token = token lexeme.End

@@ -46,10 +46,14 @@ abbrev pub is_end : Lexeme → Bool
 is_end lexeme.End = true
 is_end _ = false
 
--- app = table* proc*, and nothing more
+-- ["isolation" "exact" ";"]
+abbrev pub declares_exact : Reader Bool
+declares_exact = behind (is_word word.Isolation) (the_word word.Exact >> ended sign.Semicolon true) (done false)
+
+-- app = ["isolation" "exact" ";"] table* proc*, and nothing more
 abbrev pub application_of : Reader ProcDef → Reader App
-application_of procedure = many_of (is_word word.Table) table >>= λ tables. many_of (is_word word.Proc) procedure >>= λ procs.
-    expect is_end >> done (record { tables = tables; procs = procs })
+application_of procedure = declares_exact >>= λ exact. many_of (is_word word.Table) table >>= λ tables.
+    many_of (is_word word.Proc) procedure >>= λ procs. expect is_end >> done (record { exact = exact; tables = tables; procs = procs })
 
 abbrev pub application : Reader App
 application = application_of procedure

@@ -4,7 +4,7 @@ ghost use Rattle.std.specs.Prelude.{◌≡◌, []};
 ghost use Rattle.proc_parse.specs.Words.{is_word};
 ghost use Rattle.proc_parse.specs.Reading.{Gives, GoesOn, behind, done, expect};
 ghost use Rattle.proc_parse.specs.Phrases.{names};
-ghost use Rattle.proc_parse.specs.Grammar.{table_end, table, more_parameters, parameters, procedure, is_end, application};
+ghost use Rattle.proc_parse.specs.Grammar.{table_end, table, more_parameters, parameters, procedure, is_end, declares_exact, application};
 ghost use Rattle.proc_parse.specs.Shorter.{shortens_procedure, shortens_table};
 
 use crate::names::named_behind;
@@ -111,14 +111,32 @@ fn end(tokens: &[Token]) -> Result<&[Token], Stop<'_>>
     }
 }
 
+/// Reads `isolation exact;` at the start of an application, which may be absent.
+fn declares_exact(tokens: &[Token]) -> Parsed<'_, bool>
+    ensures { Gives result (declares_exact tokens.now) }
+{
+    match past_word(tokens, Word::Isolation) {
+        Some(rest) => ended(true, word(rest, Word::Exact)?, Sign::Semicolon),
+        None => Ok((false, tokens)),
+    }
+}
+
 /// Reads a whole application.
 pub fn application<'a>(alloc: Global, tokens: &'a [Token]) -> Parsed<'a, App>
     ensures { Gives result (application tokens.now) }
 {
-    let (tables, rest) = many(alloc, tokens, Word::Table)?;
+    let (exact, rest) = declares_exact(tokens)?;
+    let (tables, rest) = many(alloc, rest, Word::Table)?;
     let (procs, rest) = many(alloc, rest, Word::Proc)?;
     match end(rest) {
-        Ok(rest) => Ok((App { tables, procs }, rest)),
+        Ok(rest) => {
+            let app = App {
+                exact,
+                tables,
+                procs,
+            };
+            Ok((app, rest))
+        }
         Err(stop) => Err(letting_go((tables, procs), stop)),
     }
 }

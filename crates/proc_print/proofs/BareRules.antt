@@ -23,7 +23,7 @@ use Rattle.proc_parse.specs.Lists.{list_of, many_of}
 use Rattle.proc_parse.specs.Phrases.{the_word, the_sign, ended, in_parens, name_of, named, named_behind, kind_rule, column, columns, names}
 use Rattle.proc_parse.specs.Expressions.{comparison_op, or_op, and_op, sum_op, term_op, value_of, literal_of, single, is_name, field_of, name_or_field, line_where, line_at, Inner, inner, deeper, atom_of, unary_of, term_of, sum_of, comparison_of, negation_of, conjunction_of, expression_of, expression}
 use Rattle.proc_parse.specs.Statements.{keys, keyed, new_value, let_statement, assignment, some_block, branches, if_statement, two_blocks, get_statement, some_expression, span_end, span, for_statement, insert_statement, change, changes, update_statement, delete_statement, fail_statement, text_rule, head_of, statement_by, statement_of, no_close, block_at, block}
-use Rattle.proc_parse.specs.Grammar.{table_end, table, more_parameters, parameters, procedure, is_end, application}
+use Rattle.proc_parse.specs.Grammar.{table_end, table, more_parameters, parameters, procedure, is_end, declares_exact, application}
 use Rattle.proc_print.specs.Unlined.{unlined_name, unlined_column, unlined_expr, unlined_change, unlined_stmt, unlined_table, unlined_procedure, unlined}
 use Rattle.proc_print.proofs.UnlinedTrees.{unlined_value, unlined_now, unlined_var, unlined_field, unlined_not, unlined_neg, unlined_paren, unlined_two, unlined_let, unlined_assign, unlined_other, unlined_if, unlined_get, unlined_for, unlined_insert, unlined_update, unlined_delete, unlined_fail}
 use Rattle.proc_print.proofs.Bare.{bared, IsBare, same_unit, bare_done, bare_refuse, bare_then, bare_behind, bare_before, bare_first, bare_one, bare_expect, bare_op, bare_chain, bare_list, bare_many}
@@ -294,8 +294,16 @@ bare_procedure = bare_then unlined_name unlined_procedure (named_behind word.Pro
     bare_then (map unlined_column) unlined_procedure parameters parameters _ _ bare_parameters (λ params. bare_then unlined_body unlined_procedure block block _ _ (bare_block 16)
     (λ body. bare_done unlined_procedure (record { name = name; params = params; body = body }) _ refl)))
 
+abbrev same_flag : Bool → Bool
+same_flag flag = flag
+
+bare_exact : IsBare same_flag declares_exact declares_exact
+bare_exact = bare_behind same_flag (is_word word.Isolation) _ _ (done false) (done false)
+    (bare_word same_flag word.Exact _ _ (bare_sign same_flag sign.Semicolon _ _ (bare_done same_flag true true refl))) (bare_done same_flag false false refl)
+
 pub bare_application : IsBare unlined application application
-bare_application = bare_then (map unlined_table) unlined (many_of (is_word word.Table) table) (many_of (is_word word.Table) table) _ _ (bare_many unlined_table (is_word word.Table) table table bare_table)
+bare_application = bare_then same_flag unlined declares_exact declares_exact _ _ bare_exact
+    (λ exact. bare_then (map unlined_table) unlined (many_of (is_word word.Table) table) (many_of (is_word word.Table) table) _ _ (bare_many unlined_table (is_word word.Table) table table bare_table)
     (λ tables. bare_then (map unlined_procedure) unlined (many_of (is_word word.Proc) procedure) (many_of (is_word word.Proc) procedure) _ _
     (bare_many unlined_procedure (is_word word.Proc) procedure procedure bare_procedure)
-    (λ procs. bare_then same_unit unlined (expect is_end) (expect is_end) _ _ (bare_expect is_end) (λ _. bare_done unlined (record { tables = tables; procs = procs }) _ refl)))
+    (λ procs. bare_then same_unit unlined (expect is_end) (expect is_end) _ _ (bare_expect is_end) (λ _. bare_done unlined (record { exact = exact; tables = tables; procs = procs }) _ refl))))

@@ -1,5 +1,5 @@
 -- The text of a tree has the tokens of the tree.
-use Rattle.std.proofs.Common.{◌≡◌, ℕ, List, [], ◌∷◌, ◌++◌, map, Option, Some, None, refl, sym, ap, subst, codes}
+use Rattle.std.proofs.Common.{◌≡◌, ℕ, Bool, true, false, List, [], ◌∷◌, ◌++◌, map, Option, Some, None, refl, sym, ap, subst, codes}
 use Rattle.std.specs.Prelude.{flat_map}
 use Rattle.proc_syntax.specs.declared.tree.Named.{Named}
 use Rattle.proc_syntax.specs.declared.tree.Change.{Change}
@@ -16,8 +16,8 @@ use Rattle.proc_syntax.proofs.ExprTrees as exprs
 use Rattle.proc_parse.specs.declared.token.Word.{Word}
 use Rattle.proc_parse.specs.declared.token.Word.TheVariants as word
 use Rattle.proc_parse.specs.Words.{spelling}
-use Rattle.proc_print.specs.Printed.{listed, in_parens, expr_step, expr_text, line_text, block_text, end_text, change_text, keyed_text, ends_text, span_text, insert_text, update_text, delete_text, fail_text, stmt_step, stmt_text, column_text, named_text, index_text, table_text, procedure_text, printed}
-use Rattle.proc_print.proofs.Spoken.{Spoken, silent, say_word, say_name, say_more, say_listed, say_parens, say_all, say_expr_step, say_expr, say_keyed, say_change, say_end, in_turn, say_block, say_stmt_step, say_stmt, say_column, say_index, say_table, say_procedure}
+use Rattle.proc_print.specs.Printed.{listed, in_parens, expr_step, expr_text, line_text, block_text, end_text, change_text, keyed_text, ends_text, span_text, insert_text, update_text, delete_text, fail_text, stmt_step, stmt_text, column_text, named_text, index_text, isolation_text, table_text, procedure_text, printed}
+use Rattle.proc_print.proofs.Spoken.{Spoken, silent, say_word, say_name, say_more, say_listed, say_parens, say_all, say_expr_step, say_expr, say_keyed, say_change, say_end, in_turn, say_block, say_stmt_step, say_stmt, say_column, say_exact, say_index, say_table, say_procedure}
 use Rattle.proc_print.proofs.Lexed.{Ends, Closed, Open, closed_closed, closed_open, open_closed, open_open, opened, closed_none}
 use Rattle.proc_print.proofs.LexedTokens.{blank, line_end, open_sign, close_sign, open_brace, close_brace, comma, semicolon, dot, minus, equal, keyword, inner_word, kind_open, kind_ends, name_open, op_closed, op_ends, text_closed, value_open, word_open}
 
@@ -195,7 +195,13 @@ procedure_closed p =
 
 -- the tokens of an application but for the end
 abbrev pub say_all_of : App → Spoken
-say_all_of app r = say_all say_table app.tables (say_all say_procedure app.procs r)
+say_all_of app r = say_exact app.exact (say_all say_table app.tables (say_all say_procedure app.procs r))
+
+exact_closed : (exact : Bool) → Closed (isolation_text exact) (say_exact exact)
+exact_closed false = closed_none
+exact_closed true = closed_closed (keyword word.Isolation) (open_closed (word_open word.Exact) (closed_closed semicolon line_end) (λ rest. refl))
 
 pub app_closed : (app : App) → Closed (printed app) (say_all_of app)
-app_closed app = closed_closed (all_closed table_text say_table table_closed app.tables) (all_closed procedure_text say_procedure procedure_closed app.procs)
+app_closed app =
+    closed_closed (closed_closed (exact_closed app.exact) (all_closed table_text say_table table_closed app.tables))
+    (all_closed procedure_text say_procedure procedure_closed app.procs)

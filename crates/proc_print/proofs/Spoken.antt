@@ -1,5 +1,5 @@
 -- The tokens of a tree, before those that follow it.
-use Rattle.std.specs.Prelude.{cond, List, [], ◌∷◌, Option, Some, None, map}
+use Rattle.std.specs.Prelude.{cond, Bool, true, false, List, [], ◌∷◌, Option, Some, None, map}
 use Rattle.rel_base.specs.declared.value.Kind.{Kind}
 use Rattle.rel_base.specs.declared.value.Kind.TheVariants as kind
 use Rattle.rel_base.specs.declared.value.Value.{Value}
@@ -161,5 +161,9 @@ say_table t r =
 abbrev pub say_procedure : ProcDef → Spoken
 say_procedure p r = say_word word.Proc (say_name p.name (say_parens say_column p.params (say_block (map say_stmt p.body) r)))
 
+abbrev pub say_exact : Bool → Spoken
+say_exact false r = r
+say_exact true r = say_word word.Isolation (say_word word.Exact (say_sign sign.Semicolon r))
+
 abbrev pub say_app : App → Spoken
-say_app app r = say_all say_table app.tables (say_all say_procedure app.procs (lexeme.End ∷ r))
+say_app app r = say_exact app.exact (say_all say_table app.tables (say_all say_procedure app.procs (lexeme.End ∷ r)))

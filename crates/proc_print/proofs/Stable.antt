@@ -15,7 +15,7 @@ use Rattle.proc_syntax.specs.declared.tree.Stmt.TheOpen as open_stmt
 use Rattle.proc_syntax.specs.declared.tree.Stmt.TheVariants as stmt
 use Rattle.proc_syntax.proofs.Trees as trees
 use Rattle.proc_syntax.proofs.ExprTrees as exprs
-use Rattle.proc_print.specs.Printed.{listed, in_parens, op_text, expr_step, expr_text, line_text, block_text, end_text, change_text, keyed_text, ends_text, span_text, insert_text, update_text, delete_text, stmt_step, stmt_text, column_text, named_text, index_text, table_text, procedure_text, printed}
+use Rattle.proc_print.specs.Printed.{listed, in_parens, op_text, expr_step, expr_text, line_text, block_text, end_text, change_text, keyed_text, ends_text, span_text, insert_text, update_text, delete_text, stmt_step, stmt_text, column_text, named_text, index_text, isolation_text, table_text, procedure_text, printed}
 use Rattle.proc_print.specs.Unlined.{unlined_name, unlined_column, unlined_expr_step, unlined_expr, unlined_change, unlined_stmt_step, unlined_stmt, unlined_table, unlined_procedure, unlined}
 use Rattle.proc_print.specs.Laws.{PrintsAreStable}
 use Rattle.proc_print.proofs.PrintedBack.{prints_agree}
@@ -200,7 +200,9 @@ procedure_same p =
     (body_same p.body []))
 
 unlined_prints : (app : App) → printed (unlined app) ≡ printed app
-unlined_prints app = both (all_same table_text unlined_table table_same app.tables) (all_same procedure_text unlined_procedure procedure_same app.procs)
+unlined_prints app =
+    both (ap (λ text. isolation_text app.exact ++ text) (all_same table_text unlined_table table_same app.tables))
+    (all_same procedure_text unlined_procedure procedure_same app.procs)
 
 pub prints_are_stable : PrintsAreStable
 prints_are_stable text app again found read = sym (unlined_prints again) ∙ ap printed (prints_agree text app again found read) ∙ unlined_prints app

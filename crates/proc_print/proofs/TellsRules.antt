@@ -21,8 +21,8 @@ use Rattle.proc_parse.specs.Lists.{list_from, list_of, many_of}
 use Rattle.proc_parse.specs.Phrases.{the_sign, ended, in_parens, name_of, named, named_behind, kind_of_lexeme, kind_of_word, kind_rule, column, columns, names}
 use Rattle.proc_parse.specs.Expressions.{comparison_op, or_op, and_op, sum_op, term_op, single_of, single, is_name, field_of, name_or_field, line_where, line_at, Inner, inner, deeper, atom_of, unary_of, term_of, sum_of, comparison_of, negation_of, conjunction_of, expression_of, expression}
 use Rattle.proc_parse.specs.Statements.{keys, keyed, new_value, let_statement, assignment, some_block, branches, if_statement, two_blocks, get_statement, some_expression, span_end, span, for_statement, insert_statement, change, changes, update_statement, delete_statement, fail_statement, text_of, text_rule, head_of, statement_by, statement_of, no_close, block_at, block}
-use Rattle.proc_parse.specs.Grammar.{table_end, table, more_parameters, parameters, procedure, is_end, application}
-use Rattle.proc_print.proofs.Spoken.{Spoken, silent, say_word, say_sign, say_name, say_listed, say_parens, say_all, op_lexeme, say_expr, say_keyed, say_change, say_end, in_turn, say_stmt, kind_word, say_column, say_index, say_table, say_procedure, say_app}
+use Rattle.proc_parse.specs.Grammar.{table_end, table, more_parameters, parameters, procedure, is_end, declares_exact, application}
+use Rattle.proc_print.proofs.Spoken.{Spoken, silent, say_word, say_sign, say_name, say_listed, say_parens, say_all, op_lexeme, say_expr, say_keyed, say_change, say_end, in_turn, say_stmt, kind_word, say_column, say_exact, say_index, say_table, say_procedure, say_app}
 use Rattle.proc_print.proofs.SpokenTrees.{said_value, said_now, said_var, said_field, said_not, said_neg, said_paren, said_two, say_body, say_other, said_let, said_assign, said_if, said_get, said_for, said_insert, said_update, said_delete, said_fail}
 use Rattle.proc_print.proofs.Tells.{Where, Told, Tells, after, that_word, that_sign, tells_done, tells_refuse, tells_then, tells_heard, tells_behind, tells_before, tells_first, tells_expect, tells_word, tells_sign, tells_one, tells_op, tells_chain, tells_list, tells_many}
 
@@ -356,8 +356,14 @@ tells_procedure = tells_then _ (after (say_word word.Proc) say_name) say_procedu
 that_end : (m : Lexeme) → is_end m ≡ true → m ≡ lexeme.End
 that_end m = elim m as (λ m. is_end m ≡ true → m ≡ lexeme.End) [ lexeme.End ↦ λ h. refl | _ ↦ λ h. absurd cc ]
 
+tells_exact : Tells silent say_exact declares_exact
+tells_exact = tells_behind (is_word word.Isolation) (lexeme.Word word.Isolation) (that_word word.Isolation) silent say_exact _ (done false)
+    (tells_word _ say_exact word.Exact _ (tells_sign _ say_exact sign.Semicolon _ (tells_done _ say_exact true (λ r. refl))))
+    (tells_done silent say_exact false (λ r. refl))
+
 pub tells_application : Tells silent say_app application
-tells_application = tells_then _ (say_all say_table) say_app (many_of (is_word word.Table) table) _ (tells_many (is_word word.Table) table say_table tells_table)
+tells_application = tells_then _ say_exact say_app declares_exact _ tells_exact
+    (λ exact. tells_then _ (say_all say_table) say_app (many_of (is_word word.Table) table) _ (tells_many (is_word word.Table) table say_table tells_table)
     (λ tables. tells_then _ (say_all say_procedure) say_app (many_of (is_word word.Proc) procedure) _ (tells_many (is_word word.Proc) procedure say_procedure tells_procedure)
     (λ procs. tells_then _ (λ _ r. lexeme.End ∷ r) say_app (expect is_end) _ (tells_expect is_end lexeme.End that_end)
-    (λ _. tells_done _ say_app (record { tables = tables; procs = procs }) (λ r. refl))))
+    (λ _. tells_done _ say_app (record { exact = exact; tables = tables; procs = procs }) (λ r. refl)))))

@@ -1,5 +1,5 @@
 -- The text of a tree: one declaration or statement to a line, each block indented by two spaces, the parentheses of the tree and no others.
-use Rattle.std.specs.Prelude.{ℕ, cond, List, [], ◌∷◌, ◌++◌, Option, Some, None, map, flat_map, codes}
+use Rattle.std.specs.Prelude.{ℕ, Bool, cond, List, [], ◌∷◌, ◌++◌, Option, Some, None, map, flat_map, codes}
 use Rattle.std.specs.Fmt.{signed_decimal}
 use Rattle.literals.specs.Text.{text_literal}
 use Rattle.literals.specs.Bytes.{bytes_literal}
@@ -162,6 +162,10 @@ table_text t = codes "table " ++ t.name.name ++ codes " " ++ in_parens column_te
 abbrev pub procedure_text : ProcDef → List ℕ
 procedure_text p = codes "proc " ++ p.name.name ++ in_parens column_text p.params ++ codes " " ++ block_text (map stmt_text p.body) [] ++ codes "\n"
 
+-- the declaration of exact isolation, where it is made
+abbrev pub isolation_text : Bool → List ℕ
+isolation_text exact = cond exact (codes "isolation exact;\n") []
+
 -- an application
 abbrev pub printed : App → List ℕ
-printed app = flat_map table_text app.tables ++ flat_map procedure_text app.procs
+printed app = isolation_text app.exact ++ flat_map table_text app.tables ++ flat_map procedure_text app.procs

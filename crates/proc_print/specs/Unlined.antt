@@ -73,4 +73,4 @@ unlined_procedure p = record { name = unlined_name p.name; params = map unlined_
 
 -- an application in all but line numbers
 abbrev pub unlined : App → App
-unlined app = record { tables = map unlined_table app.tables; procs = map unlined_procedure app.procs }
+unlined app = record { exact = app.exact; tables = map unlined_table app.tables; procs = map unlined_procedure app.procs }

@@ -2,7 +2,7 @@
 
 ghost use Rattle.std.specs.Prelude.{◌≡◌, ◌++◌, [], OnOk, IfOk, codes, flat_map};
 ghost use Rattle.proc_print.specs.Laws.{ComesBack};
-ghost use Rattle.proc_print.specs.Printed.{column_text, index_text, kind_text, named_text, printed, procedure_text, table_text};
+ghost use Rattle.proc_print.specs.Printed.{column_text, index_text, isolation_text, kind_text, named_text, printed, procedure_text, table_text};
 
 use crate::printed_expressions::push_name;
 use crate::printed_statements::push_block;
@@ -99,6 +99,16 @@ fn push_procedures(alloc: Global, out: &mut Vec<u8>, procedures: &[ProcDef]) -> 
     Ok(())
 }
 
+/// Writes the declaration of exact isolation at the end, where it is made.
+fn push_isolation(out: &mut Vec<u8>, exact: bool) -> Result<(), NoMemory>
+    ensures { OnOk result (out.new.items ≡ out.old.items ++ isolation_text exact) }
+{
+    if !exact {
+        return Ok(());
+    }
+    push(out, b"isolation exact;\n")
+}
+
 /// The text of an application: one declaration or statement to a line, each block indented by two spaces.
 pub fn print(alloc: Global, app: &App) -> Result<List<u8>, NoMemory>
     // The text of the tree.
@@ -107,6 +117,7 @@ pub fn print(alloc: Global, app: &App) -> Result<List<u8>, NoMemory>
     ensures back { IfOk result (λ bytes. ComesBack app.now bytes) }
 {
     let mut out = Vec::new(alloc);
+    push_isolation(&mut out, app.exact)?;
     push_tables(&mut out, app.tables.as_slice())?;
     push_procedures(alloc, &mut out, app.procs.as_slice())?;
     Ok(List::from_vec(out))

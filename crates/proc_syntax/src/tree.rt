@@ -5,6 +5,9 @@ use rel_base::{Boxed, Kind, List, Name, Str, Value};
 /// An application: its tables and its procedures, in the order of the text.
 #[derive(Drop)]
 pub struct App {
+    /// Whether a transaction is refused only where its edges close a cycle (`isolation exact;`), or for two edges in a row
+    /// that a cycle may have.
+    pub exact: bool,
     pub tables: List<TableText>,
     pub procs: List<ProcDef>,
 }

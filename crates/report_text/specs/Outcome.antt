@@ -53,10 +53,15 @@ clash_text tables clash = codes "write-conflict with " ++ write_text tables clas
 abbrev pub positions_text : ℕ → ℕ → List ℕ
 positions_text first second = codes " " ++ decimal first ++ codes " " ++ decimal second
 
--- a danger: its form, and its positions in the order in which they are found
+-- the positions on a path, each after a space
+abbrev pub path_text : List ℕ → List ℕ
+path_text path = flat_map (λ pos. codes " " ++ decimal pos) path
+
+-- a danger: its form, and its positions in the order in which they are found, of a cycle those on its path
 abbrev pub danger_text : Danger → List ℕ
 danger_text (danger.One z x) = codes "danger one" ++ positions_text z x
 danger_text (danger.Two y z) = codes "danger two" ++ positions_text y z
+danger_text (danger.Cycle path) = codes "danger cycle" ++ path_text path
 
 -- why a run ended without its writes
 abbrev pub fault_text : Fault → List ℕ

@@ -1,13 +1,13 @@
 //! The texts of outcomes.
 
 ghost use Rattle.std.specs.Prelude.{◌≡◌, ◌++◌, OnOk};
-ghost use Rattle.report_text.specs.Outcome.{name_of, table_name, key_text, write_text, late_word, late_text, clash_text, fault_text, positions_text, danger_text, outcome_text};
+ghost use Rattle.report_text.specs.Outcome.{name_of, table_name, key_text, write_text, late_word, late_text, clash_text, fault_text, path_text, positions_text, danger_text, outcome_text};
 
 use crate::text::Text;
 use crate::value::push_values;
 use node_model::{Clash, Danger, Late, Outcome};
 use proc_syntax::Fault;
-use rel_base::{Key, NoMemory, TableDef};
+use rel_base::{Key, List, NoMemory, TableDef};
 
 /// The name of the table of a number.
 pub fn table_name(tables: &[TableDef], table: u32) -> &str
@@ -105,18 +105,40 @@ fn push_positions(out: &mut Text, first: u32, second: u32) -> Result<(), NoMemor
     out.push_number(u64::from(second))
 }
 
-/// A danger: its form, and its positions in the order in which they are found.
-fn push_danger(out: &mut Text, danger: Danger) -> Result<(), NoMemory>
-    ensures { OnOk result (out.new ≡ out.old ++ danger_text danger) }
+/// The positions on a path, each after a space.
+fn push_path(out: &mut Text, path: &[u32]) -> Result<(), NoMemory>
+    ensures { OnOk result (out.new ≡ out.old ++ path_text path.now) }
+{
+    for pos in path {
+        out.push(" ")?;
+        out.push_number(u64::from(*pos))?;
+    }
+    Ok(())
+}
+
+/// The same of a list.
+fn push_cycle(out: &mut Text, path: &List<u32>) -> Result<(), NoMemory>
+    ensures { OnOk result (out.new ≡ out.old ++ path_text path.now) }
+{
+    push_path(out, path.as_slice())
+}
+
+/// A danger: its form, and its positions in the order in which they are found, of a cycle those on its path.
+fn push_danger(out: &mut Text, danger: &Danger) -> Result<(), NoMemory>
+    ensures { OnOk result (out.new ≡ out.old ++ danger_text danger.now) }
 {
     match danger {
         Danger::One { z, x } => {
             out.push("danger one")?;
-            push_positions(out, z, x)
+            push_positions(out, *z, *x)
         }
         Danger::Two { y, z } => {
             out.push("danger two")?;
-            push_positions(out, y, z)
+            push_positions(out, *y, *z)
+        }
+        Danger::Cycle { path } => {
+            out.push("danger cycle")?;
+            push_cycle(out, path)
         }
     }
 }
@@ -145,7 +167,7 @@ pub fn push_outcome(out: &mut Text, tables: &[TableDef], outcome: &Outcome) -> R
         }
         Outcome::Danger(danger) => {
             out.push("aborted ")?;
-            push_danger(out, *danger)
+            push_danger(out, danger)
         }
     }
 }

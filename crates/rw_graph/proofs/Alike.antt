@@ -14,7 +14,7 @@ module _ {M N : Type 0} (f : M → N) where
   any_alike p q [] same = refl
   any_alike p q (x ∷ xs) same = ap (λ b. b || list_any q (map f xs)) (same x (inl refl)) ∙ ap (λ b. p x || b) (any_alike p q xs (λ y h. same y (inr h)))
 
-  find_alike : (p : M → Bool) (q : N → Bool) (xs : List M) → ((x : M) → In x xs → q (f x) ≡ p x) → find q (map f xs) ≡ option_map f (find p xs)
+  pub find_alike : (p : M → Bool) (q : N → Bool) (xs : List M) → ((x : M) → In x xs → q (f x) ≡ p x) → find q (map f xs) ≡ option_map f (find p xs)
   find_alike p q [] same = refl
   find_alike p q (x ∷ xs) same =
       ap (λ b. cond b (Some (f x)) (find q (map f xs))) (same x (inl refl)) ∙ ap (cond (p x) (Some (f x))) (find_alike p q xs (λ y h. same y (inr h))) ∙ step (p x) (find p xs)

@@ -1,18 +1,26 @@
 -- Edges by position are the edges of the transactions at the positions.
-use Rattle.std.proofs.Common.{ap, arith, inl, inr, not, refl, subst, sym, Bool, List, false, cond, [], ◌++◌, ◌∷◌, ◌∙◌, ◌<◌, ◌≡◌, ◌&&◌, ◌||◌, ◌≢◌, ℕ, ⊎_elim}
+use Rattle.std.proofs.Common.{ap, arith, inl, inr, map, not, refl, subst, sym, Bool, List, None, Option, Some, true, false, cond, [], ◌++◌, ◌∷◌, ◌∙◌, ◌<◌, ◌≡◌, ◌&&◌, ◌||◌, ◌≢◌, ℕ, ⊎_elim}
 use Rattle.std.specs.Bool.{nat_eq}
 use Rattle.std.specs.List.{list_any}
+use Rattle.std.specs.Option.{option_map}
 use Rattle.std.specs.Prelude.{All}
 use Rattle.std.proofs.lemmas.Bool.{eq-eqb}
 use Rattle.std.proofs.lemmas.Bool.Decides.{eqb_tells}
 use Rattle.std.proofs.lemmas.List.Elements.{recursion_from_All}
 use Rattle.std.proofs.lemmas.List.Folds.{list_any-append}
+use Rattle.std.proofs.lemmas.List.{map-id}
+use Rattle.node_model.specs.Danger.{danger_by}
 use Rattle.node_model.specs.Edges.{comes_from, edge, edge_at, leads_to, touches}
+use Rattle.node_model.specs.Paths.{least_path}
+use Rattle.node_model.specs.declared.danger.Danger.TheVariants.{Cycle}
 use Rattle.node_model.specs.declared.result.Committed.{Committed}
+use Rattle.rel_base.specs.declared.access.Made.{Made}
+use Rattle.rel_base.specs.declared.access.Write.{Write}
 use Rattle.rel_base.specs.declared.schema.TableDef.{TableDef}
 use Rattle.rel_base.proofs.Bits.{and_false, or_false, or_true}
 use Rattle.rw_graph.proofs.Alike.{danger_alike}
 use Rattle.rw_graph.proofs.Lists.{In, Pairs, each_at, none_of, pairs_from}
+use Rattle.rw_graph.proofs.PathsAlike.{least_alike}
 use Rattle.rw_graph.specs.Graph.{with_position}
 use Rattle.rw_graph.specs.Laws.{DangerByPosition, EdgesAreAmong, EdgesGrow, places}
 use Rattle.rw_graph.specs.Sets.{AreAmong, is_among}
@@ -49,14 +57,40 @@ pub are_among : EdgesAreAmong
 are_among tables committed reads writes =
     (among_places (λ done. touches tables reads done.writes) committed, among_places (λ done. touches tables done.reads writes) committed)
 
+module _ (tables : List TableDef) (committed : List Committed) (reads : List Made) (writes : List Write) (rising : Pairs (λ earlier later. earlier.pos < later.pos) committed) where
+  abbrev out : Committed → Bool
+  out done = touches tables reads done.writes
+
+  abbrev into : Committed → Bool
+  into done = touches tables done.reads writes
+
+  between : (from : Committed) → In from committed → (to : Committed) → In to committed → edge_at tables committed from.pos to.pos ≡ edge tables from to
+  between from h to k =
+      at_one committed rising from h (λ first. list_any (λ second. nat_eq second.pos to.pos && edge tables first second) committed) ∙ at_one committed rising to k (edge tables from)
+
+  outs : (done : Committed) → In done committed → leads_to tables committed reads done.pos ≡ out done
+  outs done h = at_one committed rising done h out
+
+  intos : (done : Committed) → In done committed → comes_from tables committed writes done.pos ≡ into done
+  intos done h = at_one committed rising done h into
+
+  -- a cycle by the positions themselves
+  cycle_told : (found : Option (List Committed)) → option_map (λ path. Cycle (map (λ p. p) path)) (option_map (map (λ (done : Committed). done.pos)) found)
+      ≡ option_map (λ path. Cycle (map (λ (done : Committed). done.pos) path)) found
+  cycle_told None = refl
+  cycle_told (Some path) = ap (λ list. Some (Cycle list)) (map-id (map (λ (done : Committed). done.pos) path))
+
+  shown_by : (exact : Bool) → danger_by (λ p. p) (edge_at tables committed) (leads_to tables committed reads) (comes_from tables committed writes) exact (places committed)
+      ≡ danger_by (λ done. done.pos) (edge tables) out into exact committed
+  shown_by false = danger_alike (λ done. done.pos) (edge tables) out into (edge_at tables committed) (leads_to tables committed reads) (comes_from tables committed writes) committed between outs intos
+  shown_by true =
+      ap (option_map (λ path. Cycle (map (λ p. p) path)))
+      (least_alike (λ done. done.pos) (edge tables) out into committed (edge_at tables committed) (leads_to tables committed reads) (comes_from tables committed writes) between outs intos)
+      ∙ cycle_told (least_path (λ done. done.pos) (edge tables) out into committed)
+
 pub danger_shown : DangerByPosition
-danger_shown tables committed reads writes rising =
-    let pairs = pairs_from (λ earlier later. earlier.pos < later.pos) committed rising in
-    danger_alike (λ done. done.pos) (edge tables) (λ done. touches tables reads done.writes) (λ done. touches tables done.reads writes)
-    (edge_at tables committed) (leads_to tables committed reads) (comes_from tables committed writes) committed
-    (λ from h to k. at_one committed pairs from h (λ first. list_any (λ second. nat_eq second.pos to.pos && edge tables first second) committed) ∙ at_one committed pairs to k (edge tables from))
-    (λ done h. at_one committed pairs done h (λ other. touches tables reads other.writes))
-    (λ done h. at_one committed pairs done h (λ other. touches tables other.reads writes))
+danger_shown exact tables committed reads writes rising =
+    shown_by tables committed reads writes (pairs_from (λ earlier later. earlier.pos < later.pos) committed rising) exact
 
 module _ (tables : List TableDef) (committed : List Committed) (done : Committed) (above : All (λ earlier. earlier.pos < done.pos) committed) where
   below : (other : Committed) → In other committed → other.pos < done.pos

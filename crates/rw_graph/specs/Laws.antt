@@ -1,5 +1,5 @@
 -- Laws of edges and dangers by position. Each is the contract of a function of the module `laws`.
-use Rattle.node_model.specs.Danger.{danger, danger_among}
+use Rattle.node_model.specs.Danger.{danger, danger_by}
 use Rattle.node_model.specs.Edges.{StandByPosition, comes_from, edge_at, leads_to}
 use Rattle.node_model.specs.declared.result.Committed.{Committed}
 use Rattle.rel_base.specs.declared.access.Made.{Made}
@@ -7,7 +7,7 @@ use Rattle.rel_base.specs.declared.access.Write.{Write}
 use Rattle.rel_base.specs.declared.schema.TableDef.{TableDef}
 use Rattle.rw_graph.specs.Graph.{with_position}
 use Rattle.rw_graph.specs.Sets.{AreAmong}
-use Rattle.std.specs.Prelude.{All, List, map, [], ◌++◌, ◌<◌, ◌≡◌, ◌∷◌, ℕ}
+use Rattle.std.specs.Prelude.{All, Bool, List, map, [], ◌++◌, ◌<◌, ◌≡◌, ◌∷◌, ℕ}
 
 -- the positions of committed transactions
 abbrev pub places : List Committed → List ℕ
@@ -18,11 +18,11 @@ abbrev pub EdgesAreAmong : Type 0
 EdgesAreAmong = (tables : List TableDef) (committed : List Committed) (reads : List Made) (writes : List Write)
     → AreAmong (places committed) (leads_to tables committed reads) × AreAmong (places committed) (comes_from tables committed writes)
 
--- the danger among the positions, with the edges by position, is the danger among the transactions
+-- the danger among the positions, with the edges by position, is the danger among the transactions, with exact isolation and without
 abbrev pub DangerByPosition : Type 0
-DangerByPosition = (tables : List TableDef) (committed : List Committed) (reads : List Made) (writes : List Write) → StandByPosition committed
-    → danger_among (λ pos. pos) (edge_at tables committed) (leads_to tables committed reads) (comes_from tables committed writes) (places committed)
-    ≡ danger tables committed reads writes
+DangerByPosition = (exact : Bool) (tables : List TableDef) (committed : List Committed) (reads : List Made) (writes : List Write) → StandByPosition committed
+    → danger_by (λ pos. pos) (edge_at tables committed) (leads_to tables committed reads) (comes_from tables committed writes) exact (places committed)
+    ≡ danger exact tables committed reads writes
 
 -- when one more commits, its edges to and from the others are all that is new
 abbrev pub EdgesGrow : Type 0

@@ -1,7 +1,9 @@
-//! Edges between the transactions of a block, kept as bits, and the danger of a transaction among those that committed before it.
+//! Edges between the transactions of a block, kept as bits, and the danger of a transaction among those that committed before it:
+//! two edges in a row, or a cycle.
 #![tactic(auto)]
 
 pub mod bits;
+pub mod cycles;
 pub mod dangers;
 pub mod edge_rows;
 pub mod edge_search;
@@ -11,6 +13,7 @@ pub mod laws;
 pub mod word;
 
 pub use bits::Bits;
+pub use cycles::cycle;
 pub use dangers::danger;
 pub use edge_search::{edges_of, touches};
 pub use edge_set::EdgeSet;

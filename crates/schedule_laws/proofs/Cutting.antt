@@ -129,7 +129,7 @@ records_decide app sealed work tx recorded tells = by recorded.cut refl where
       let since : List Stamped = writes_since sealed (length sealed + 1) tx in
       let ids : List (List ℕ) = ids_of sealed ++ ids_told work.outcomes in
       let shown : Option LateRead → Ran → Work = λ late ran. done_by (length sealed + 1) work tx ran (early app ids (length sealed + 1) tx)
-      (option_or (late_outcome (tables_of app) late) (option_or (fault_outcome ran.ending) (option_or (conflict_outcome ran.writes (clash work.committed ran.writes)) (danger_outcome (danger (tables_of app) work.committed ran.reads ran.writes))))) in
+      (option_or (late_outcome (tables_of app) late) (option_or (fault_outcome ran.ending) (option_or (conflict_outcome ran.writes (clash work.committed ran.writes)) (danger_outcome (danger app.exact (tables_of app) work.committed ran.reads ran.writes))))) in
       by_late (length sealed + 1) work tx recorded.ran (run_at app sealed tx) (tables_of app) (early app ids (length sealed + 1) tx) _ _ (late (tables_of app) (reads_of recorded.ran.reads) since) found.0
       (early_leaves work.committed (length work.outcomes + 1) recorded.ran (run_at app sealed tx) app ids (length sealed + 1) tx)
       ∙ ap (λ late. shown late (run_at app sealed tx)) (sym found.1)

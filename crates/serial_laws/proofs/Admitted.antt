@@ -1,5 +1,5 @@
--- Among admitted transactions no two edges in a row are in one of the two forms.
-use Rattle.std.proofs.Common.{List, None, ap, append_assoc, arith, inl, inr, not, subst, sym, true, true≢false, ⊎_elim, [], ◌++◌, ◌<◌, ◌∙◌, ◌≡◌, ◌∷◌, ◌⊎◌}
+-- Among admitted transactions no two edges in a row are in one of the two forms, or none closed a cycle; so their edges have none.
+use Rattle.std.proofs.Common.{List, None, ap, append_assoc, arith, inl, inr, not, subst, sym, true, true≢false, false, ⊎_elim, [], ◌++◌, ◌<◌, ◌∙◌, ◌≡◌, ◌∷◌}
 use Rattle.node_model.specs.Danger.{danger, is_form_one, is_form_two}
 use Rattle.node_model.specs.Edges.{edge, touches}
 use Rattle.node_model.specs.Order.{order}
@@ -7,28 +7,18 @@ use Rattle.node_model.specs.declared.result.Committed.{Committed}
 use Rattle.rel_base.specs.declared.schema.TableDef.{TableDef}
 use Rattle.rel_base.proofs.Bits.{both_true, first_true, second_true}
 use Rattle.rw_graph.proofs.Cases.{not_true}
+use Rattle.rw_graph.proofs.Firsts.{in_append}
 use Rattle.rw_graph.proofs.Lists.{In, Pairs, each_at, pairs_from}
-use Rattle.serial_laws.proofs.Acyclic.{HasNoForm, no_cycle, sources}
+use Rattle.serial_laws.proofs.Acyclic.{HasNoForm, no_cycle}
+use Rattle.serial_laws.proofs.Added.{CloseNoCycle, no_cycles}
 use Rattle.serial_order.proofs.Placed.{serial}
 use Rattle.serial_order.proofs.Searches.{map_none, or_none, pair_none}
+use Rattle.serial_order.proofs.Sources.{sources_of}
 use Rattle.serial_laws.specs.Decided.{AreAdmitted, MeetNoDanger}
 use Rattle.serial_laws.specs.Laws.{EdgesHaveNoCycle, OrderIsSerial, PositionsAreListed, SetsHaveSources}
 use Rattle.std.proofs.lemmas.Bool.{eq-eqb, le-leb, lt-ltb}
 use Rattle.std.proofs.lemmas.List.Sorted.{IsPermutation-map}
 use Rattle.std.specs.Bool.{nat_eq}
-
-pub in_append_right : {M : Type 0} (xs ys : List M) (x : M) → In x ys → In x (xs ++ ys)
-in_append_right [] ys x h = h
-in_append_right (z ∷ xs) ys x h = inr (in_append_right xs ys x h)
-
-pub in_append : {M : Type 0} (xs ys : List M) (x : M) → In x (xs ++ ys) → In x xs ⊎ In x ys
-in_append [] ys x h = inr h
-in_append (z ∷ xs) ys x (inl e) = inl (inl e)
-in_append {M} (z ∷ xs) ys x (inr h) = under (in_append xs ys x h)
-  where
-    under : In x xs ⊎ In x ys → In x (z ∷ xs) ⊎ In x ys
-    under (inl k) = inl (inr k)
-    under (inr k) = inr k
 
 abbrev pub Rises : Committed → Committed → Type 0
 Rises earlier later = earlier.pos < later.pos
@@ -37,10 +27,10 @@ module _ (tables : List TableDef) where
   -- those among which a transaction met no danger have all that stand before it
   record Before (set : List Committed) (next : Committed) : Type 0 where
     pub done : List Committed
-    pub safe : danger tables done next.reads next.writes ≡ None
+    pub safe : danger false tables done next.reads next.writes ≡ None
     pub within : (x : Committed) → In x set → x.pos < next.pos → In x done
 
-  before : (done rest : List Committed) → MeetNoDanger tables done rest → Pairs Rises rest → (next : Committed) → In next rest → Before (done ++ rest) next
+  before : (done rest : List Committed) → MeetNoDanger false tables done rest → Pairs Rises rest → (next : Committed) → In next rest → Before (done ++ rest) next
   before done [] safe rise next h = absurd h
   before done (first ∷ rest) safe rise next (inl e) =
       subst (Before (done ++ first ∷ rest)) e (record { done = done; safe = safe.0; within = λ x h below. ⊎_elim (λ k. k) (λ k. absurd (no_later x below k)) (in_append done (first ∷ rest) x h) })
@@ -50,7 +40,7 @@ module _ (tables : List TableDef) where
       no_later x below (inr k) = let up = each_at (Rises first) rest rise.0 x k in omega arith
   before done (first ∷ rest) safe rise next (inr h) = subst (λ l. Before l next) (append_assoc done (first ∷ []) rest) (before (done ++ first ∷ []) rest safe.1 rise.1 next h)
 
-  module _ (committed : List Committed) (admitted : AreAdmitted tables committed) where
+  module _ (committed : List Committed) (admitted : AreAdmitted false tables committed) where
     edge_touches : (x y : Committed) → edge tables x y ≡ true → touches tables x.reads y.writes ≡ true
     edge_touches x y e = second_true (not (nat_eq x.pos y.pos)) _ e
 
@@ -70,14 +60,21 @@ module _ (tables : List TableDef) where
           ∙ pair_none (is_form_two (λ done. done.pos) (edge tables) (λ done. touches tables t.reads done.writes) (λ done. touches tables done.reads t.writes)) b.done (map_none _ _ none.1) y z (b.within y hy yt) (b.within z hz zt));
     }
 
-pub sets_have_sources : SetsHaveSources
-sets_have_sources tables committed admitted = sources (λ done. done.pos) (edge tables) committed (no_form tables committed admitted)
+  -- with exact isolation each closed no cycle
+  closed_none : (done rest : List Committed) → MeetNoDanger true tables done rest → CloseNoCycle (λ done. done.pos) (λ from to. touches tables from.reads to.writes) done rest
+  closed_none done [] meet = tt
+  closed_none done (next ∷ rest) meet = (map_none _ _ meet.0, closed_none (done ++ next ∷ []) rest meet.1)
 
 pub edges_have_no_cycle : EdgesHaveNoCycle
-edges_have_no_cycle tables committed admitted = no_cycle (λ done. done.pos) (edge tables) committed (no_form tables committed admitted)
+edges_have_no_cycle true tables committed admitted =
+    no_cycles (λ done. done.pos) (λ from to. touches tables from.reads to.writes) committed admitted.rise (closed_none tables [] committed admitted.safe)
+edges_have_no_cycle false tables committed admitted = no_cycle (λ done. done.pos) (edge tables) committed (no_form tables committed admitted)
+
+pub sets_have_sources : SetsHaveSources
+sets_have_sources exact tables committed admitted = sources_of (edge tables) committed (edges_have_no_cycle exact tables committed admitted)
 
 pub order_is_serial : OrderIsSerial
-order_is_serial tables committed admitted = serial (edge tables) committed (sets_have_sources tables committed admitted)
+order_is_serial exact tables committed admitted = serial (edge tables) committed (sets_have_sources exact tables committed admitted)
 
 pub positions_are_listed : PositionsAreListed
-positions_are_listed tables committed admitted = IsPermutation-map (λ done. done.pos) committed (order (edge tables) committed) (order_is_serial tables committed admitted).permutation
+positions_are_listed exact tables committed admitted = IsPermutation-map (λ done. done.pos) committed (order (edge tables) committed) (order_is_serial exact tables committed admitted).permutation

@@ -172,16 +172,16 @@ pub record HasNoCause (app : App) (chain : List SealedBlock) (number : ℕ) (com
   pub begins : call_fault app tx ≡ None
   pub no_fault : fault_outcome (run_at app chain tx).ending ≡ None
   pub apart : (done : Committed) → In done committed → KeysApart done.writes (run_at app chain tx).writes
-  pub safe : danger (tables_of app) committed (run_at app chain tx).reads (run_at app chain tx).writes ≡ None
+  pub safe : danger app.exact (tables_of app) committed (run_at app chain tx).reads (run_at app chain tx).writes ≡ None
 
 pub has_no_cause : (app : App) (chain : List SealedBlock) (number : ℕ) (outcomes : List Told) (committed : List Committed) (tx : Tx) → decide app chain number outcomes committed tx ≡ outcome.Committed
     → HasNoCause app chain number committed tx
 has_no_cause app chain number outcomes committed tx e =
     let ran : Ran = run_at app chain tx in
-    let one = both_none (early app (ids_of chain ++ ids_told outcomes) number tx) (by_run (tables_of app) (writes_since chain number tx) committed ran) (abort_early app (ids_of chain ++ ids_told outcomes) number tx) e in
+    let one = both_none (early app (ids_of chain ++ ids_told outcomes) number tx) (by_run app.exact (tables_of app) (writes_since chain number tx) committed ran) (abort_early app (ids_of chain ++ ids_told outcomes) number tx) e in
     let two = both_none (late_outcome (tables_of app) (late (tables_of app) (map (λ made. made.read) ran.reads) (writes_since chain number tx))) _
     (abort_late (tables_of app) (late (tables_of app) (map (λ made. made.read) ran.reads) (writes_since chain number tx))) one.1 in
     let three = both_none (fault_outcome ran.ending) _ (abort_fault ran.ending) two.1 in
     let four = both_none (conflict_outcome ran.writes (clash committed ran.writes)) _ (abort_conflict ran.writes (clash committed ran.writes)) three.1 in
-    let five = last_none (danger_outcome (danger (tables_of app) committed ran.reads ran.writes)) (abort_danger (danger (tables_of app) committed ran.reads ran.writes)) four.1 in
+    let five = last_none (danger_outcome (danger app.exact (tables_of app) committed ran.reads ran.writes)) (abort_danger (danger app.exact (tables_of app) committed ran.reads ran.writes)) four.1 in
     record { early = no_late (tables_of app) _ two.0; begins = can_begin app (ids_of chain ++ ids_told outcomes) number tx one.0; no_fault = three.0; apart = no_conflict committed ran.writes four.0; safe = map_none outcome.Danger _ five }

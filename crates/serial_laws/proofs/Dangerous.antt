@@ -1,19 +1,26 @@
--- The danger that is named is the least, by positions.
-use Rattle.std.proofs.Common.{Contains, List, MatchOption, None, Option, Some, arith, subst, sym, true, ◌∙◌, ◌≡◌, ℕ}
+-- The danger that is named is the least, by positions, with exact isolation and without.
+use Rattle.std.proofs.Common.{Contains, List, MatchOption, None, Option, Some, [], arith, false, map, subst, sym, true, ◌<◌, ◌∙◌, ◌≡◌, ◌∷◌, ℕ}
 use Rattle.serial_laws.proofs.LeastPositions.{IsFirstPair, NoneRelated, at_from, at_into, is_first_pair, least_pair, no_pair, one_at}
+use Rattle.serial_laws.proofs.Chosen.{least_is_least}
 use Rattle.serial_laws.specs.Dangers.{AreInFormOne, AreInFormTwo, HasNoDanger, IsLeastDanger}
 use Rattle.serial_laws.specs.CauseLaws.{DangerIsLeast}
-use Rattle.node_model.specs.Danger.{first_pair, is_form_one, is_form_two}
-use Rattle.node_model.specs.Edges.{StandByPosition, edge, touches}
-use Rattle.node_model.specs.declared.danger.Danger.TheVariants.{One, Two}
+use Rattle.node_model.specs.Danger.{danger, first_pair, is_form_one, is_form_two}
+use Rattle.node_model.specs.Edges.{StandByPosition, comes_from, edge, edge_at, leads_to, touches}
+use Rattle.node_model.specs.Paths.{IsLeastPath, least_path}
+use Rattle.node_model.specs.declared.danger.Danger.TheVariants.{Cycle, One, Two}
 use Rattle.node_model.specs.declared.result.Committed.{Committed}
 use Rattle.rel_base.proofs.Bits.{both_true, first_true, second_true}
 use Rattle.rel_base.specs.declared.access.Made.{Made}
 use Rattle.rel_base.specs.declared.access.Write.{Write}
 use Rattle.rel_base.specs.declared.schema.TableDef.{TableDef}
+use Rattle.rw_graph.proofs.Lists.{Pairs, pairs_from}
+use Rattle.rw_graph.proofs.Shown.{danger_shown}
+use Rattle.rw_graph.specs.Laws.{places}
+use Rattle.serial_order.proofs.Taken.{all_pairs}
 use Rattle.std.proofs.lemmas.Bool.{le-leb, leb-true, lt-ltb, ltb-true}
 use Rattle.std.specs.Bool.{nat_eq}
-use Rattle.std.specs.List.{list_any}
+use Rattle.std.proofs.lemmas.List.{map-id}
+use Rattle.std.specs.List.{AllByRecursion, list_any}
 use Rattle.std.specs.Option.{option_map, option_or}
 use Rattle.std.specs.Prelude.{Bool, ◌&&◌}
 
@@ -72,7 +79,7 @@ module _ (tables : List TableDef) (committed : List Committed) (reads : List Mad
   by_forms : (first second : Option (Committed × Committed)) → MatchOption first (NoneRelated place committed one) (IsFirstPair place committed one)
       → MatchOption second (NoneRelated place committed two) (IsFirstPair place committed two)
       → MatchOption (option_or (option_map (λ pair. One pair.0.pos pair.1.pos) first) (option_map (λ pair. Two pair.0.pos pair.1.pos) second))
-      (HasNoDanger tables committed reads writes) (IsLeastDanger tables committed reads writes)
+      (HasNoDanger tables committed reads writes false) (IsLeastDanger tables committed reads writes false)
   by_forms (Some pair) second is two_is = least_pair place committed one rise (AreInFormOne tables committed reads writes) one_from one_into pair is
   by_forms None (Some pair) none is = (
     no_pair place committed one rise (AreInFormOne tables committed reads writes) one_from one_into none,
@@ -83,7 +90,35 @@ module _ (tables : List TableDef) (committed : List Committed) (reads : List Mad
     no_pair place committed two rise (AreInFormTwo tables committed reads writes) two_from two_into is,
   )
 
+-- positions rise as their transactions do
+upon_rise : (from : ℕ) (committed : List Committed) → AllByRecursion (λ (later : Committed). from < later.pos) committed → AllByRecursion (λ later. from < later) (places committed)
+upon_rise from [] all = tt
+upon_rise from (done ∷ rest) all = (all.0, upon_rise from rest all.1)
+
+places_rise : (committed : List Committed) → Pairs (λ (earlier later : Committed). earlier.pos < later.pos) committed → Pairs (λ (earlier later : ℕ). earlier < later) (places committed)
+places_rise [] rise = tt
+places_rise (done ∷ rest) rise = (upon_rise done.pos rest rise.0, places_rise rest rise.1)
+
+module _ (tables : List TableDef) (committed : List Committed) (reads : List Made) (writes : List Write) (rise : StandByPosition committed) where
+  abbrev found_at : Option (List ℕ)
+  found_at = least_path (λ pos. pos) (edge_at tables committed) (leads_to tables committed reads) (comes_from tables committed writes) (places committed)
+
+  by_path : (found : Option (List ℕ))
+      → MatchOption found (HasNoDanger tables committed reads writes true)
+      (IsLeastPath (λ pos. pos) (edge_at tables committed) (leads_to tables committed reads) (comes_from tables committed writes) (places committed))
+      → MatchOption (option_map (λ path. Cycle (map (λ pos. pos) path)) found) (HasNoDanger tables committed reads writes true) (IsLeastDanger tables committed reads writes true)
+  by_path None none = none
+  by_path (Some path) least = subst (λ path. IsLeastDanger tables committed reads writes true (Cycle path)) (sym (map-id path)) least
+
+  cycle_is_least : MatchOption (danger true tables committed reads writes) (HasNoDanger tables committed reads writes true) (IsLeastDanger tables committed reads writes true)
+  cycle_is_least =
+      subst (λ found. MatchOption found (HasNoDanger tables committed reads writes true) (IsLeastDanger tables committed reads writes true))
+      (danger_shown true tables committed reads writes rise)
+      (by_path found_at (least_is_least (λ pos. pos) (edge_at tables committed) (leads_to tables committed reads) (comes_from tables committed writes) (places committed)
+      (all_pairs (λ earlier later. earlier < later) (places committed) (places_rise committed (pairs_from (λ earlier later. earlier.pos < later.pos) committed rise)))))
+
 pub danger_is_least : DangerIsLeast
-danger_is_least tables committed reads writes rise =
+danger_is_least true tables committed reads writes rise = cycle_is_least tables committed reads writes rise
+danger_is_least false tables committed reads writes rise =
     by_forms tables committed reads writes rise (first_pair (one tables committed reads writes rise) committed) (first_pair (two tables committed reads writes rise) committed)
     (is_first_pair place committed (one tables committed reads writes rise) rise) (is_first_pair place committed (two tables committed reads writes rise) rise)

@@ -111,21 +111,21 @@ premises_are_met app chain number first tx = (stand_by_position app chain number
 
 -- ---- the outcome that is decided
 
-module _ (tables : List TableDef) (committed : List Committed) (ran : Ran) where
+module _ (exact : Bool) (tables : List TableDef) (committed : List Committed) (ran : Ran) where
   -- a cause that may be there names the least
   abbrev NamesIfSome : Option Outcome → Type 0
   NamesIfSome None = Unit {0}
-  NamesIfSome (Some found) = NamesTheLeast tables committed ran found
+  NamesIfSome (Some found) = NamesTheLeast exact tables committed ran found
 
   names_either : (first second : Option Outcome) → NamesIfSome first → NamesIfSome second → NamesIfSome (option_or first second)
   names_either None second is rest = rest
   names_either (Some found) second is rest = is
 
-  names_next : (first second : Option Outcome) → NamesIfSome first → NamesTheLeast tables committed ran (or_committed second) → NamesTheLeast tables committed ran (or_committed (option_or first second))
+  names_next : (first second : Option Outcome) → NamesIfSome first → NamesTheLeast exact tables committed ran (or_committed second) → NamesTheLeast exact tables committed ran (or_committed (option_or first second))
   names_next None second is rest = rest
   names_next (Some found) second is rest = is
 
-  names_if : (b : Bool) (found : Outcome) → NamesTheLeast tables committed ran found → NamesIfSome (cond b (Some found) None)
+  names_if : (b : Bool) (found : Outcome) → NamesTheLeast exact tables committed ran found → NamesIfSome (cond b (Some found) None)
   names_if true found is = is
   names_if false found is = tt
 
@@ -147,42 +147,42 @@ module _ (tables : List TableDef) (committed : List Committed) (ran : Ran) where
   names_fault (Faulted fault) = tt
   names_fault IllTyped = tt
 
-  names_conflict : (found : Outcome) → NamesConflict committed ran.writes found → NamesTheLeast tables committed ran found
+  names_conflict : (found : Outcome) → NamesConflict committed ran.writes found → NamesTheLeast exact tables committed ran found
   names_conflict (outcome.WriteConflict named) is = is
   names_conflict _ is = absurd is
 
   names_last : (conflict : Option Outcome) (found : Option Danger) → MatchOption conflict (HasNoConflict committed ran.writes) (NamesConflict committed ran.writes)
-      → MatchOption found (HasNoDanger tables committed ran.reads ran.writes) (IsLeastDanger tables committed ran.reads ran.writes)
-      → NamesTheLeast tables committed ran (or_committed (option_or conflict (danger_outcome found)))
+      → MatchOption found (HasNoDanger tables committed ran.reads ran.writes exact) (IsLeastDanger tables committed ran.reads ran.writes exact)
+      → NamesTheLeast exact tables committed ran (or_committed (option_or conflict (danger_outcome found)))
   names_last (Some conflict) found is _ = names_conflict conflict is
   names_last None (Some found) none is = (none, is)
   names_last None None none safe = (none, safe)
 
 module _ (app : App) (chain : List SealedBlock) (number : ℕ) (first : List Tx) (tx : Tx) where
   names_by_run : (since : List Stamped) → let committed : List Committed = committed_among app chain number first in
-      NamesTheLeast (tables_of app) committed (run_at app chain tx) (or_committed (by_run (tables_of app) since committed (run_at app chain tx)))
+      NamesTheLeast app.exact (tables_of app) committed (run_at app chain tx) (or_committed (by_run app.exact (tables_of app) since committed (run_at app chain tx)))
   names_by_run since =
       let ran : Ran = run_at app chain tx in
       let committed : List Committed = committed_among app chain number first in
       let met = premises_are_met app chain number first tx in
-      names_next (tables_of app) committed ran (late_outcome (tables_of app) (late (tables_of app) (map (λ made. made.read) ran.reads) since)) _
-      (names_late (tables_of app) committed ran (late (tables_of app) (map (λ made. made.read) ran.reads) since))
-      (names_next (tables_of app) committed ran (fault_outcome ran.ending) _ (names_fault (tables_of app) committed ran ran.ending)
-      (names_last (tables_of app) committed ran (conflict_outcome ran.writes (clash committed ran.writes)) (danger (tables_of app) committed ran.reads ran.writes)
-      (conflict_is_least committed ran.writes met.0 met.1) (danger_is_least (tables_of app) committed ran.reads ran.writes met.0)))
+      names_next app.exact (tables_of app) committed ran (late_outcome (tables_of app) (late (tables_of app) (map (λ made. made.read) ran.reads) since)) _
+      (names_late app.exact (tables_of app) committed ran (late (tables_of app) (map (λ made. made.read) ran.reads) since))
+      (names_next app.exact (tables_of app) committed ran (fault_outcome ran.ending) _ (names_fault app.exact (tables_of app) committed ran ran.ending)
+      (names_last app.exact (tables_of app) committed ran (conflict_outcome ran.writes (clash committed ran.writes)) (danger app.exact (tables_of app) committed ran.reads ran.writes)
+      (conflict_is_least committed ran.writes met.0 met.1) (danger_is_least app.exact (tables_of app) committed ran.reads ran.writes met.0)))
 
   names_decided : (outcomes : List Told) → let committed : List Committed = committed_among app chain number first in
-      NamesTheLeast (tables_of app) committed (run_at app chain tx) (decide app chain number outcomes committed tx)
+      NamesTheLeast app.exact (tables_of app) committed (run_at app chain tx) (decide app chain number outcomes committed tx)
   names_decided outcomes =
       let committed : List Committed = committed_among app chain number first in
-      names_next (tables_of app) committed (run_at app chain tx) (early app (ids_of chain ++ ids_told outcomes) number tx) _
-      (names_early (tables_of app) committed (run_at app chain tx) app (ids_of chain ++ ids_told outcomes) number tx)
+      names_next app.exact (tables_of app) committed (run_at app chain tx) (early app (ids_of chain ++ ids_told outcomes) number tx) _
+      (names_early app.exact (tables_of app) committed (run_at app chain tx) app (ids_of chain ++ ids_told outcomes) number tx)
       (names_by_run (writes_since chain number tx))
 
 pub outcomes_name_the_least : OutcomesNameTheLeast
 outcomes_name_the_least app blocks block first tx rest is =
     let chain : List SealedBlock = fold app blocks in
-    let names : Told → Type 0 = λ told. NamesTheLeast (tables_of app) (committed_among app chain block.number first) (run_at app chain tx) told.outcome in
+    let names : Told → Type 0 = λ told. NamesTheLeast app.exact (tables_of app) (committed_among app chain block.number first) (run_at app chain tx) told.outcome in
     subst (λ txs. IsSomeAnd (slice_get (work_through app chain block.number no_work txs).outcomes (length first)) names) (sym is)
     (subst (λ found. IsSomeAnd found names) (sym (told_is app chain block.number first tx rest))
     (names_decided app chain block.number first tx (work_through app chain block.number no_work first).outcomes))

@@ -16,8 +16,9 @@ use Rattle.proc_syntax.specs.declared.tree.App.{App}
 use Rattle.rel_base.specs.Late.{late}
 use Rattle.rel_base.specs.Tables.{writes_between}
 use Rattle.rel_base.specs.declared.schema.TableDef.{TableDef}
+use Rattle.rw_graph.proofs.Firsts.{in_append}
 use Rattle.rw_graph.proofs.Lists.{In, Pairs, each_at, each_from}
-use Rattle.serial_laws.proofs.Admitted.{Rises, in_append}
+use Rattle.serial_laws.proofs.Admitted.{Rises}
 use Rattle.serial_laws.proofs.Causes.{HasNoCause, has_no_cause}
 use Rattle.serial_laws.proofs.Past.{IsPast, made, run_stays}
 use Rattle.serial_laws.proofs.Replaying.{Apart, AreOfBlock, RunsAgain}
@@ -25,7 +26,7 @@ use Rattle.serial_laws.specs.Decided.{AreAdmitted, MeetNoDanger}
 use Rattle.serial_laws.specs.Replay.{own_run, run_on, tx_at}
 use Rattle.serial_order.proofs.Taken.{all_pairs}
 use Rattle.std.proofs.lemmas.List.{append-nil, length-append}
-use Rattle.std.specs.Prelude.{slice_get, ◌-◌}
+use Rattle.std.specs.Prelude.{Bool, slice_get, ◌-◌}
 
 -- ---- one more
 
@@ -37,10 +38,10 @@ pairs_push R (x ∷ xs) t h f =
 in_push : {M : Type 0} (P : M → Type 0) (xs : List M) (t : M) → ((x : M) → In x xs → P x) → P t → (x : M) → In x (xs ++ t ∷ []) → P x
 in_push P xs t f p x h = ⊎_elim (λ k. f x k) (λ k. ⊎_elim (λ e. subst P e p) (λ n. absurd n) k) (in_append xs (t ∷ []) x h)
 
-meet_push : (tables : List TableDef) (before rest : List Committed) (next : Committed) → MeetNoDanger tables before rest → danger tables (before ++ rest) next.reads next.writes ≡ None → MeetNoDanger tables before (rest ++ next ∷ [])
-meet_push tables before [] next meet safe = (subst (λ l. danger tables l next.reads next.writes ≡ None) (append-nil before) safe, tt)
-meet_push tables before (first ∷ rest) next meet safe =
-    (meet.0, meet_push tables (before ++ first ∷ []) rest next meet.1 (subst (λ l. danger tables l next.reads next.writes ≡ None) (sym (append_assoc before (first ∷ []) rest)) safe))
+meet_push : (exact : Bool) (tables : List TableDef) (before rest : List Committed) (next : Committed) → MeetNoDanger exact tables before rest → danger exact tables (before ++ rest) next.reads next.writes ≡ None → MeetNoDanger exact tables before (rest ++ next ∷ [])
+meet_push exact tables before [] next meet safe = (subst (λ l. danger exact tables l next.reads next.writes ≡ None) (append-nil before) safe, tt)
+meet_push exact tables before (first ∷ rest) next meet safe =
+    (meet.0, meet_push exact tables (before ++ first ∷ []) rest next meet.1 (subst (λ l. danger exact tables l next.reads next.writes ≡ None) (sym (append_assoc before (first ∷ []) rest)) safe))
 
 -- the transaction after some stands at the position after them
 next_at : (front rest : List Tx) (tx : Tx) → tx_at (front ++ tx ∷ rest) (length front + 1) ≡ Some tx
@@ -72,7 +73,7 @@ module _ (app : App) (chain : List SealedBlock) (block : Block) (last : ℕ) (pa
   pub record Sofar (count : ℕ) (committed : List Committed) : Type 0 where
     pub rise : Pairs Rises committed
     pub apart : Pairs (Apart app chain block) committed
-    pub safe : MeetNoDanger (tables_of app) [] committed
+    pub safe : MeetNoDanger app.exact (tables_of app) [] committed
     pub runs : (t : Committed) → In t committed → Runs t
     pub begin : (t : Committed) → In t committed → Begins t
     pub upto : (t : Committed) → In t committed → t.pos ≤ count
@@ -97,7 +98,7 @@ module _ (app : App) (chain : List SealedBlock) (block : Block) (last : ℕ) (pa
   joined count committed tx so there none = record {
     rise = pairs_push Rises committed (newcomer (count + 1) tx) so.rise (λ t h. let up = so.upto t h in omega (arith, up));
     apart = pairs_push (Apart app chain block) committed (newcomer (count + 1) tx) so.apart none.apart;
-    safe = meet_push (tables_of app) [] committed (newcomer (count + 1) tx) so.safe none.safe;
+    safe = meet_push app.exact (tables_of app) [] committed (newcomer (count + 1) tx) so.safe none.safe;
     runs = in_push Runs committed (newcomer (count + 1) tx) so.runs (runs_again committed (count + 1) tx there none);
     begin = in_push Begins committed (newcomer (count + 1) tx) so.begin (record { tx = tx; there = there; can = none.begins });
     upto = in_push (λ t. t.pos ≤ count + 1) committed (newcomer (count + 1) tx) (λ t h. let up = so.upto t h in omega (arith, up)) (omega arith);
@@ -130,7 +131,7 @@ module _ (app : App) (chain : List SealedBlock) (block : Block) (last : ℕ) (pa
   at_end = through [] block.txs no_work refl refl (record { rise = tt; apart = tt; safe = tt; runs = λ t h. absurd h; begin = λ t h. absurd h; upto = λ t h. absurd h })
 
   -- what the fold commits in the block met no danger
-  pub admitted : AreAdmitted (tables_of app) (seal app chain block).committed
+  pub admitted : AreAdmitted app.exact (tables_of app) (seal app chain block).committed
   admitted = record { rise = all_pairs Rises _ at_end.rise; safe = at_end.safe }
 
   -- and is a block that replays

@@ -18,9 +18,10 @@ use Rattle.rel_base.specs.Late.{late}
 use Rattle.rel_base.specs.Tables.{Finds, HistoryFits, Stamped, Tables, no_tables, set_stamped, write_ref, writes_between}
 use Rattle.rel_base.specs.declared.access.Write.{Write}
 use Rattle.rel_base.specs.declared.schema.TableDef.{TableDef}
+use Rattle.rw_graph.proofs.Firsts.{in_append}
 use Rattle.rw_graph.proofs.Lists.{In, Pairs, each_at, each_from}
 use Rattle.serial_order.proofs.Each.{all_at, all_from}
-use Rattle.serial_laws.proofs.Admitted.{in_append, order_is_serial}
+use Rattle.serial_laws.proofs.Admitted.{order_is_serial}
 use Rattle.serial_laws.proofs.Fitting.{FitsAt, fits_stamps, made_fit, tables_fit}
 use Rattle.serial_laws.proofs.Folding.{admitted, at_end, of_block}
 use Rattle.serial_laws.proofs.Past.{ByBlock, IsPast, run_stays, whole}
@@ -212,4 +213,4 @@ committed_are_admitted app blocks block next = admitted app (fold app blocks) bl
 pub the_order_replays : TheOrderReplays
 the_order_replays app blocks block next =
     let committed : List Committed = (seal app (fold app blocks) block).committed in
-    serial_orders_replay app blocks block next (order (edge (tables_of app)) committed) (order_is_serial (tables_of app) committed (committed_are_admitted app blocks block next))
+    serial_orders_replay app blocks block next (order (edge (tables_of app)) committed) (order_is_serial app.exact (tables_of app) committed (committed_are_admitted app blocks block next))

@@ -1,4 +1,7 @@
 pub mod Acyclic
+pub mod Listed
+pub mod Chosen
+pub mod Added
 pub mod Admitted
 pub mod Stories
 pub mod Fitting

@@ -1,5 +1,5 @@
 -- The results that are reported of a chain, and the orders in them.
-use Rattle.std.proofs.Common.{List, None, Some, [], ap, append_assoc, arith, length, map, refl, subst, suc, sym, zero, ◌++◌, ◌+◌, ◌∙◌, ◌≡◌, ◌∷◌, ℕ}
+use Rattle.std.proofs.Common.{List, None, Some, [], ap, append_assoc, arith, length, refl, subst, sym, ◌++◌, ◌+◌, ◌∙◌, ◌≡◌, ◌∷◌, ℕ}
 use Rattle.node_model.specs.Edges.{edge}
 use Rattle.node_model.specs.Fold.{block_result, fold, fold_from, no_digest, results_from, results_of, seal}
 use Rattle.node_model.specs.History.{SealedBlock, snapshot}
@@ -11,9 +11,9 @@ use Rattle.proc_syntax.specs.declared.call.Block.{Block}
 use Rattle.proc_syntax.specs.declared.tree.App.{App}
 use Rattle.rel_base.specs.declared.schema.TableDef.{TableDef}
 use Rattle.serial_laws.proofs.Admitted.{positions_are_listed}
-use Rattle.serial_laws.proofs.Growing.{committed_are_admitted, committed_are_recorded, committed_end_well, fold_more, the_order_replays}
+use Rattle.serial_laws.proofs.Growing.{committed_are_admitted, committed_are_recorded, committed_end_well, the_order_replays}
 use Rattle.serial_laws.specs.Chained.{AreNumbered, IsNext}
-use Rattle.serial_laws.specs.InOrder.{RunInOrder, own_runs}
+use Rattle.serial_laws.specs.InOrder.{RunInOrder}
 use Rattle.serial_laws.specs.Laws.{ResultsRun, TheOrderRuns}
 use Rattle.serial_laws.specs.Replay.{own_run, tx_at}
 use Rattle.std.proofs.lemmas.List.{append-nil, length-append}
@@ -26,7 +26,7 @@ the_order_runs app blocks block next =
     let committed : List Committed = (seal app (fold app blocks) block).committed in
     let ordered : List Committed = order (edge (tables_of app)) committed in
     record {
-      listed = positions_are_listed (tables_of app) committed (committed_are_admitted app blocks block next);
+      listed = positions_are_listed app.exact (tables_of app) committed (committed_are_admitted app blocks block next);
       replayed = the_order_replays app blocks block next
           ∙ ap (λ runs. record { runs = runs; tables = snapshot block.number (fold app (blocks ++ block ∷ [])) })
           (sym (map-map (λ pos. own_run app (fold app blocks) (tx_at block.txs pos)) (λ (done : Committed). done.pos) ordered));

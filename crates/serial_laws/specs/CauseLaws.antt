@@ -18,7 +18,7 @@ use Rattle.rel_base.specs.declared.access.Made.{Made}
 use Rattle.rel_base.specs.declared.access.Write.{Write}
 use Rattle.rel_base.specs.declared.schema.TableDef.{TableDef}
 use Rattle.std.specs.Option.{IsSomeAnd}
-use Rattle.std.specs.Prelude.{List, MatchOption, length, slice_get, ◌++◌, ◌≡◌, ◌∷◌, ℕ}
+use Rattle.std.specs.Prelude.{Bool, List, MatchOption, length, slice_get, ◌++◌, ◌≡◌, ◌∷◌, ℕ}
 
 -- ---- of lists
 
@@ -34,8 +34,8 @@ ConflictIsLeast = (committed : List Committed) (writes : List Write) → StandBy
 
 -- the danger that is named is the least, and none is named exactly where there is none
 abbrev pub DangerIsLeast : Type 0
-DangerIsLeast = (tables : List TableDef) (committed : List Committed) (reads : List Made) (writes : List Write) → StandByPosition committed
-    → MatchOption (danger tables committed reads writes) (HasNoDanger tables committed reads writes) (IsLeastDanger tables committed reads writes)
+DangerIsLeast = (exact : Bool) (tables : List TableDef) (committed : List Committed) (reads : List Made) (writes : List Write) → StandByPosition committed
+    → MatchOption (danger exact tables committed reads writes) (HasNoDanger tables committed reads writes exact) (IsLeastDanger tables committed reads writes exact)
 
 -- ---- of the fold
 
@@ -49,14 +49,14 @@ PremisesAreMet = (app : App) (chain : List SealedBlock) (number : ℕ) (first : 
 
 -- an outcome of a run among those that committed before it: a write conflict is the least, and so is a danger, which is reported only where
 -- there is no conflict; and what committed has neither
-abbrev pub NamesTheLeast : List TableDef → List Committed → Ran → Outcome → Type 0
-NamesTheLeast tables committed ran (outcome.WriteConflict named) = IsLeastConflict committed ran.writes named
-NamesTheLeast tables committed ran (outcome.Danger found) = HasNoConflict committed ran.writes × IsLeastDanger tables committed ran.reads ran.writes found
-NamesTheLeast tables committed ran outcome.Committed = HasNoConflict committed ran.writes × HasNoDanger tables committed ran.reads ran.writes
-NamesTheLeast tables committed ran _ = Unit {0}
+abbrev pub NamesTheLeast : Bool → List TableDef → List Committed → Ran → Outcome → Type 0
+NamesTheLeast exact tables committed ran (outcome.WriteConflict named) = IsLeastConflict committed ran.writes named
+NamesTheLeast exact tables committed ran (outcome.Danger found) = HasNoConflict committed ran.writes × IsLeastDanger tables committed ran.reads ran.writes exact found
+NamesTheLeast exact tables committed ran outcome.Committed = HasNoConflict committed ran.writes × HasNoDanger tables committed ran.reads ran.writes exact
+NamesTheLeast exact tables committed ran _ = Unit {0}
 
 -- the outcome that is reported of each transaction of a block, after the first ones
 abbrev pub OutcomesNameTheLeast : Type 0
 OutcomesNameTheLeast = (app : App) (blocks : List Block) (block : Block) (first : List Tx) (tx : Tx) (rest : List Tx) → block.txs ≡ first ++ tx ∷ rest
     → IsSomeAnd (slice_get (seal app (fold app blocks) block).outcomes (length first))
-    (λ told. NamesTheLeast (tables_of app) (committed_among app (fold app blocks) block.number first) (run_at app (fold app blocks) tx) told.outcome)
+    (λ told. NamesTheLeast app.exact (tables_of app) (committed_among app (fold app blocks) block.number first) (run_at app (fold app blocks) tx) told.outcome)

@@ -1,14 +1,16 @@
--- The two forms of danger, by positions: a transaction T, which made some reads and writes, among those that committed before it in its block.
+-- The dangers by positions: a transaction T, which made some reads and writes, among those that committed before it in its block.
 -- (Where they come from is said with `danger` of node_model.)
 use Rattle.serial_laws.specs.Least.{IsLeastPair, NoPair}
 use Rattle.node_model.specs.Edges.{comes_from, edge_at, leads_to}
-use Rattle.node_model.specs.declared.danger.Danger.TheVariants.{One, Two}
+use Rattle.node_model.specs.Paths.{IsLeastPath, IsPathAmong}
+use Rattle.node_model.specs.declared.danger.Danger.TheVariants.{Cycle, One, Two}
 use Rattle.node_model.specs.declared.danger.Danger.{Danger}
 use Rattle.node_model.specs.declared.result.Committed.{Committed}
 use Rattle.rel_base.specs.declared.access.Made.{Made}
 use Rattle.rel_base.specs.declared.access.Write.{Write}
 use Rattle.rel_base.specs.declared.schema.TableDef.{TableDef}
-use Rattle.std.specs.Prelude.{IsTrue, List, ◌<◌, ◌≤◌, ℕ}
+use Rattle.rw_graph.specs.Laws.{places}
+use Rattle.std.specs.Prelude.{Bool, IsTrue, List, false, true, ◌<◌, ◌≤◌, ℕ}
 
 module _ (tables : List TableDef) (committed : List Committed) (reads : List Made) (writes : List Write) where
   -- form one: T has an edge to position z, and position x has one to T, and z does not stand after x
@@ -19,11 +21,16 @@ module _ (tables : List TableDef) (committed : List Committed) (reads : List Mad
   abbrev pub AreInFormTwo : ℕ → ℕ → Type 0
   AreInFormTwo y z = IsTrue (leads_to tables committed reads y) × IsTrue (edge_at tables committed y z) × (z < y)
 
-  -- no two positions are in either form
-  abbrev pub HasNoDanger : Type 0
-  HasNoDanger = NoPair AreInFormOne × NoPair AreInFormTwo
+  -- with exact isolation: no positions are a path from T back to T; without: no two positions are in either form
+  abbrev pub HasNoDanger : Bool → Type 0
+  HasNoDanger true = (path : List ℕ) → IsPathAmong (λ pos. pos) (edge_at tables committed) (leads_to tables committed reads) (comes_from tables committed writes) (places committed) path → ⊥
+  HasNoDanger false = NoPair AreInFormOne × NoPair AreInFormTwo
 
-  -- form one with the least z and then the least x; or form two, where none are in form one, with the least y and then the least z
-  abbrev pub IsLeastDanger : Danger → Type 0
-  IsLeastDanger (One z x) = IsLeastPair (λ position other. position ≤ other) AreInFormOne z x
-  IsLeastDanger (Two y z) = NoPair AreInFormOne × IsLeastPair (λ position other. position ≤ other) AreInFormTwo y z
+  -- with exact isolation the least path; without, form one with the least z and then the least x, or form two, where none are in form one,
+  -- with the least y and then the least z
+  abbrev pub IsLeastDanger : Bool → Danger → Type 0
+  IsLeastDanger true (Cycle path) =
+      IsLeastPath (λ pos. pos) (edge_at tables committed) (leads_to tables committed reads) (comes_from tables committed writes) (places committed) path
+  IsLeastDanger false (One z x) = IsLeastPair (λ position other. position ≤ other) AreInFormOne z x
+  IsLeastDanger false (Two y z) = NoPair AreInFormOne × IsLeastPair (λ position other. position ≤ other) AreInFormTwo y z
+  IsLeastDanger _ _ = ⊥

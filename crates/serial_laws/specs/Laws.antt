@@ -19,23 +19,23 @@ use Rattle.serial_order.specs.Cycles.{HasNoCycle, HasSources}
 use Rattle.serial_laws.specs.Decided.{AreAdmitted}
 use Rattle.serial_laws.specs.InOrder.{EachInOrder, RunInOrder}
 use Rattle.serial_laws.specs.Replay.{IsRecorded, committed_run, replay}
-use Rattle.std.specs.Prelude.{All, AllPairs, IsPermutation, List, None, map, [], ◌++◌, ◌-◌, ◌<◌, ◌≡◌, ◌∷◌}
+use Rattle.std.specs.Prelude.{All, AllPairs, Bool, IsPermutation, List, None, map, [], ◌++◌, ◌-◌, ◌<◌, ◌≡◌, ◌∷◌}
 
 -- of admitted transactions, each set that is not empty has one to which no edge comes from the set
 abbrev pub SetsHaveSources : Type 0
-SetsHaveSources = (tables : List TableDef) (committed : List Committed) → AreAdmitted tables committed → HasSources (edge tables) committed
+SetsHaveSources = (exact : Bool) (tables : List TableDef) (committed : List Committed) → AreAdmitted exact tables committed → HasSources (edge tables) committed
 
 -- their edges have no cycle
 abbrev pub EdgesHaveNoCycle : Type 0
-EdgesHaveNoCycle = (tables : List TableDef) (committed : List Committed) → AreAdmitted tables committed → HasNoCycle (edge tables) committed
+EdgesHaveNoCycle = (exact : Bool) (tables : List TableDef) (committed : List Committed) → AreAdmitted exact tables committed → HasNoCycle (edge tables) committed
 
 -- the serial order has each of them once, and no edge leads back in it
 abbrev pub OrderIsSerial : Type 0
-OrderIsSerial = (tables : List TableDef) (committed : List Committed) → AreAdmitted tables committed → IsSerialOrder (edge tables) committed (order (edge tables) committed)
+OrderIsSerial = (exact : Bool) (tables : List TableDef) (committed : List Committed) → AreAdmitted exact tables committed → IsSerialOrder (edge tables) committed (order (edge tables) committed)
 
 -- so it lists each of their positions once
 abbrev pub PositionsAreListed : Type 0
-PositionsAreListed = (tables : List TableDef) (committed : List Committed) → AreAdmitted tables committed → IsPermutation (map (λ done. done.pos) committed) (serial_order tables committed)
+PositionsAreListed = (exact : Bool) (tables : List TableDef) (committed : List Committed) → AreAdmitted exact tables committed → IsPermutation (map (λ done. done.pos) committed) (serial_order tables committed)
 
 -- the order of the positions, with the edges by position, is the serial order of the transactions
 abbrev pub OrderByPosition : Type 0
@@ -44,7 +44,7 @@ OrderByPosition = (tables : List TableDef) (committed : List Committed) → AllP
 
 -- the transactions that commit in a block are admitted ones
 abbrev pub CommittedAreAdmitted : Type 0
-CommittedAreAdmitted = (app : App) (blocks : List Block) (block : Block) → IsNext blocks block → AreAdmitted (tables_of app) (seal app (fold app blocks) block).committed
+CommittedAreAdmitted = (app : App) (blocks : List Block) (block : Block) → IsNext blocks block → AreAdmitted app.exact (tables_of app) (seal app (fold app blocks) block).committed
 
 -- ---- replay
 

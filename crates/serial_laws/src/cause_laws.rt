@@ -9,7 +9,8 @@ pub fn conflict_is_least()
 {}
 
 /// A danger of form one names the least Z for which there is an X, and then the least such X; one of form two, which comes only where
-/// no two are in form one, the least Y and then the least Z; and there is none exactly where no two are in either form.
+/// no two are in form one, the least Y and then the least Z; and there is none exactly where no two are in either form. With exact
+/// isolation it names a path of least length, and of these the least by position, and there is none exactly where there is no path.
 pub fn danger_is_least()
     ensures { DangerIsLeast }
 {}

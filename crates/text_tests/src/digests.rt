@@ -1,11 +1,14 @@
 //! What is read of codes that were written out by another program, or by hand.
 
 use block_digest::{decode, digest_of, encode};
+use canon_code::{get_row, get_value, get_write};
+use rel_base::Value;
+use std::alloc::Global;
 use std::test::Fail;
 
 /// The code of block 258, in which each kind of outcome and of write stands.
 const CODE: &[u8] = b"\x00\x00\x00\x00\x00\x00\x01\x02\x00\x00\x00\x00\x00\x00\x01\x03\
-    \x00\x00\x00\x12\
+    \x00\x00\x00\x13\
     \x02a1\x00\
     \x01b\x01\
     \x04c_-9\x02\
@@ -24,6 +27,7 @@ const CODE: &[u8] = b"\x00\x00\x00\x00\x00\x00\x01\x02\x00\x00\x00\x00\x00\x00\x
     \x01j\x09\x01\x00\x00\x00\x01\x00\x00\x00\x10\
     \x01k\x09\x02\x00\x00\x00\x10\x00\x00\x00\x01\
     \x01l\x00\
+    \x01m\x09\x03\x00\x00\x00\x02\x00\x00\x00\x11\x00\x00\x04\x00\
     \x00\x00\x00\x02\
     \x00\x00\x00\x12\
     \x00\x00\x00\x01\
@@ -33,17 +37,62 @@ const CODE: &[u8] = b"\x00\x00\x00\x00\x00\x00\x01\x02\x00\x00\x00\x00\x00\x00\x
     \x00\x00\x00\x01\x00\x00\x00\x01\x01\x02\x01a\x01\x01\x02\x01a\
     \x00\x00\x00\x12\x00\x00\x00\x00\x01\x01\xff\xff\xff\xff\xff\xff\xff\xff\x01\x02\x01\xff\xff\xff\xff\xff\xff\xff\xff\x03\x00";
 
+/// Whether a block of one transaction, which was refused for a cycle of so many positions from one on, is a code.
+fn is_cycle(alloc: Global, first: u8, positions: &[u8]) -> Result<bool, Fail> {
+    let mut code = Vec::from_slice(
+        alloc,
+        b"\x00\x00\x00\x00\x00\x00\x00\x01\x00\x00\x00\x00\x00\x00\x00\x00\x00\x00\x00\x01\x01a\x09\x03\x00\x00\x00",
+    )?;
+    code.push(first)?;
+    for position in positions {
+        code.push(0)?;
+        code.push(0)?;
+        code.push(0)?;
+        code.push(*position)?;
+    }
+    for _ in 0..8 {
+        code.push(0)?;
+    }
+    Ok(decode(alloc, code.as_slice()).is_ok())
+}
+
+#[test]
+fn a_cycle_has_different_positions(rt: HostRuntime) -> Result<(), Fail> {
+    let alloc = rt.alloc();
+    assert!(rt; is_cycle(alloc, 2, &[9, 3])?);
+    assert!(rt; !is_cycle(alloc, 2, &[9, 9])?);
+    assert!(rt; !is_cycle(alloc, 2, &[9, 0])?);
+    assert!(rt; !is_cycle(alloc, 0, &[])?);
+    Ok(())
+}
+
 #[test]
 fn all_kinds_come_back(rt: HostRuntime) -> Result<(), Fail> {
     let alloc = rt.alloc();
     let block = decode(alloc, CODE)?;
-    assert!(rt; block.number == 258 && block.time == 259 && block.outcomes.len() == 18);
+    assert!(rt; block.number == 258 && block.time == 259 && block.outcomes.len() == 19);
     assert!(rt; block.order.as_slice() == [18, 1].as_slice());
     assert!(rt; encode(alloc, &block)?.as_slice() == CODE);
     let digest = digest_of(alloc, &[7; 32], &block)?;
     assert!(rt;
         digest.as_slice()
-            == b"\x9f\x8a\xfb\xae\xc8\x36\x9e\x77\xbb\x5f\x6b\x26\x6e\x81\xa9\x63\x74\xb3\x14\xef\x7c\x96\x25\xaf\x5a\x13\x8b\x26\x0d\x48\xfe\xe5".as_slice()
+            == b"\xab\x8d\x45\x8f\xcc\xd7\x24\xd0\xeb\x74\x3f\x90\x50\x62\x77\x9f\xc5\x5d\xc3\xc7\x6f\xf0\x9e\xee\xc4\x71\x50\xc0\x90\xed\xb3\xb9".as_slice()
     );
+    Ok(())
+}
+
+/// The insert of the row (7) by position 1 in table 0, and two bytes after it.
+const WRITE: &[u8] =
+    b"\x00\x00\x00\x01\x00\x00\x00\x00\x01\x01\x00\x00\x00\x00\x00\x00\x00\x07\x01\x01\x01\x00\x00\x00\x00\x00\x00\x00\x07\xaa\xbb";
+
+#[test]
+fn what_stands_first_is_got(rt: HostRuntime) -> Result<(), Fail> {
+    let alloc = rt.alloc();
+    let (value, length) = get_value(alloc, &WRITE[9..])?;
+    assert!(rt; value == Value::Int(7) && length == 9);
+    let (row, length) = get_row(alloc, &WRITE[8..])?;
+    assert!(rt; row.len() == 1 && length == 10);
+    let (placed, length) = get_write(alloc, WRITE)?;
+    assert!(rt; placed.pos == 1 && placed.write.before.is_none() && length == 29);
     Ok(())
 }

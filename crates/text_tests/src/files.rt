@@ -5,7 +5,7 @@ use proc_syntax::{Block, ChainKind};
 use rel_base::{List, Value};
 use std::alloc::Global;
 use std::test::Fail;
-use tx_text::{read_tx, write_tx, write_value};
+use tx_text::{read_arrivals, read_tx, read_value, write_tx, write_value};
 
 /// A chain of version 2, whose hash was computed by another program.
 const CHAIN: &[u8] = b"chain 2\n\
@@ -120,5 +120,25 @@ fn a_line_comes_back(rt: HostRuntime) -> Result<(), Fail> {
     let tx = read_tx(alloc, line)?;
     assert!(rt; write_tx(alloc, &tx)?.as_slice() == line.as_slice());
     assert!(rt; write_value(alloc, &Value::Bool(true))?.as_slice() == b"true".as_slice());
+    Ok(())
+}
+
+#[test]
+fn calls_that_arrive_in_pieces(rt: HostRuntime) -> Result<(), Fail> {
+    let alloc = rt.alloc();
+    let mut pieces = List::new(alloc);
+    pieces.push(List::from_vec(Vec::from_slice(alloc, b"arrivals 1\ntx a")?))?;
+    pieces.push(List::from_vec(Vec::from_slice(alloc, b"1 0 p\ntx a2 0 p")?))?;
+    assert!(rt; read_arrivals(alloc, pieces.as_slice()).is_err());
+    pieces.push(List::from_vec(Vec::from_slice(alloc, b"\n")?))?;
+    assert!(rt; read_arrivals(alloc, pieces.as_slice())?.len() == 2);
+    Ok(())
+}
+
+#[test]
+fn a_value_is_read_to_its_end(rt: HostRuntime) -> Result<(), Fail> {
+    let alloc = rt.alloc();
+    assert!(rt; read_value(alloc, b"-5")? == Value::Int(-5));
+    assert!(rt; read_value(alloc, b"-5 ").is_err());
     Ok(())
 }

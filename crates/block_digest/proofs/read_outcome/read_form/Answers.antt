@@ -7,3 +7,6 @@ returns-in-1 c = grind (arith, common_steps)
 
 pub returns-in-2 : goal.returns-in-2
 returns-in-2 c = grind (arith, common_steps)
+
+pub returns-in-3 : goal.returns-in-3
+returns-in-3 c = grind (arith, common_steps)

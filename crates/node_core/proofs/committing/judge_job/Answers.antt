@@ -13,6 +13,7 @@ use Rattle.node_core.proofs.committing.judge_job.Goals as goal
 
 pub returns-clause-outcome : goal.returns-clause-outcome
 returns-clause-outcome g c =
+    let exact = c.args.chain.now.app.value.app.exact in
     let tables = tables_of c.args.chain.now.app.value.app in
     let history = g.V.Versions.history c.args.chain.now.versions in
     let row = c.in-Some-Done.field-0.now in
@@ -21,6 +22,6 @@ returns-clause-outcome g c =
     let recorded = c.get-in-Some-Done.result.now in
     let stands : row.stage ≡ stage.Done recorded = kept ∙ ap stage.Done (sym c.get-in-Some-Done.ensures) in
     if_ok_then c.judge.result
-    (λ verdict. outcome_of verdict ≡ or_committed (by_run tables (writes_between c.deref.result.now.height (c.args.work.now.number - 1) history) c.args.work.now.committed.items recorded.ran))
-    (λ verdict. (done : IsDone tables c.args.jobs.now c.args.number) → outcome_of verdict ≡ outcome_by tables history c.args.work.now c.args.jobs.now done) c.judge.ensures.outcome
-    (λ verdict is done. is ∙ judged_as tables c.args.jobs.now c.args.number done history c.args.work.now row recorded c.deref.result.now.height there stands (ap (λ (tx : Tx). tx.height) c.deref.ensures))
+    (λ verdict. outcome_of verdict ≡ or_committed (by_run exact tables (writes_between c.deref.result.now.height (c.args.work.now.number - 1) history) c.args.work.now.committed.items recorded.ran))
+    (λ verdict. (done : IsDone tables c.args.jobs.now c.args.number) → outcome_of verdict ≡ outcome_by exact tables history c.args.work.now c.args.jobs.now done) c.judge.ensures.outcome
+    (λ verdict is done. is ∙ judged_as tables c.args.jobs.now c.args.number done exact history c.args.work.now row recorded c.deref.result.now.height there stands (ap (λ (tx : Tx). tx.height) c.deref.ensures))

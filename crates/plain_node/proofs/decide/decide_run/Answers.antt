@@ -11,7 +11,7 @@ pub returns-in-Aborts-clause-work : goal.returns-in-Aborts-clause-work
 returns-in-Aborts-clause-work g c = λ sealed holds.
     let app = c.args.chain.now.app.value.app in
     let history = g.V.Versions.history c.args.chain.now.versions in
-    let found : c.in-Aborts.cause ≡ or_committed (by_run (tables_of c.args.chain.now.app.value.app)
+    let found : c.in-Aborts.cause ≡ or_committed (by_run c.args.chain.now.app.value.app.exact (tables_of c.args.chain.now.app.value.app)
     (writes_between c.args.tx.now.height (c.args.work.now.number - 1) (g.V.Versions.history c.args.chain.now.versions)) c.args.work.now.committed.items c.in_ok-ran.ran) = search rules in
     abort_judged app sealed history c.args.work.now.number (work_of c.args.work.now) c.args.tx.now c.in_ok-ran.ran (c.in_ok-ran.ensures.run sealed holds) holds.writes c.in-Aborts.cause
     (subst (IsVerdictOn (tables_of app) c.args.work.now.committed.items c.in_ok-ran.ran) c.in-Aborts.is c.in_ok-cause.ensures.verdict) found

@@ -1,7 +1,7 @@
 use Rattle.std.proofs.Common.{◌≡◌, ◌++◌, take}
 use Rattle.std.specs.List.{flat_map}
 use Rattle.node_model.specs.BlockCode.{small_code}
-use Rattle.block_digest.proofs.write_block.push_positions.Given as goal
+use Rattle.block_digest.proofs.positions.push_positions.Given as goal
 
 -- the code of the items so far stands at the end
 abbrev pub invariant-loop-pos : goal.invariant-loop-pos

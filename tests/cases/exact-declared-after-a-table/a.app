@@ -1,0 +1,2 @@
+table t (i int) key (i);
+isolation exact;

@@ -1,0 +1,2 @@
+isolation exact
+table t (i int) key (i);
