@@ -40,7 +40,13 @@ class Definitions:
         if parts[0] in ("declared", "contracts"):
             self.types.append((f"crates/{crate}/src/{parts[1]}.rt", type_of(parts, found.group(3))))
         else:
-            self.imports.append(f"{crate}.{name}")
+            self.imports.append(".".join([crate, *file_of(crate, parts)]))
+
+
+def file_of(crate, parts):
+    """The parts of the name of a file, without that of a type in it whose constructors are imported."""
+    found = os.path.isfile(os.path.join(ROOT, "crates", crate, "specs", *parts) + ".antt")
+    return parts if found else parts[:-1]
 
 
 def is_import(line):

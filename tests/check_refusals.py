@@ -54,7 +54,7 @@ def side_by_side(folder):
 
 def runs(folder):
     names = ["one-insert", "first-hit-wins", "provenance-of-pay", "first-hit-wins-claimed-early", "guide-bank-seal", "json-of-one-insert", "guide-bank-changed",
-             "order-one-of-two", "order-bad-client"]
+             "order-one-of-two", "order-bad-client", "guide-heads", "guide-compare", "compare-an-empty-file", "guide-prove", "guide-verify", "verify-33-steps"]
     return [Run(name, *case(name)) for name in names] + [Run("side-by-side", *side_by_side(folder)), Run("load", folder, ["load", "--number", "1"])]
 
 

@@ -8,7 +8,7 @@ use Rattle.bcdb.specs.ProgramAnswer.{ProgramAnswer, says}
 use Rattle.bcdb.specs.Reply.{Means}
 use Rattle.bcdb.specs.Traced.{EndsTraced, Replies, followed_by}
 use Rattle.bcdb.specs.declared.reply.Reply.{Reply}
-use Rattle.bcdb.specs.declared.status.Status.TheVariants.{AppRefused, ArrivalRefused, ChainRefused, Done, NoMemory, OrderRefused, QueryRefused, ReadFault, ScheduleRefused, Usage, WriteFault}
+use Rattle.bcdb.specs.declared.status.Status.TheVariants.{AppRefused, ArrivalRefused, ChainRefused, DigestRefused, Done, NoMemory, OrderRefused, ProofRefused, QueryRefused, ReadFault, ScheduleRefused, Usage, WriteFault}
 use Rattle.bcdb.specs.declared.status.Status.{Status}
 use Rattle.cli_words.specs.declared.settings.Settings.{Settings}
 
@@ -22,6 +22,8 @@ writes_whole meant ArrivalRefused before now same wrote = (same, wrote)
 writes_whole meant ScheduleRefused before now same wrote = (same, wrote)
 writes_whole meant QueryRefused before now same wrote = (same, wrote)
 writes_whole meant OrderRefused before now same wrote = (same, wrote)
+writes_whole meant DigestRefused before now same wrote = (same, wrote)
+writes_whole meant ProofRefused before now same wrote = (same, wrote)
 writes_whole meant NoMemory before now same wrote = (same, wrote)
 writes_whole meant WriteFault before now same wrote = whole_is_front before now meant.bytes wrote
 
@@ -36,6 +38,8 @@ ends_written meant ArrivalRefused before now wrote = wrote
 ends_written meant ScheduleRefused before now wrote = wrote
 ends_written meant QueryRefused before now wrote = wrote
 ends_written meant OrderRefused before now wrote = wrote
+ends_written meant DigestRefused before now wrote = wrote
+ends_written meant ProofRefused before now wrote = wrote
 ends_written meant WriteFault before now wrote = wrote
 ends_written meant NoMemory before now wrote = whole_is_front before now meant.bytes wrote.1
 

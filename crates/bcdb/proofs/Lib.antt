@@ -17,3 +17,8 @@ pub mod Gathering
 pub mod Replying
 pub mod Whole
 pub mod Giving
+pub mod Extracts
+pub mod FewWrites
+pub mod Digests
+pub mod Verifications
+pub mod Numbered

@@ -3,7 +3,7 @@ use Rattle.std.proofs.Common.{IfSome, List, None, Option, Some, [], inl, inr, re
 use Rattle.std.specs.Prelude.{Err, Ok, Result}
 use Rattle.std.specs.Result.{IsOk}
 use Rattle.bcdb.specs.ArrivalFiles.{all_arrived, arrived_before, arrived_in, file_at}
-use Rattle.bcdb.specs.Plan.{AllowsFile, AllowsPlan, AppFile, AreSound, BlocksFile, CallsFile, Counted, FileKind, IsSound, PlannedFile, RoseAt, RoseIn, ScheduleFile, arrivals_plan, planned, planned_if}
+use Rattle.bcdb.specs.Plan.{AllowsFile, AllowsPlan, AppFile, AreSound, BlocksFile, CallsFile, Counted, DigestsFile, FileKind, IsSound, PlannedFile, ProofFile, RoseAt, RoseIn, ScheduleFile, arrivals_plan, planned, planned_if}
 use Rattle.bcdb.specs.Sources.{steps_in}
 use Rattle.bcdb.specs.declared.fault.FilesFault.TheVariants as fault
 use Rattle.bcdb.specs.declared.fault.FilesFault.{FilesFault}
@@ -21,6 +21,8 @@ keeps_file AppFile told old new name keeps allows = λ at lt. keeps name at _ (a
 keeps_file CallsFile told old new name keeps allows = λ at clear. keeps name at 65536 (allows at clear)
 keeps_file ScheduleFile told old new name keeps allows = λ at le. keeps name at 65536 (allows at le)
 keeps_file BlocksFile told old new name keeps allows = λ at clear. keeps name at 65536 (allows at clear)
+keeps_file DigestsFile told old new name keeps allows = λ at lt. keeps name at _ (allows at lt)
+keeps_file ProofFile told old new name keeps allows = λ at lt. keeps name at _ (allows at lt)
 
 pub keeps_plan : (plan : List PlannedFile) (told : Option Files) (old new : Leave) → Keeps old new → AllowsPlan plan told old → AllowsPlan plan told new
 keeps_plan [] told old new keeps allows = tt

@@ -89,7 +89,7 @@ none_bad : (why : BadArrivals) (found : Result (List (List Tx)) BadArrivals) →
 none_bad why found fine is = cc
 
 -- nothing arrives at no nodes
-no_arrivals : (prefix : Option (List ℕ)) (nodes : ℕ) (why : BadArrivals) (files : Files) → nodes ≡ 0 → all_arrived prefix 1 nodes files ≡ Err why → ⊥
+pub no_arrivals : (prefix : Option (List ℕ)) (nodes : ℕ) (why : BadArrivals) (files : Files) → nodes ≡ 0 → all_arrived prefix 1 nodes files ≡ Err why → ⊥
 no_arrivals prefix nodes why files none is = none_bad why (all_arrived prefix 1 nodes files) (ap (λ count. all_arrived prefix 1 count files) none) is
 
 pub query_means : (query : List ℕ) (given : Given) (result : Result Reply NoMemory) → IfOk result (λ reply. Means (over_blocks query given.app.app given.read.blocks given.read.fault) reply)

@@ -1,15 +1,18 @@
 -- The answer is whole exactly where nothing is refused.
-use Rattle.std.proofs.Common.{Bool, IfSome, List, None, Option, Some, [], ap, cond, false, inl, inr, refl, subst, sym, true, ◌∙◌, ◌≡◌, ◌≤◌, ◌⊎◌, ℕ}
+use Rattle.std.proofs.Common.{Bool, IfSome, List, None, Option, Some, [], ap, cond, false, inl, inr, refl, subst, suc, sym, true, zero, ◌+◌, ◌∙◌, ◌≡◌, ◌≤◌, ◌⊎◌, ℕ}
 use Rattle.std.proofs.lemmas.Bool.{le-leb, leb-true}
-use Rattle.std.specs.Prelude.{Err, IsOk, Ok, Result}
+use Rattle.std.specs.Prelude.{Err, IsOk, IsSome, Ok, Result}
 use Rattle.bcdb.proofs.Ends.{ends_refused, ends_short}
 use Rattle.bcdb.proofs.Planning.{all_sound, both_sound, first_sound, rest_sound, sound_all}
 use Rattle.bcdb.specs.Accepted.{accepted}
 use Rattle.bcdb.specs.Answer.{Writes, over_settings, read_refused, usage_refused}
-use Rattle.bcdb.specs.ArrivalFiles.{all_arrived, arrived_before, arrived_in, file_at}
+use Rattle.bcdb.specs.ArrivalFiles.{all_arrived, arrived_before, arrived_in, file_at, node_file}
+use Rattle.bcdb.specs.ComparisonAnswer.{over_comparison}
+use Rattle.bcdb.specs.ExtractAnswer.{extracted, folded, over_extract, over_file}
 use Rattle.bcdb.specs.LoadAnswer.{over_load}
 use Rattle.bcdb.specs.OrderAnswer.{IsFew, blocks_needed, is_few, over_order}
-use Rattle.bcdb.specs.Plan.{AppFile, AreSound, BlocksFile, RoseAt, RoseIn, ScheduleFile, arrivals_plan, plan_from_arrivals, plan_from_schedule, plan_of, planned, planned_if, sources_plan}
+use Rattle.bcdb.specs.PeerFiles.{all_digests, digests_before, digests_read}
+use Rattle.bcdb.specs.Plan.{AppFile, AreSound, BlocksFile, RoseAt, RoseIn, ScheduleFile, arrivals_plan, digests_plan, plan_from_arrivals, plan_from_schedule, plan_of, planned, planned_if, sources_plan}
 use Rattle.bcdb.specs.ProgramAnswer.{ProgramAnswer, look_of, says, status_of}
 use Rattle.bcdb.specs.Refusals.{order_refusal}
 use Rattle.bcdb.specs.RunAnswer.{over_nodes, over_run}
@@ -18,23 +21,30 @@ use Rattle.bcdb.specs.Selected.{selected}
 use Rattle.bcdb.specs.SimulationAnswer.{over_arrivals, over_node, over_simulation}
 use Rattle.bcdb.specs.Sources.{query_sources, run_sources, simulation_sources, steps_in}
 use Rattle.bcdb.specs.Traced.{EndsTraced, followed_by}
+use Rattle.bcdb.specs.VerificationAnswer.{over_shown, proof_read}
 use Rattle.bcdb.specs.VersionsAnswer.{over_query, over_versions}
-use Rattle.bcdb.specs.Whole.{IsWhole, SealsAll, Selects}
+use Rattle.bcdb.specs.Whole.{Extracts, IsWhole, SealsAll, Selects}
+use Rattle.bcdb.specs.declared.extract.Extract.TheVariants as extract
+use Rattle.bcdb.specs.declared.extract.Extract.TheVariants.{Hashes}
+use Rattle.bcdb.specs.declared.extract.Extract.{Extract}
 use Rattle.bcdb.specs.declared.refusal.BadArrivals.{BadArrivals}
+use Rattle.bcdb.specs.declared.refusal.BadDigests.{BadDigests}
 use Rattle.bcdb.specs.declared.refusal.Refusal.{Refusal}
 use Rattle.bcdb.specs.declared.sources.Sources.{Sources}
-use Rattle.bcdb.specs.declared.status.Status.TheVariants.{AppRefused, ArrivalRefused, ChainRefused, Done, NoMemory, OrderRefused, QueryRefused, ReadFault, ScheduleRefused, Usage, WriteFault}
+use Rattle.bcdb.specs.declared.status.Status.TheVariants.{AppRefused, ArrivalRefused, ChainRefused, DigestRefused, Done, NoMemory, OrderRefused, ProofRefused, QueryRefused, ReadFault, ScheduleRefused, Usage, WriteFault}
 use Rattle.bcdb.specs.declared.status.Status.{Status}
 use Rattle.chain_file.specs.Chain.{chain}
 use Rattle.chain_file.specs.Headers.{version_of}
 use Rattle.chain_file.specs.declared.form.ChainVersion.{ChainVersion}
 use Rattle.cli_words.specs.declared.settings.WordsFault.TheVariants as fault
 use Rattle.cli_words.specs.declared.settings.WordsFault.{WordsFault}
-use Rattle.cli_words.specs.declared.settings.Settings.TheVariants.{Load, Order, Provenance, Run, Seal, Simulate}
+use Rattle.cli_words.specs.declared.settings.Settings.TheVariants.{Checkpoint, Compare, Load, Order, Provenance, Prove, Run, Seal, Simulate, Verify}
 use Rattle.cli_words.specs.declared.settings.Settings.{Settings}
 use Rattle.edge_traits.specs.Causes.{Counts}
 use Rattle.edge_traits.specs.Shelf.{Files}
 use Rattle.load_gen.specs.Application.{app_text}
+use Rattle.merkle_proof.specs.Blocks.{verified_of}
+use Rattle.merkle_proof.specs.declared.proof.Proof.{Proof}
 use Rattle.node_model.specs.declared.result.NodeResult.{NodeResult}
 use Rattle.node_model.specs.declared.version.Version.{Version}
 use Rattle.proc_syntax.specs.declared.call.Block.{Block}
@@ -43,6 +53,7 @@ use Rattle.proc_syntax.specs.declared.chain_fault.ChainFault.{ChainFault}
 use Rattle.proc_syntax.specs.declared.tree.App.{App}
 use Rattle.provenance.specs.Grammar.{query_of}
 use Rattle.provenance.specs.declared.query.QueryFault.{QueryFault}
+use Rattle.rel_base.specs.declared.access.Placed.{Placed}
 use Rattle.rel_base.specs.declared.schema.TableDef.{TableDef}
 use Rattle.report_text.specs.declared.look.Look.{Look}
 use Rattle.schedule_sim.specs.Running.{simulated}
@@ -147,6 +158,44 @@ order_done : (most : ℕ) (found : Result (List (List Tx)) BadArrivals) → IsFe
 order_done most (Err bad) few = absurd few
 order_done most (Ok clients) few = ap (λ b. (cond b (says Done []) (says OrderRefused (order_refusal (blocks_needed clients most)))).status) (le-leb (blocks_needed clients most) 1000000 few)
 
+-- the digests of peers are read exactly where each file is what it must be
+split_digests : (peer : ℕ) (found : Result (List (List ℕ)) ℕ) (others : Result (List (List (List ℕ))) BadDigests) → IsOk (digests_before peer found others) → IsOk found × IsOk others
+split_digests peer (Ok digests) (Ok others) ok = (refl, refl)
+split_digests peer (Ok digests) (Err bad) ok = absurd (cc)
+split_digests peer (Err line) others ok = absurd (cc)
+
+joined_digests : (peer : ℕ) (found : Result (List (List ℕ)) ℕ) (others : Result (List (List (List ℕ))) BadDigests) → IsOk found → IsOk others → IsOk (digests_before peer found others)
+joined_digests peer (Ok digests) (Ok others) one other = refl
+joined_digests peer (Ok digests) (Err bad) one other = absurd (cc)
+joined_digests peer (Err line) others one other = absurd (cc)
+
+sound_digests : (prefix : List ℕ) (peer count : ℕ) (files : Files) → AreSound (digests_plan prefix peer count) files → IsOk (all_digests prefix peer count files)
+sound_digests prefix peer zero files sound = refl
+sound_digests prefix peer (suc count) files sound =
+    joined_digests peer (digests_read (files (node_file prefix peer))) (all_digests prefix (peer + 1) count files) sound.0 (sound_digests prefix (peer + 1) count files sound.1)
+
+digests_sound : (prefix : List ℕ) (peer count : ℕ) (files : Files) → IsOk (all_digests prefix peer count files) → AreSound (digests_plan prefix peer count) files
+digests_sound prefix peer zero files ok = tt
+digests_sound prefix peer (suc count) files ok =
+    let both = split_digests peer (digests_read (files (node_file prefix peer))) (all_digests prefix (peer + 1) count files) ok in
+    (both.0, digests_sound prefix (peer + 1) count files both.1)
+
+comparison_done : (found : Result (List (List (List ℕ))) BadDigests) → IsOk found → (over_comparison found).status ≡ Done
+comparison_done (Err bad) ok = absurd (cc)
+comparison_done (Ok peers) ok = refl
+
+file_done : (stop : Option ChainFault) (file : Option (List ℕ)) → stop ≡ None → IsSome file → (over_file stop file).status ≡ Done
+file_done stop None faultless some = absurd (cc)
+file_done stop (Some file) faultless some = ap status_of faultless
+
+extract_done : (wanted : Extract) (found : Result App Refusal) (bytes : List ℕ) → (chain bytes).1 ≡ None → Extracts wanted found bytes → (over_extract wanted found bytes).status ≡ Done
+extract_done wanted (Err refusal) bytes faultless extracts = absurd extracts
+extract_done wanted (Ok app) bytes faultless extracts = file_done (chain bytes).1 (extracted wanted (folded app (chain bytes).0)) faultless extracts
+
+verification_done : (head : List ℕ) (found : Result (Placed × Proof) ℕ) → IsOk found → (over_shown (verified_of head found)).status ≡ Done
+verification_done head (Err line) ok = absurd (cc)
+verification_done head (Ok said) ok = refl
+
 pub whole_done : (settings : Option Settings) (files : Files) → IsWhole settings files → (over_settings settings files).status ≡ Done
 whole_done None files whole = absurd whole.1
 whole_done (Some (Run app blocks arrivals nodes executors flags)) files whole =
@@ -163,6 +212,14 @@ whole_done (Some (Provenance app blocks query)) files whole =
 whole_done (Some (Seal blocks)) files whole = sealed_done (version_of (files blocks)) (chain (files blocks)).0 (chain (files blocks)).1 whole.0.0
 whole_done (Some (Load number)) files whole = load_done number (accepted app_text) whole.1
 whole_done (Some (Order clients count most)) files whole = order_done most (all_arrived (Some clients) 1 count files) whole.1
+whole_done (Some (Checkpoint app blocks heads)) files whole =
+    let all = all_of (query_sources app blocks) files whole.0 in
+    extract_done (Hashes heads) (accepted (files app)) (files blocks) all.blocks whole.1
+whole_done (Some (Compare prefix count)) files whole = comparison_done (all_digests prefix 1 count files) (sound_digests prefix 1 count files whole.0)
+whole_done (Some (Prove app blocks block write)) files whole =
+    let all = all_of (query_sources app blocks) files whole.0 in
+    extract_done (extract.Proof block write) (accepted (files app)) (files blocks) all.blocks whole.1
+whole_done (Some (Verify proof head)) files whole = verification_done head (proof_read (files proof)) whole.0.0
 
 -- ---- and only there
 
@@ -232,6 +289,29 @@ done_order : (most : ℕ) (found : Result (List (List Tx)) BadArrivals) → (ove
 done_order most (Err bad) is = absurd (cc)
 done_order most (Ok clients) is = (refl, few_done clients most (is_few clients most) refl is)
 
+done_comparison : (found : Result (List (List (List ℕ))) BadDigests) → (over_comparison found).status ≡ Done → IsOk found
+done_comparison (Err bad) is = absurd (cc)
+done_comparison (Ok peers) is = refl
+
+done_file : (stop : Option ChainFault) (file : Option (List ℕ)) → (over_file stop file).status ≡ Done → (stop ≡ None) × IsSome file
+done_file stop None is = absurd (cc)
+done_file stop (Some file) is = (no_stop stop is, refl)
+
+done_extract : (wanted : Extract) (found : Result App Refusal) (bytes : List ℕ) → (over_extract wanted found bytes).status ≡ Done
+    → IsOk found × (((chain bytes).1 ≡ None) × Extracts wanted found bytes)
+done_extract wanted (Err refusal) bytes is = absurd (cc)
+done_extract wanted (Ok app) bytes is = (refl, done_file (chain bytes).1 (extracted wanted (folded app (chain bytes).0)) is)
+
+done_verification : (head : List ℕ) (found : Result (Placed × Proof) ℕ) → (over_shown (verified_of head found)).status ≡ Done → IsOk found
+done_verification head (Err line) is = absurd (cc)
+done_verification head (Ok said) is = refl
+
+extract_whole : (wanted : Extract) (app blocks : List ℕ) (files : Files) → (over_extract wanted (accepted (files app)) (files blocks)).status ≡ Done
+    → AreSound (sources_plan (query_sources app blocks)) files × Extracts wanted (accepted (files app)) (files blocks)
+extract_whole wanted app blocks files is =
+    let done = done_extract wanted (accepted (files app)) (files blocks) is in
+    (of_all (query_sources app blocks) files (record { app = done.0; arrivals = refl; schedule = refl; blocks = done.1.0 }), done.1.1)
+
 pub done_whole : (settings : Option Settings) (files : Files) → (over_settings settings files).status ≡ Done → IsWhole settings files
 done_whole None files is = absurd (cc)
 done_whole (Some (Run app blocks arrivals nodes executors flags)) files is =
@@ -250,6 +330,10 @@ done_whole (Some (Load number)) files is = (tt, done_load number (accepted app_t
 done_whole (Some (Order clients count most)) files is =
     let done = done_order most (all_arrived (Some clients) 1 count files) is in
     (all_sound (Some clients) 1 count files done.0, done.1)
+done_whole (Some (Checkpoint app blocks heads)) files is = extract_whole (Hashes heads) app blocks files is
+done_whole (Some (Compare prefix count)) files is = (digests_sound prefix 1 count files (done_comparison (all_digests prefix 1 count files) is), tt)
+done_whole (Some (Prove app blocks block write)) files is = extract_whole (extract.Proof block write) app blocks files is
+done_whole (Some (Verify proof head)) files is = ((done_verification head (proof_read (files proof)) is, tt), tt)
 
 -- ---- how a call ends
 
@@ -264,6 +348,8 @@ writes_status meant ArrivalRefused before now wrote = inr wrote.0
 writes_status meant ScheduleRefused before now wrote = inr wrote.0
 writes_status meant QueryRefused before now wrote = inr wrote.0
 writes_status meant OrderRefused before now wrote = inr wrote.0
+writes_status meant DigestRefused before now wrote = inr wrote.0
+writes_status meant ProofRefused before now wrote = inr wrote.0
 writes_status meant NoMemory before now wrote = inr wrote.0
 writes_status meant WriteFault before now wrote = inl refl
 

@@ -2,7 +2,7 @@
 use Rattle.std.specs.Prelude.{Bool, List, None, Option, Some, [], false, true, ◌++◌, ◌≡◌, ℕ}
 use Rattle.bcdb.specs.Answer.{over_settings}
 use Rattle.bcdb.specs.ProgramAnswer.{ProgramAnswer}
-use Rattle.bcdb.specs.declared.status.Status.TheVariants.{AppRefused, ArrivalRefused, ChainRefused, Done, NoMemory, OrderRefused, QueryRefused, ReadFault, ScheduleRefused, Usage, WriteFault}
+use Rattle.bcdb.specs.declared.status.Status.TheVariants.{AppRefused, ArrivalRefused, ChainRefused, DigestRefused, Done, NoMemory, OrderRefused, ProofRefused, QueryRefused, ReadFault, ScheduleRefused, Usage, WriteFault}
 use Rattle.bcdb.specs.declared.status.Status.{Status}
 use Rattle.cli_words.specs.declared.settings.Settings.TheVariants.{Run, Simulate}
 use Rattle.cli_words.specs.declared.settings.Settings.{Settings}
@@ -21,6 +21,8 @@ is_refused NoMemory = false
 is_refused QueryRefused = false
 is_refused ScheduleRefused = true
 is_refused OrderRefused = false
+is_refused DigestRefused = false
+is_refused ProofRefused = false
 
 -- the second answer is the first, and then more lines, if these are asked for
 pub record Adds (asked : Bool) (first second : ProgramAnswer) : Type 0 where

@@ -2,20 +2,25 @@
 use Rattle.std.specs.Prelude.{List, None, Option, Some, codes, ◌≡◌, ℕ}
 use Rattle.bcdb.specs.Accepted.{accepted}
 use Rattle.bcdb.specs.ArrivalFiles.{all_arrived}
+use Rattle.bcdb.specs.ComparisonAnswer.{over_comparison}
+use Rattle.bcdb.specs.ExtractAnswer.{over_extract}
 use Rattle.bcdb.specs.LoadAnswer.{over_load}
 use Rattle.bcdb.specs.OrderAnswer.{over_order}
+use Rattle.bcdb.specs.PeerFiles.{all_digests}
 use Rattle.bcdb.specs.ProgramAnswer.{ProgramAnswer, look_of, says}
 use Rattle.bcdb.specs.RunAnswer.{over_run}
 use Rattle.bcdb.specs.SealAnswer.{sealed}
 use Rattle.bcdb.specs.SimulationAnswer.{over_simulation}
 use Rattle.bcdb.specs.Sources.{run_sources, simulation_sources}
+use Rattle.bcdb.specs.VerificationAnswer.{over_verification}
 use Rattle.bcdb.specs.VersionsAnswer.{over_query}
+use Rattle.bcdb.specs.declared.extract.Extract.TheVariants.{Hashes, Proof}
 use Rattle.bcdb.specs.declared.status.Status.TheVariants.{NoMemory, ReadFault, Usage, WriteFault}
 use Rattle.bcdb.specs.declared.status.Status.{Status}
 use Rattle.chain_file.specs.Chain.{chain}
 use Rattle.chain_file.specs.Headers.{version_of}
 use Rattle.cli_words.specs.Language.{settings_of}
-use Rattle.cli_words.specs.declared.settings.Settings.TheVariants.{Load, Order, Provenance, Run, Seal, Simulate}
+use Rattle.cli_words.specs.declared.settings.Settings.TheVariants.{Checkpoint, Compare, Load, Order, Provenance, Prove, Run, Seal, Simulate, Verify}
 use Rattle.cli_words.specs.declared.settings.Settings.{Settings}
 use Rattle.edge_traits.specs.Shelf.{Files}
 use Rattle.edge_traits.specs.Sink.{WroteFront, appended}
@@ -35,6 +40,10 @@ over_settings (Some (Provenance app blocks query)) files = over_query query (acc
 over_settings (Some (Seal blocks)) files = sealed (version_of (files blocks)) (chain (files blocks)).0 (chain (files blocks)).1
 over_settings (Some (Load number)) files = over_load number (accepted app_text)
 over_settings (Some (Order clients count most)) files = over_order most (all_arrived (Some clients) 1 count files)
+over_settings (Some (Checkpoint app blocks heads)) files = over_extract (Hashes heads) (accepted (files app)) (files blocks)
+over_settings (Some (Compare prefix count)) files = over_comparison (all_digests prefix 1 count files)
+over_settings (Some (Prove app blocks block write)) files = over_extract (Proof block write) (accepted (files app)) (files blocks)
+over_settings (Some (Verify proof head)) files = over_verification head (files proof)
 
 -- what the words mean over files
 abbrev pub answer : List (List ℕ) → Files → ProgramAnswer

@@ -5,11 +5,15 @@ pub mod Application
 pub mod ArrivalFiles
 pub mod ArrivalReading
 pub mod Collecting
+pub mod ComparisonAnswer
+pub mod ExtractAnswer
+pub mod FewWrites
 pub mod Given
 pub mod InOrder
 pub mod LoadAnswer
 pub mod Numbers
 pub mod OrderAnswer
+pub mod PeerFiles
 pub mod Plan
 pub mod ProgramAnswer
 pub mod Reading
@@ -22,5 +26,6 @@ pub mod SimulationAnswer
 pub mod Sources
 pub mod Taking
 pub mod Traced
+pub mod VerificationAnswer
 pub mod VersionsAnswer
 pub mod Whole

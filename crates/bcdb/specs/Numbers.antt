@@ -1,7 +1,7 @@
 -- The numbers that the process ends with.
 use Rattle.std.specs.Prelude.{ℕ}
 use Rattle.bcdb.specs.declared.status.Status.{Status}
-use Rattle.bcdb.specs.declared.status.Status.TheVariants.{AppRefused, ArrivalRefused, ChainRefused, Done, NoMemory, OrderRefused, QueryRefused, ReadFault, ScheduleRefused, Usage, WriteFault}
+use Rattle.bcdb.specs.declared.status.Status.TheVariants.{AppRefused, ArrivalRefused, ChainRefused, DigestRefused, Done, NoMemory, OrderRefused, ProofRefused, QueryRefused, ReadFault, ScheduleRefused, Usage, WriteFault}
 
 -- the number of a status
 abbrev pub number_of_status : Status → ℕ
@@ -16,3 +16,5 @@ number_of_status NoMemory = 8
 number_of_status QueryRefused = 9
 number_of_status ScheduleRefused = 10
 number_of_status OrderRefused = 11
+number_of_status DigestRefused = 12
+number_of_status ProofRefused = 13

@@ -3,13 +3,15 @@
 use Rattle.std.specs.Prelude.{Err, IfSome, List, None, Ok, Option, Result, Some, [], suc, take, zero, ℕ, ◌+◌, ◌++◌, ◌≡◌, ◌≤◌, ◌⊎◌, ◌∷◌}
 use Rattle.std.specs.Result.{IsOk}
 use Rattle.bcdb.specs.Accepted.{accepted}
-use Rattle.bcdb.specs.ArrivalFiles.{file_at}
+use Rattle.bcdb.specs.ArrivalFiles.{file_at, node_file}
+use Rattle.bcdb.specs.PeerFiles.{digests_read}
 use Rattle.bcdb.specs.Sources.{query_sources, run_sources, simulation_sources}
+use Rattle.bcdb.specs.VerificationAnswer.{proof_read}
 use Rattle.bcdb.specs.declared.fault.FilesFault.TheVariants as fault
 use Rattle.bcdb.specs.declared.fault.FilesFault.{FilesFault}
 use Rattle.bcdb.specs.declared.sources.Sources.{Sources}
 use Rattle.chain_file.specs.Chain.{chain, lasting}
-use Rattle.cli_words.specs.declared.settings.Settings.TheVariants.{Load, Order, Provenance, Run, Seal, Simulate}
+use Rattle.cli_words.specs.declared.settings.Settings.TheVariants.{Checkpoint, Compare, Load, Order, Provenance, Prove, Run, Seal, Simulate, Verify}
 use Rattle.cli_words.specs.declared.settings.Settings.{Settings}
 use Rattle.edge_traits.specs.Causes.{AllowsFront, Counts, Leave, Rose}
 use Rattle.edge_traits.specs.Shelf.{Files}
@@ -19,23 +21,28 @@ use Rattle.tx_text.specs.Listing.{longest_listing}
 
 -- ---- what is read
 
--- an application, calls, a schedule or blocks
+-- an application, calls, a schedule, blocks, digests or a proof
 pub data FileKind : Type 0 where
   AppFile : FileKind
   CallsFile : FileKind
   ScheduleFile : FileKind
   BlocksFile : FileKind
+  DigestsFile : FileKind
+  ProofFile : FileKind
 
 pub record PlannedFile : Type 0 where
   pub name : List ℕ
   pub kind : FileKind
 
--- the bytes are what a file of the kind must be: an application that is accepted, calls or a schedule without a bad line, blocks to the file's end
+-- the bytes are what a file of the kind must be: an application that is accepted, calls, a schedule, digests or a proof
+-- without a bad line, blocks to the file's end
 abbrev pub IsSound : FileKind → List ℕ → Type 0
 IsSound AppFile bytes = IsOk (accepted bytes)
 IsSound CallsFile bytes = IsOk (arrivals bytes)
 IsSound ScheduleFile bytes = IsOk (schedule_of bytes)
 IsSound BlocksFile bytes = (chain bytes).1 ≡ None
+IsSound DigestsFile bytes = IsOk (digests_read bytes)
+IsSound ProofFile bytes = IsOk (proof_read bytes)
 
 -- one file
 abbrev pub planned : FileKind → List ℕ → List PlannedFile
@@ -50,6 +57,11 @@ planned_if kind (Some name) = planned kind name
 abbrev pub arrivals_plan : Option (List ℕ) → (node count : ℕ) → List PlannedFile
 arrivals_plan prefix node zero = []
 arrivals_plan prefix node (suc count) = planned_if CallsFile (file_at prefix node) ++ arrivals_plan prefix (node + 1) count
+
+-- the digests of so many peers
+abbrev pub digests_plan : List ℕ → (peer count : ℕ) → List PlannedFile
+digests_plan prefix peer zero = []
+digests_plan prefix peer (suc count) = planned DigestsFile (node_file prefix peer) ++ digests_plan prefix (peer + 1) count
 
 -- the application first, then what arrives, then the schedule, then the blocks
 abbrev pub plan_from_schedule : Sources → List PlannedFile
@@ -70,6 +82,10 @@ plan_of (Some (Provenance app blocks query)) = sources_plan (query_sources app b
 plan_of (Some (Seal blocks)) = planned BlocksFile blocks
 plan_of (Some (Load number)) = []
 plan_of (Some (Order clients count most)) = arrivals_plan (Some clients) 1 count
+plan_of (Some (Checkpoint app blocks heads)) = sources_plan (query_sources app blocks)
+plan_of (Some (Compare files count)) = digests_plan files 1 count
+plan_of (Some (Prove app blocks block write)) = sources_plan (query_sources app blocks)
+plan_of (Some (Verify proof head)) = planned ProofFile proof
 
 -- each file is what it must be
 abbrev pub AreSound : List PlannedFile → Files → Type 0
@@ -112,11 +128,20 @@ AllowsSchedule may_read name = (at : ℕ) → at ≤ longest_listing → may_rea
 abbrev pub AllowsBlocks : Option Files → Leave → List ℕ → Type 0
 AllowsBlocks told may_read name = (at : ℕ) → IfSome told (λ files. lasting (chain (take at (files name))).1 ≡ None) → may_read name at 65536
 
+-- a digest file or a proof file as far as it may go and one byte more
+abbrev pub AllowsDigests : Leave → List ℕ → Type 0
+AllowsDigests may_read name = AllowsFront may_read name 73000011
+
+abbrev pub AllowsProof : Leave → List ℕ → Type 0
+AllowsProof may_read name = AllowsFront may_read name 262145
+
 abbrev pub AllowsFile : FileKind → Option Files → Leave → List ℕ → Type 0
 AllowsFile AppFile told may_read name = AllowsApplication may_read name
 AllowsFile CallsFile told may_read name = AllowsCalls told may_read name
 AllowsFile ScheduleFile told may_read name = AllowsSchedule may_read name
 AllowsFile BlocksFile told may_read name = AllowsBlocks told may_read name
+AllowsFile DigestsFile told may_read name = AllowsDigests may_read name
+AllowsFile ProofFile told may_read name = AllowsProof may_read name
 
 -- each file may be read so once those before it are what they must be
 abbrev pub AllowsPlan : List PlannedFile → Option Files → Leave → Type 0

@@ -1,6 +1,7 @@
--- The lines that say why an application, what arrives, a schedule, a query or an order is refused.
+-- The lines that say why an application, what arrives, a schedule, a query, an order, digests or a proof is refused.
 use Rattle.std.specs.Prelude.{List, codes, decimal, ◌++◌, ℕ}
 use Rattle.bcdb.specs.declared.refusal.BadArrivals.{BadArrivals}
+use Rattle.bcdb.specs.declared.refusal.BadDigests.{BadDigests}
 use Rattle.bcdb.specs.declared.refusal.Refusal.{Refusal}
 use Rattle.bcdb.specs.declared.refusal.RefusalKind.TheVariants.{Bad, Syntax, TooLong}
 use Rattle.bcdb.specs.declared.refusal.RefusalKind.{RefusalKind}
@@ -59,3 +60,11 @@ short_refusal sealed = numbered_refusal (codes "schedule short") sealed
 -- `refused order BLOCKS`: so many blocks are needed
 abbrev pub order_refusal : ℕ → List ℕ
 order_refusal needed = numbered_refusal (codes "order") needed
+
+-- `refused digests PEER LINE`
+abbrev pub digests_refusal : BadDigests → List ℕ
+digests_refusal bad = numbered_refusal (codes "digests " ++ decimal bad.peer) bad.line
+
+-- `refused proof LINE`
+abbrev pub proof_refusal : ℕ → List ℕ
+proof_refusal line = numbered_refusal (codes "proof") line

@@ -2,7 +2,7 @@
 use Rattle.std.specs.Prelude.{Bool, false, true, ◌≡◌}
 use Rattle.bcdb.specs.ProgramAnswer.{ProgramAnswer}
 use Rattle.bcdb.specs.declared.reply.Reply.{Reply}
-use Rattle.bcdb.specs.declared.status.Status.TheVariants.{AppRefused, ArrivalRefused, ChainRefused, Done, NoMemory, OrderRefused, QueryRefused, ReadFault, ScheduleRefused, Usage, WriteFault}
+use Rattle.bcdb.specs.declared.status.Status.TheVariants.{AppRefused, ArrivalRefused, ChainRefused, DigestRefused, Done, NoMemory, OrderRefused, ProofRefused, QueryRefused, ReadFault, ScheduleRefused, Usage, WriteFault}
 use Rattle.bcdb.specs.declared.status.Status.{Status}
 
 pub record Means (meant : ProgramAnswer) (reply : Reply) : Type 0 where
@@ -22,3 +22,5 @@ is_answer NoMemory = false
 is_answer QueryRefused = true
 is_answer ScheduleRefused = true
 is_answer OrderRefused = true
+is_answer DigestRefused = true
+is_answer ProofRefused = true

@@ -1,13 +1,16 @@
 -- What nothing is refused of: the words are in the language, each file that the command reads is what it must be, and what is asked of them is accepted.
-use Rattle.std.specs.Prelude.{Err, IsOk, List, None, Ok, Option, Result, Some, ℕ}
+use Rattle.std.specs.Prelude.{Err, IsOk, IsSome, List, None, Ok, Option, Result, Some, ℕ}
 use Rattle.bcdb.specs.Accepted.{accepted}
 use Rattle.bcdb.specs.ArrivalFiles.{all_arrived, arrived_in, file_at}
+use Rattle.bcdb.specs.ExtractAnswer.{extracted, folded}
 use Rattle.bcdb.specs.OrderAnswer.{IsFew}
 use Rattle.bcdb.specs.Plan.{AreSound, plan_of}
 use Rattle.bcdb.specs.Selected.{selected}
+use Rattle.bcdb.specs.declared.extract.Extract.TheVariants.{Hashes, Proof}
+use Rattle.bcdb.specs.declared.extract.Extract.{Extract}
 use Rattle.bcdb.specs.declared.refusal.Refusal.{Refusal}
 use Rattle.chain_file.specs.Chain.{chain}
-use Rattle.cli_words.specs.declared.settings.Settings.TheVariants.{Load, Order, Provenance, Run, Seal, Simulate}
+use Rattle.cli_words.specs.declared.settings.Settings.TheVariants.{Checkpoint, Compare, Load, Order, Provenance, Prove, Run, Seal, Simulate, Verify}
 use Rattle.cli_words.specs.declared.settings.Settings.{Settings}
 use Rattle.edge_traits.specs.Shelf.{Files}
 use Rattle.load_gen.specs.Application.{app_text}
@@ -30,6 +33,11 @@ abbrev pub Selects : (query : List ℕ) → Result App Refusal → List ℕ → 
 Selects query (Err refusal) bytes = ⊥
 Selects query (Ok app) bytes = IsOk (selected app (chain bytes).0 (query_of query))
 
+-- what is wanted of the results of blocks is there
+abbrev pub Extracts : Extract → Result App Refusal → List ℕ → Type 0
+Extracts wanted (Err refusal) bytes = ⊥
+Extracts wanted (Ok app) bytes = IsSome (extracted wanted (folded app (chain bytes).0))
+
 -- what a command asks of its files is accepted
 abbrev pub IsAccepted : Option Settings → Files → Type 0
 IsAccepted None files = ⊥
@@ -40,6 +48,10 @@ IsAccepted (Some (Provenance app blocks query)) files = Selects query (accepted 
 IsAccepted (Some (Seal blocks)) files = Unit {0}
 IsAccepted (Some (Load number)) files = IsOk (accepted app_text)
 IsAccepted (Some (Order clients count most)) files = IsFew most (all_arrived (Some clients) 1 count files)
+IsAccepted (Some (Checkpoint app blocks heads)) files = Extracts (Hashes heads) (accepted (files app)) (files blocks)
+IsAccepted (Some (Compare prefix count)) files = Unit {0}
+IsAccepted (Some (Prove app blocks block write)) files = Extracts (Proof block write) (accepted (files app)) (files blocks)
+IsAccepted (Some (Verify proof head)) files = Unit {0}
 
 abbrev pub IsWhole : Option Settings → Files → Type 0
 IsWhole settings files = AreSound (plan_of settings) files × IsAccepted settings files

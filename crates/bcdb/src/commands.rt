@@ -5,6 +5,9 @@ ghost use Rattle.bcdb.specs.Reply.{is_answer};
 ghost use Rattle.bcdb.specs.Traced.{Replies};
 ghost use Rattle.cli_words.specs.Language.{AreWithin};
 
+use crate::comparing::answer_comparison;
+use crate::extract::Extract;
+use crate::extracting::answer_extract;
 use crate::fault::FilesFault;
 use crate::loading::answer_load;
 use crate::ordering::answer_order;
@@ -14,6 +17,7 @@ use crate::running::answer_run;
 use crate::sealing::seal_file;
 use crate::simulating::answer_simulation;
 use crate::sources::Sources;
+use crate::verifying::answer_verification;
 use cli_words::Settings;
 use cluster_run::Gate;
 use edge_traits::Shelf;
@@ -82,6 +86,29 @@ pub fn reply_to<R: Threads + Wait + Sync, S: Shelf, G: Gate>(
             let reply = answer_order(rt, alloc, shelf, &prefix, count, most);
             drop(prefix);
             reply
+        }
+        Settings::Checkpoint { app, blocks, heads } => {
+            let asked = Sources::of_query(app, blocks);
+            let reply = answer_extract(alloc, shelf, &asked, Extract::Hashes { heads });
+            drop(asked);
+            reply
+        }
+        Settings::Compare { files, count } => {
+            answer_comparison(alloc, shelf, files.as_str(), count)
+        }
+        Settings::Prove {
+            app,
+            blocks,
+            block,
+            write,
+        } => {
+            let asked = Sources::of_query(app, blocks);
+            let reply = answer_extract(alloc, shelf, &asked, Extract::Proof { block, write });
+            drop(asked);
+            reply
+        }
+        Settings::Verify { proof, head } => {
+            answer_verification(alloc, shelf, proof.as_str(), &head)
         }
     }
 }

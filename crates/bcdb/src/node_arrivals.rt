@@ -16,8 +16,8 @@ use proc_syntax::Tx;
 use rel_base::{List, NoMemory};
 use std::alloc::Global;
 
-// The name of the file of what arrives at a node.
-fn node_file(alloc: Global, prefix: &str, node: u32) -> Result<Word, NoMemory>
+/// The name of the file of a node, a client or a peer, by its number.
+pub fn node_file(alloc: Global, prefix: &str, node: u32) -> Result<Word, NoMemory>
     ensures { IfOk result (λ name. name ≡ node_file prefix.now node) }
 {
     let mut digits = Buffer::new();

@@ -5,7 +5,6 @@ ghost use Rattle.bcdb.specs.Accepted.{accepted};
 ghost use Rattle.bcdb.specs.Given.{AreGiven};
 ghost use Rattle.bcdb.specs.Plan.{AllowsPlan, Counted, RoseAt, RoseIn, sources_plan};
 ghost use Rattle.bcdb.specs.ProgramAnswer.{says, status_of};
-ghost use Rattle.bcdb.specs.Refusals.{query_refusal};
 ghost use Rattle.bcdb.specs.Reply.{Means, is_answer};
 ghost use Rattle.bcdb.specs.Selected.{Tells, selected};
 ghost use Rattle.bcdb.specs.VersionsAnswer.{over_blocks, over_query, over_versions};
@@ -19,10 +18,10 @@ ghost use Rattle.report_text.specs.Versions.{versions_text};
 use crate::fault::FilesFault;
 use crate::given::{BadSource, Given, read_given};
 use crate::plain::run_blocks;
-use crate::refusal::query_refusal;
-use crate::reply::{Reply, push_end, refuse_app, refuse_arrivals, refuse_schedule, status_of};
+use crate::reply::{
+    Reply, push_end, refuse_app, refuse_arrivals, refuse_query, refuse_schedule, status_of,
+};
 use crate::sources::Sources;
-use crate::status::Status;
 use chain_file::Fed;
 use edge_traits::Shelf;
 use node_model::Version;
@@ -75,18 +74,6 @@ fn list_versions(
     push_end(alloc, &mut bytes, stop)?;
     Ok(Reply {
         status: status_of(*stop),
-        bytes,
-    })
-}
-
-// The reply that refuses a query.
-fn refuse_query(alloc: Global, fault: QueryFault) -> Result<Reply, NoMemory>
-    ensures means { IfOk result (λ reply. Means (says Status.QueryRefused (query_refusal fault)) reply) }
-    ensures kind { IfOk result (λ reply. is_answer reply.status ≡ true) }
-{
-    let bytes = query_refusal(alloc, fault)?;
-    Ok(Reply {
-        status: Status::QueryRefused,
         bytes,
     })
 }

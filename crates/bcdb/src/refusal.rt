@@ -1,7 +1,7 @@
-//! Why an application, what arrives, a schedule, a query or an order is refused, and the line that says so.
+//! Why an application, what arrives, a schedule, a query, an order, digests or a proof is refused, and the line that says so.
 
 ghost use Rattle.std.specs.Prelude.{◌≡◌, ◌++◌, IfOk, OnOk};
-ghost use Rattle.bcdb.specs.Refusals.{arrivals_refusal, fault_text, kind_text, numbered_refusal, order_refusal, place_text, query_refusal, refusal_line, schedule_refusal, short_refusal};
+ghost use Rattle.bcdb.specs.Refusals.{arrivals_refusal, digests_refusal, fault_text, kind_text, numbered_refusal, order_refusal, place_text, proof_refusal, query_refusal, refusal_line, schedule_refusal, short_refusal};
 
 use literals::push_number;
 use proc_check::BadKind;
@@ -32,6 +32,13 @@ pub struct Refusal {
 #[derive(Clone, Copy, Debug, PartialEq, Eq)]
 pub struct BadArrivals {
     pub node: u32,
+    pub line: u64,
+}
+
+/// Why the digests of peers are refused: the peer, and the first bad line of its file, which is 0 where the file is too long.
+#[derive(Clone, Copy, Debug, PartialEq, Eq)]
+pub struct BadDigests {
+    pub peer: u32,
     pub line: u64,
 }
 
@@ -149,4 +156,20 @@ pub fn order_refusal(alloc: Global, needed: u64) -> Result<List<u8>, NoMemory>
     ensures { IfOk result (λ bytes. bytes ≡ order_refusal needed) }
 {
     numbered_refusal(alloc, b"order", needed)
+}
+
+/// The line that says the file of which peer is refused, and in which line.
+pub fn digests_refusal(alloc: Global, bad: BadDigests) -> Result<List<u8>, NoMemory>
+    ensures { IfOk result (λ bytes. bytes ≡ digests_refusal bad) }
+{
+    let mut what = b"digests ".to_vec(alloc)?;
+    push_number(&mut what, u64::from(bad.peer))?;
+    numbered_refusal(alloc, &what, bad.line)
+}
+
+/// The line that says in which line a proof file is refused.
+pub fn proof_refusal(alloc: Global, line: u64) -> Result<List<u8>, NoMemory>
+    ensures { IfOk result (λ bytes. bytes ≡ proof_refusal line) }
+{
+    numbered_refusal(alloc, b"proof", line)
 }

@@ -2,19 +2,20 @@
 
 ghost use Rattle.std.specs.Prelude.{◌≡◌, ◌++◌, IfOk, OnOk, true};
 ghost use Rattle.bcdb.specs.ProgramAnswer.{look_of, says, status_of};
-ghost use Rattle.bcdb.specs.Refusals.{arrivals_refusal, order_refusal, refusal_line, schedule_refusal, short_refusal};
+ghost use Rattle.bcdb.specs.Refusals.{arrivals_refusal, digests_refusal, order_refusal, proof_refusal, query_refusal, refusal_line, schedule_refusal, short_refusal};
 ghost use Rattle.bcdb.specs.Reply.{Means, is_answer};
 ghost use Rattle.report_text.specs.Ending.{end_line};
 ghost use Rattle.report_text.specs.Report.{report_text};
 
 use crate::refusal::{
-    BadArrivals, Refusal, arrivals_refusal, order_refusal, refusal_line, schedule_refusal,
-    short_refusal,
+    BadArrivals, BadDigests, Refusal, arrivals_refusal, digests_refusal, order_refusal,
+    proof_refusal, query_refusal, refusal_line, schedule_refusal, short_refusal,
 };
 use crate::status::Status;
 use cli_words::Flags;
 use node_model::NodeResult;
 use proc_syntax::ChainFault;
+use provenance::QueryFault;
 use rel_base::{List, NoMemory, TableDef};
 use report_text::{Look, report, stopped_line};
 use std::alloc::Global;
@@ -104,6 +105,42 @@ pub fn refuse_order(alloc: Global, needed: u64) -> Result<Reply, NoMemory>
     let bytes = order_refusal(alloc, needed)?;
     Ok(Reply {
         status: Status::OrderRefused,
+        bytes,
+    })
+}
+
+/// The reply that refuses a query, or the place of a write.
+pub fn refuse_query(alloc: Global, fault: QueryFault) -> Result<Reply, NoMemory>
+    ensures means { IfOk result (λ reply. Means (says Status.QueryRefused (query_refusal fault)) reply) }
+    ensures kind { IfOk result (λ reply. is_answer reply.status ≡ true) }
+{
+    let bytes = query_refusal(alloc, fault)?;
+    Ok(Reply {
+        status: Status::QueryRefused,
+        bytes,
+    })
+}
+
+/// The reply that refuses the digest file of a peer.
+pub fn refuse_digests(alloc: Global, bad: BadDigests) -> Result<Reply, NoMemory>
+    ensures means { IfOk result (λ reply. Means (says Status.DigestRefused (digests_refusal bad)) reply) }
+    ensures kind { IfOk result (λ reply. is_answer reply.status ≡ true) }
+{
+    let bytes = digests_refusal(alloc, bad)?;
+    Ok(Reply {
+        status: Status::DigestRefused,
+        bytes,
+    })
+}
+
+/// The reply that refuses a proof file for a line.
+pub fn refuse_proof(alloc: Global, line: u64) -> Result<Reply, NoMemory>
+    ensures means { IfOk result (λ reply. Means (says Status.ProofRefused (proof_refusal line)) reply) }
+    ensures kind { IfOk result (λ reply. is_answer reply.status ≡ true) }
+{
+    let bytes = proof_refusal(alloc, line)?;
+    Ok(Reply {
+        status: Status::ProofRefused,
         bytes,
     })
 }

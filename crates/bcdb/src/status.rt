@@ -31,6 +31,10 @@ pub enum Status {
     ScheduleRefused = 10,
     /// What the clients submit needs more blocks than a block file may have.
     OrderRefused = 11,
+    /// The digest file of a peer is too long or outside its grammar.
+    DigestRefused = 12,
+    /// The proof file is too long or outside its grammar.
+    ProofRefused = 13,
 }
 
 /// What the process ends with: the number of the status.

@@ -178,7 +178,7 @@ fn first_apart(peers: &[List<[u8; 32]>]) -> Option<u64>
     None
 }
 
-/// Where each peer differs from the majority, and where peers first differ from each other. The only refusal is out of memory.
+/// Where each peer differs from the majority, and where peers first differ from each other. It fails only where memory runs out.
 pub fn compare(alloc: Global, peers: &List<List<[u8; 32]>>) -> Result<Compared, NoMemory>
     ensures { IfOk result (λ found. found ≡ compared peers.now) }
 {

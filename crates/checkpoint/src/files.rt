@@ -135,15 +135,14 @@ fn file_of(alloc: Global, heads: bool, list: &List<[u8; 32]>) -> Result<List<u8>
     Ok(List::from_vec(out))
 }
 
-/// The digest file of digests, or of heads, of which there are at most 1,000,000. Digests are read back from it. The only refusal is out of memory.
+/// The digest file of digests, or of heads. At most 1,000,000 digests are read back from it. It fails only where memory runs out.
 pub fn write_digests(
     alloc: Global,
     heads: bool,
     list: &List<[u8; 32]>,
 ) -> Result<List<u8>, NoMemory>
-    requires { length list.now ≤ most_digests }
     ensures file { IfOk result (λ file. file ≡ digest_file heads list.now) }
-    ensures back { IfOk result (λ file. heads ≡ false → digests_of file ≡ Ok list.now) }
+    ensures back { IfOk result (λ file. heads ≡ false → length list.now ≤ most_digests → digests_of file ≡ Ok list.now) }
 {
     let file = file_of(alloc, heads, list)?;
     Ok(file)

@@ -88,7 +88,7 @@ fn push_first(
 }
 
 /// The text of what a comparison of these peers found: a line for each peer with the number of its digests, and the least height at which it differs
-/// from the majority; a line with the least height at which two peers differ, and the majority there; and `done`. The only refusal is out of memory.
+/// from the majority; a line with the least height at which two peers differ, and the majority there; and `done`. It fails only where memory runs out.
 pub fn print_compared(
     alloc: Global,
     peers: &List<List<[u8; 32]>>,

@@ -6,7 +6,7 @@ use Rattle.cli_words.specs.declared.given.NextWord.{NextWord}
 use Rattle.cli_words.specs.declared.given.NextWord.TheVariants.{Bad, Awaits, Ends}
 use Rattle.cli_words.specs.declared.options.CommandOption.{CommandOption}
 use Rattle.cli_words.specs.declared.options.Takes.{Takes}
-use Rattle.cli_words.specs.declared.options.Takes.TheVariants.{Nothing, Text, Number}
+use Rattle.cli_words.specs.declared.options.Takes.TheVariants.{Nothing, Text, Number, Hash}
 use Rattle.cli_words.specs.Language.{Item, begun, begun_by, by_step, fits, is_read, item, items_from, step, value_in}
 use Rattle.cli_words.specs.Laws.{IsSound, item_words, matches, words_by}
 use Rattle.cli_words.specs.Table.{option_of, takes_of, word_of}
@@ -43,6 +43,7 @@ one_item x [] rest Nothing e sound = (ap (items_by None (word_of x) rest) (word_
 one_item x (b ∷ bs) rest Nothing e sound = absurd (cc)
 one_item x value rest Text e sound = two_words x value rest (word_step x Text e) (value_step x value (ap (λ (t : Takes). fits t value) e ∙ sound))
 one_item x value rest (Number least most) e sound = two_words x value rest (word_step x (Number least most) e) (value_step x value (ap (λ (t : Takes). fits t value) e ∙ sound))
+one_item x value rest Hash e sound = two_words x value rest (word_step x Hash e) (value_step x value (ap (λ (t : Takes). fits t value) e ∙ sound))
 
 pub items_back : (items : List Item) → AllByRecursion IsSound items → (items_from None (flat_map item_words items) ≡ items) × (is_read None (flat_map item_words items) ≡ true)
 items_back [] sound = (refl, refl)
@@ -72,6 +73,7 @@ begun_spelled x words Nothing e more read =
     ap (λ rest. word_of x ∷ rest) (more None read) ∙ ap (λ (t : Takes). words_by t (item x []) ++ flat_map item_words (items_from None words)) (sym e)
 begun_spelled x words Text e more read = more (Some x) read
 begun_spelled x words (Number least most) e more read = more (Some x) read
+begun_spelled x words Hash e more read = more (Some x) read
 
 named_spelled : (word : List ℕ) (words : List (List ℕ)) (found : Option CommandOption) → option_of word ≡ found → AreSpelled words → read_by words (begun_by found) ≡ true
     → word ∷ words ≡ flat_map item_words (items_by None word words (begun_by found))
@@ -84,6 +86,7 @@ with_value : (x : CommandOption) (value : List ℕ) (takes : Takes) → fits tak
 with_value x value Nothing e = absurd (cc)
 with_value x value Text e = refl
 with_value x value (Number least most) e = refl
+with_value x value Hash e = refl
 
 valued_spelled : (x : CommandOption) (word : List ℕ) (words : List (List ℕ)) (test : Bool) → fits (takes_of x) word ≡ test → AreSpelled words → read_by words (cond test (Ends x) Bad) ≡ true
     → word_of x ∷ word ∷ words ≡ flat_map item_words (items_by (Some x) word words (cond test (Ends x) Bad))

@@ -5,7 +5,7 @@ use Rattle.std.specs.List.{find, list_all}
 use Rattle.std.proofs.lemmas.Bool.{and_parts}
 use Rattle.std.proofs.lemmas.Slice.Eq.{bytes_eq-Decides}
 use Rattle.cli_words.specs.declared.command.Command.{Command}
-use Rattle.cli_words.specs.declared.command.Command.TheVariants.{Run, Simulate, Provenance, Seal, Load, Order}
+use Rattle.cli_words.specs.declared.command.Command.TheVariants.{Run, Simulate, Provenance, Seal, Load, Order, Checkpoint, Compare, Prove, Verify}
 use Rattle.cli_words.specs.declared.options.CommandOption.{CommandOption}
 use Rattle.cli_words.specs.declared.options.CommandOption.TheVariants as option
 use Rattle.cli_words.specs.Table.{command_of, command_word, commands, is_same, option_of, options, word_of}
@@ -28,6 +28,10 @@ command_back Provenance = refl
 command_back Seal = refl
 command_back Load = refl
 command_back Order = refl
+command_back Checkpoint = refl
+command_back Compare = refl
+command_back Prove = refl
+command_back Verify = refl
 
 pub named_command : (word : List ℕ) (command : Command) → command_of word ≡ Some command → word ≡ command_word command
 named_command word command e = sym (equal_bytes (command_word command) word (find_true (λ other. bytes_eq (command_word other) word) commands command e))
@@ -42,10 +46,16 @@ option_back option.Number = refl
 option_back option.Clients = refl
 option_back option.Count = refl
 option_back option.Most = refl
+option_back option.Files = refl
+option_back option.Block = refl
+option_back option.Write = refl
+option_back option.Proof = refl
+option_back option.Head = refl
 option_back option.Nodes = refl
 option_back option.Executors = refl
 option_back option.Orders = refl
 option_back option.Digests = refl
+option_back option.Heads = refl
 option_back option.Json = refl
 option_back option.Trace = refl
 
@@ -73,9 +83,15 @@ of_each test all option.Number = in_list test (take 5 options) (drop 6 options) 
 of_each test all option.Clients = in_list test (take 6 options) (drop 7 options) option.Clients all
 of_each test all option.Count = in_list test (take 7 options) (drop 8 options) option.Count all
 of_each test all option.Most = in_list test (take 8 options) (drop 9 options) option.Most all
-of_each test all option.Nodes = in_list test (take 9 options) (drop 10 options) option.Nodes all
-of_each test all option.Executors = in_list test (take 10 options) (drop 11 options) option.Executors all
-of_each test all option.Orders = in_list test (take 11 options) (drop 12 options) option.Orders all
-of_each test all option.Digests = in_list test (take 12 options) (drop 13 options) option.Digests all
-of_each test all option.Json = in_list test (take 13 options) (drop 14 options) option.Json all
-of_each test all option.Trace = in_list test (take 14 options) (drop 15 options) option.Trace all
+of_each test all option.Files = in_list test (take 9 options) (drop 10 options) option.Files all
+of_each test all option.Block = in_list test (take 10 options) (drop 11 options) option.Block all
+of_each test all option.Write = in_list test (take 11 options) (drop 12 options) option.Write all
+of_each test all option.Proof = in_list test (take 12 options) (drop 13 options) option.Proof all
+of_each test all option.Head = in_list test (take 13 options) (drop 14 options) option.Head all
+of_each test all option.Nodes = in_list test (take 14 options) (drop 15 options) option.Nodes all
+of_each test all option.Executors = in_list test (take 15 options) (drop 16 options) option.Executors all
+of_each test all option.Orders = in_list test (take 16 options) (drop 17 options) option.Orders all
+of_each test all option.Digests = in_list test (take 17 options) (drop 18 options) option.Digests all
+of_each test all option.Heads = in_list test (take 18 options) (drop 19 options) option.Heads all
+of_each test all option.Json = in_list test (take 19 options) (drop 20 options) option.Json all
+of_each test all option.Trace = in_list test (take 20 options) (drop 21 options) option.Trace all

@@ -74,6 +74,10 @@ made_within command.Provenance items sound = tt
 made_within command.Seal items sound = tt
 made_within command.Load items sound = tt
 made_within command.Order items sound = let clients = clients_in items sound in let most = most_in items sound in (clients.0, clients.1, most.0, most.1)
+made_within command.Checkpoint items sound = tt
+made_within command.Compare items sound = clients_in items sound
+made_within command.Prove items sound = tt
+made_within command.Verify items sound = tt
 
 -- the settings that words say
 pub settings_within : (words : List (List ℕ)) (settings : Settings) → settings_of words ≡ Some settings → AreWithin settings

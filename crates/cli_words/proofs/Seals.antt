@@ -32,10 +32,16 @@ other_than option.Number = inl refl
 other_than option.Clients = inl refl
 other_than option.Count = inl refl
 other_than option.Most = inl refl
+other_than option.Files = inl refl
+other_than option.Block = inl refl
+other_than option.Write = inl refl
+other_than option.Proof = inl refl
+other_than option.Head = inl refl
 other_than option.Nodes = inl refl
 other_than option.Executors = inl refl
 other_than option.Orders = inl refl
 other_than option.Digests = inl refl
+other_than option.Heads = inl refl
 other_than option.Json = inl refl
 other_than option.Trace = inl refl
 
@@ -118,6 +124,10 @@ by_command words command.Provenance items blocks spelled line same = absurd (cc)
 by_command words command.Seal items blocks spelled line same = seal_of words items blocks spelled line same
 by_command words command.Load items blocks spelled line same = absurd (cc)
 by_command words command.Order items blocks spelled line same = absurd (cc)
+by_command words command.Checkpoint items blocks spelled line same = absurd (cc)
+by_command words command.Compare items blocks spelled line same = absurd (cc)
+by_command words command.Prove items blocks spelled line same = absurd (cc)
+by_command words command.Verify items blocks spelled line same = absurd (cc)
 
 pub only_seals : (words : List (List ℕ)) (blocks : List ℕ) → settings_of words ≡ Some (Seal blocks) → IsSeal words blocks
 only_seals words blocks e =

@@ -5,7 +5,7 @@ use Rattle.cli_words.specs.declared.given.NextWord.{NextWord}
 use Rattle.cli_words.specs.declared.given.NextWord.TheVariants.{Bad, Awaits, Ends}
 use Rattle.cli_words.specs.declared.options.CommandOption.{CommandOption}
 use Rattle.cli_words.specs.declared.options.Takes.{Takes}
-use Rattle.cli_words.specs.declared.options.Takes.TheVariants.{Nothing, Text, Number}
+use Rattle.cli_words.specs.declared.options.Takes.TheVariants.{Nothing, Text, Number, Hash}
 use Rattle.cli_words.specs.Language.{begun, begun_by, by_step, fits, item, items_from, step, value_in}
 use Rattle.cli_words.specs.Laws.{IsSound, matches}
 use Rattle.cli_words.specs.Table.{option_of, takes_of}
@@ -15,6 +15,7 @@ pub fit_matches : (takes : Takes) (value : List ℕ) → fits takes value ≡ tr
 fit_matches Nothing value e = absurd (cc)
 fit_matches Text value e = e
 fit_matches (Number least most) value e = e
+fit_matches Hash value e = e
 
 -- a word that ends an option gives it a value that it takes
 abbrev EndsSound : Option CommandOption → List ℕ → NextWord → Type 0
@@ -26,6 +27,7 @@ begun_sound : (word : List ℕ) (x : CommandOption) (takes : Takes) → takes_of
 begun_sound word x Nothing e = ap (λ (t : Takes). matches t []) e
 begun_sound word x Text e = tt
 begun_sound word x (Number least most) e = tt
+begun_sound word x Hash e = tt
 
 named_sound : (word : List ℕ) (found : Option CommandOption) → EndsSound None word (begun_by found)
 named_sound word None = tt

@@ -1,7 +1,8 @@
 -- The language of the command line.
-use Rattle.std.specs.Prelude.{ℕ, ◌≤◌, List, [], ◌∷◌, Bool, true, false, not, ◌&&◌, ◌==◌, cond, length, nat_le, Option, Some, None, is_none, unwrap_or}
+use Rattle.std.specs.Prelude.{ℕ, ◌≤◌, List, [], ◌∷◌, Bool, true, false, not, ◌&&◌, ◌==◌, cond, length, nat_le, Option, Some, None, is_none, is_some, replicate, unwrap_or}
 use Rattle.std.specs.Borrow.{Bor}
 use Rattle.std.specs.List.{list_all}
+use Rattle.hex_digits.specs.Digits.{hash_of}
 use Rattle.literals.specs.Number.{u64_at}
 use Rattle.cli_words.specs.Table.{command_of, is_same, option_of, options, takes_of, use_of}
 use Rattle.cli_words.specs.declared.command.Command.{Command}
@@ -12,11 +13,11 @@ use Rattle.cli_words.specs.declared.given.NextWord.TheVariants.{Bad, Awaits, End
 use Rattle.cli_words.specs.declared.options.CommandOption.{CommandOption}
 use Rattle.cli_words.specs.declared.options.CommandOption.TheVariants as option
 use Rattle.cli_words.specs.declared.options.Takes.{Takes}
-use Rattle.cli_words.specs.declared.options.Takes.TheVariants.{Nothing, Text, Number}
+use Rattle.cli_words.specs.declared.options.Takes.TheVariants.{Nothing, Text, Number, Hash}
 use Rattle.cli_words.specs.declared.options.Use.{Use}
 use Rattle.cli_words.specs.declared.options.Use.TheVariants.{No, May, Must}
 use Rattle.cli_words.specs.declared.settings.Settings.{Settings}
-use Rattle.cli_words.specs.declared.settings.Settings.TheVariants.{Run, Simulate, Provenance, Seal, Load, Order}
+use Rattle.cli_words.specs.declared.settings.Settings.TheVariants.{Run, Simulate, Provenance, Seal, Load, Order, Checkpoint, Compare, Prove, Verify}
 
 -- the words of a `&[&str]`
 abbrev pub texts : List (Bor (List ℕ)) → List (List ℕ)
@@ -50,6 +51,7 @@ abbrev pub fits : Takes → List ℕ → Bool
 fits Nothing word = false
 fits Text word = is_value word
 fits (Number least most) word = is_within least most (whole_number word)
+fits Hash word = is_some (hash_of word)
 
 -- ---- the words after the command
 
@@ -135,6 +137,11 @@ abbrev pub number_or : ℕ → List (List ℕ) → ℕ
 number_or other [] = other
 number_or other (value ∷ values) = unwrap_or (whole_number value) other
 
+-- the hash that is given, or else zeros
+abbrev pub hash_or_zeros : List (List ℕ) → List ℕ
+hash_or_zeros [] = replicate 32 0
+hash_or_zeros (value ∷ values) = unwrap_or (hash_of value) (replicate 32 0)
+
 abbrev pub is_given : List (List ℕ) → Bool
 is_given [] = false
 is_given (value ∷ values) = true
@@ -163,6 +170,11 @@ made command.Provenance values = Provenance (text_or_none (values option.App)) (
 made command.Seal values = Seal (text_or_none (values option.Blocks))
 made command.Load values = Load (number_or 0 (values option.Number))
 made command.Order values = Order (text_or_none (values option.Clients)) (number_or 1 (values option.Count)) (number_or 1 (values option.Most))
+made command.Checkpoint values = Checkpoint (text_or_none (values option.App)) (text_or_none (values option.Blocks)) (is_given (values option.Heads))
+made command.Compare values = Compare (text_or_none (values option.Files)) (number_or 1 (values option.Count))
+made command.Prove values =
+    Prove (text_or_none (values option.App)) (text_or_none (values option.Blocks)) (number_or 0 (values option.Block)) (number_or 0 (values option.Write))
+made command.Verify values = Verify (text_or_none (values option.Proof)) (hash_or_zeros (values option.Head))
 
 -- what a command and the words after it come to
 abbrev pub settled : Option Command → List (List ℕ) → Option Settings
@@ -175,8 +187,9 @@ settings_of [] = None
 settings_of (word ∷ words) = settled (command_of word) words
 
 -- the numbers lie in their ranges: a run has 1 to 8 nodes, and each node at most 16 executors; an order has 1 to 8 clients, and 1 to 1,024
--- transactions a block
+-- transactions a block; a comparison has 1 to 8 peers
 abbrev pub AreWithin : Settings → Type 0
 AreWithin (Run app blocks arrivals nodes executors flags) = (1 ≤ nodes) × (nodes ≤ 8) × (executors ≤ 16)
 AreWithin (Order clients count most) = (1 ≤ count) × (count ≤ 8) × (1 ≤ most) × (most ≤ 1024)
+AreWithin (Compare files count) = (1 ≤ count) × (count ≤ 8)
 AreWithin _ = Unit {0}

@@ -6,7 +6,7 @@ use Rattle.cli_words.specs.Language.{Item, fits, is_line, is_value, made, settin
 use Rattle.cli_words.specs.Table.{command_word, takes_of, word_of}
 use Rattle.cli_words.specs.declared.command.Command.{Command}
 use Rattle.cli_words.specs.declared.options.Takes.{Takes}
-use Rattle.cli_words.specs.declared.options.Takes.TheVariants.{Nothing, Text, Number}
+use Rattle.cli_words.specs.declared.options.Takes.TheVariants.{Nothing, Text, Number, Hash}
 use Rattle.cli_words.specs.declared.settings.Settings.{Settings}
 use Rattle.cli_words.specs.declared.settings.Settings.TheVariants.{Seal}
 
@@ -16,6 +16,7 @@ matches Nothing [] = true
 matches Nothing (byte ∷ bytes) = false
 matches Text value = fits Text value
 matches (Number least most) value = fits (Number least most) value
+matches Hash value = fits Hash value
 
 -- an option has a value that it takes
 abbrev pub IsSound : Item → Type 0

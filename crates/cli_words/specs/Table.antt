@@ -2,11 +2,11 @@
 use Rattle.std.specs.Prelude.{ℕ, ◌-◌, ◌^◌, List, [], ◌∷◌, Bool, cond, Option, codes, bytes_eq}
 use Rattle.std.specs.List.{find, list_any}
 use Rattle.cli_words.specs.declared.command.Command.{Command}
-use Rattle.cli_words.specs.declared.command.Command.TheVariants.{Run, Simulate, Provenance, Seal, Load, Order}
+use Rattle.cli_words.specs.declared.command.Command.TheVariants.{Run, Simulate, Provenance, Seal, Load, Order, Checkpoint, Compare, Prove, Verify}
 use Rattle.cli_words.specs.declared.options.CommandOption.{CommandOption}
 use Rattle.cli_words.specs.declared.options.CommandOption.TheVariants as option
 use Rattle.cli_words.specs.declared.options.Takes.{Takes}
-use Rattle.cli_words.specs.declared.options.Takes.TheVariants.{Nothing, Text, Number}
+use Rattle.cli_words.specs.declared.options.Takes.TheVariants.{Nothing, Text, Number, Hash}
 use Rattle.cli_words.specs.declared.options.Use.{Use}
 use Rattle.cli_words.specs.declared.options.Use.TheVariants.{No, May, Must}
 
@@ -19,9 +19,13 @@ command_word Provenance = codes "provenance"
 command_word Seal = codes "seal"
 command_word Load = codes "load"
 command_word Order = codes "order"
+command_word Checkpoint = codes "checkpoint"
+command_word Compare = codes "compare"
+command_word Prove = codes "prove"
+command_word Verify = codes "verify"
 
 abbrev pub commands : List Command
-commands = Run ∷ Simulate ∷ Provenance ∷ Seal ∷ Load ∷ Order ∷ []
+commands = Run ∷ Simulate ∷ Provenance ∷ Seal ∷ Load ∷ Order ∷ Checkpoint ∷ Compare ∷ Prove ∷ Verify ∷ []
 
 -- the command that a word names
 abbrev pub command_in : List Command → List ℕ → Option Command
@@ -43,26 +47,33 @@ abbrev rule : List ℕ → Takes → List Command → List Command → Rule
 rule word takes needed optional = record { word = word; takes = takes; needed = needed; optional = optional }
 
 abbrev pub rule_of : CommandOption → Rule
-rule_of option.App = rule (codes "--app") Text (Run ∷ Simulate ∷ Provenance ∷ []) []
-rule_of option.Blocks = rule (codes "--blocks") Text (Run ∷ Simulate ∷ Provenance ∷ Seal ∷ []) []
+rule_of option.App = rule (codes "--app") Text (Run ∷ Simulate ∷ Provenance ∷ Checkpoint ∷ Prove ∷ []) []
+rule_of option.Blocks = rule (codes "--blocks") Text (Run ∷ Simulate ∷ Provenance ∷ Seal ∷ Checkpoint ∷ Prove ∷ []) []
 rule_of option.Schedule = rule (codes "--schedule") Text (Simulate ∷ []) []
 rule_of option.Arrivals = rule (codes "--arrivals") Text [] (Run ∷ Simulate ∷ [])
 rule_of option.Query = rule (codes "--query") Text (Provenance ∷ []) []
 rule_of option.Number = rule (codes "--number") (Number 0 (2 ^ 64 - 1)) (Load ∷ []) []
 rule_of option.Clients = rule (codes "--clients") Text (Order ∷ []) []
-rule_of option.Count = rule (codes "--count") (Number 1 8) (Order ∷ []) []
+rule_of option.Count = rule (codes "--count") (Number 1 8) (Order ∷ Compare ∷ []) []
 rule_of option.Most = rule (codes "--most") (Number 1 1024) (Order ∷ []) []
+rule_of option.Files = rule (codes "--files") Text (Compare ∷ []) []
+rule_of option.Block = rule (codes "--block") (Number 0 (2 ^ 64 - 1)) (Prove ∷ []) []
+rule_of option.Write = rule (codes "--write") (Number 0 (2 ^ 64 - 1)) (Prove ∷ []) []
+rule_of option.Proof = rule (codes "--proof") Text (Verify ∷ []) []
+rule_of option.Head = rule (codes "--head") Hash (Verify ∷ []) []
 rule_of option.Nodes = rule (codes "--nodes") (Number 1 8) [] (Run ∷ [])
 rule_of option.Executors = rule (codes "--executors") (Number 0 16) [] (Run ∷ [])
 rule_of option.Orders = rule (codes "--orders") Nothing [] (Run ∷ Simulate ∷ [])
 rule_of option.Digests = rule (codes "--digests") Nothing [] (Run ∷ Simulate ∷ [])
+rule_of option.Heads = rule (codes "--heads") Nothing [] (Checkpoint ∷ [])
 rule_of option.Json = rule (codes "--json") Nothing [] (Run ∷ Simulate ∷ [])
 rule_of option.Trace = rule (codes "--trace") Nothing [] (Run ∷ Simulate ∷ [])
 
 abbrev pub options : List CommandOption
 options =
     option.App ∷ option.Blocks ∷ option.Schedule ∷ option.Arrivals ∷ option.Query ∷ option.Number ∷ option.Clients ∷ option.Count ∷ option.Most
-    ∷ option.Nodes ∷ option.Executors ∷ option.Orders ∷ option.Digests ∷ option.Json ∷ option.Trace ∷ []
+    ∷ option.Files ∷ option.Block ∷ option.Write ∷ option.Proof ∷ option.Head ∷ option.Nodes ∷ option.Executors ∷ option.Orders ∷ option.Digests
+    ∷ option.Heads ∷ option.Json ∷ option.Trace ∷ []
 
 abbrev pub word_of : CommandOption → List ℕ
 word_of x = (rule_of x).word

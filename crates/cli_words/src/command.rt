@@ -18,16 +18,28 @@ pub enum Command {
     Load,
     /// `order`: puts what clients submit at once into blocks.
     Order,
+    /// `checkpoint`: writes the digest, or the head of the writes, of each block.
+    Checkpoint,
+    /// `compare`: compares the digests of peers.
+    Compare,
+    /// `prove`: proves a write of a block.
+    Prove,
+    /// `verify`: verifies such a proof by a head.
+    Verify,
 }
 
 /// All commands.
-pub const COMMANDS: [Command; 6] = [
+pub const COMMANDS: [Command; 10] = [
     Command::Run,
     Command::Simulate,
     Command::Provenance,
     Command::Seal,
     Command::Load,
     Command::Order,
+    Command::Checkpoint,
+    Command::Compare,
+    Command::Prove,
+    Command::Verify,
 ];
 
 impl Command {
@@ -42,6 +54,10 @@ impl Command {
             Command::Seal => "seal",
             Command::Load => "load",
             Command::Order => "order",
+            Command::Checkpoint => "checkpoint",
+            Command::Compare => "compare",
+            Command::Prove => "prove",
+            Command::Verify => "verify",
         }
     }
 }

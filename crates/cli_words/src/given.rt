@@ -25,7 +25,7 @@ fn begin(word: &str) -> NextWord
         None => NextWord::Bad,
         Some(option) => match option.takes() {
             Takes::Nothing => NextWord::Ends(option),
-            Takes::Text | Takes::Number { .. } => NextWord::Awaits(option),
+            Takes::Text | Takes::Number { .. } | Takes::Hash => NextWord::Awaits(option),
         },
     }
 }

@@ -22,10 +22,20 @@ pub enum CommandOption {
     Number,
     /// `--clients`, the files of clients, by the prefix of their names.
     Clients,
-    /// `--count`, how many clients there are.
+    /// `--count`, how many clients or peers there are.
     Count,
     /// `--most`, how many transactions a block may have.
     Most,
+    /// `--files`, the digest files of peers, by the prefix of their names.
+    Files,
+    /// `--block`, the number of a block.
+    Block,
+    /// `--write`, the number of a write of a block.
+    Write,
+    /// `--proof`, the file of a proof.
+    Proof,
+    /// `--head`, the head of the writes of a block.
+    Head,
     /// `--nodes`, how many nodes run the blocks.
     Nodes,
     /// `--executors`, how many executors each node has.
@@ -34,6 +44,8 @@ pub enum CommandOption {
     Orders,
     /// `--digests`: the report shows the digests.
     Digests,
+    /// `--heads`: the heads of writes stand in place of digests.
+    Heads,
     /// `--json`: the report is written as JSON.
     Json,
     /// `--trace`: the journals follow the report.
@@ -41,7 +53,7 @@ pub enum CommandOption {
 }
 
 /// All options.
-pub const OPTIONS: [CommandOption; 15] = [
+pub const OPTIONS: [CommandOption; 21] = [
     CommandOption::App,
     CommandOption::Blocks,
     CommandOption::Schedule,
@@ -51,10 +63,16 @@ pub const OPTIONS: [CommandOption; 15] = [
     CommandOption::Clients,
     CommandOption::Count,
     CommandOption::Most,
+    CommandOption::Files,
+    CommandOption::Block,
+    CommandOption::Write,
+    CommandOption::Proof,
+    CommandOption::Head,
     CommandOption::Nodes,
     CommandOption::Executors,
     CommandOption::Orders,
     CommandOption::Digests,
+    CommandOption::Heads,
     CommandOption::Json,
     CommandOption::Trace,
 ];
@@ -73,6 +91,8 @@ pub enum Takes {
         /// The most that is taken.
         most: u64,
     },
+    /// A hash as 64 lower-case hexadecimal digits.
+    Hash,
 }
 
 /// How often a command takes an option.
@@ -109,10 +129,16 @@ impl CommandOption {
             CommandOption::Clients => ("--clients", Takes::Text),
             CommandOption::Count => ("--count", numbers(1, 8)),
             CommandOption::Most => ("--most", numbers(1, 1024)),
+            CommandOption::Files => ("--files", Takes::Text),
+            CommandOption::Block => ("--block", numbers(0, u64::MAX)),
+            CommandOption::Write => ("--write", numbers(0, u64::MAX)),
+            CommandOption::Proof => ("--proof", Takes::Text),
+            CommandOption::Head => ("--head", Takes::Hash),
             CommandOption::Nodes => ("--nodes", numbers(1, 8)),
             CommandOption::Executors => ("--executors", numbers(0, 16)),
             CommandOption::Orders => ("--orders", Takes::Nothing),
             CommandOption::Digests => ("--digests", Takes::Nothing),
+            CommandOption::Heads => ("--heads", Takes::Nothing),
             CommandOption::Json => ("--json", Takes::Nothing),
             CommandOption::Trace => ("--trace", Takes::Nothing),
         }
@@ -146,9 +172,10 @@ fn use_in_run(option: CommandOption) -> Use
 {
     match option {
         CommandOption::App | CommandOption::Blocks => Use::Must,
-        CommandOption::Schedule | CommandOption::Query | CommandOption::Number => Use::No,
-        CommandOption::Clients | CommandOption::Count | CommandOption::Most => Use::No,
-        _ => Use::May,
+        CommandOption::Arrivals | CommandOption::Nodes | CommandOption::Executors => Use::May,
+        CommandOption::Orders | CommandOption::Digests => Use::May,
+        CommandOption::Json | CommandOption::Trace => Use::May,
+        _ => Use::No,
     }
 }
 
@@ -158,10 +185,9 @@ fn use_in_simulate(option: CommandOption) -> Use
 {
     match option {
         CommandOption::App | CommandOption::Blocks | CommandOption::Schedule => Use::Must,
-        CommandOption::Query | CommandOption::Number => Use::No,
-        CommandOption::Clients | CommandOption::Count | CommandOption::Most => Use::No,
-        CommandOption::Nodes | CommandOption::Executors => Use::No,
-        _ => Use::May,
+        CommandOption::Arrivals | CommandOption::Orders | CommandOption::Digests => Use::May,
+        CommandOption::Json | CommandOption::Trace => Use::May,
+        _ => Use::No,
     }
 }
 
@@ -205,6 +231,48 @@ fn use_in_order(option: CommandOption) -> Use
     }
 }
 
+// How often `checkpoint` takes an option.
+fn use_in_checkpoint(option: CommandOption) -> Use
+    ensures { result ≡ use_of Command.Checkpoint option }
+{
+    match option {
+        CommandOption::App | CommandOption::Blocks => Use::Must,
+        CommandOption::Heads => Use::May,
+        _ => Use::No,
+    }
+}
+
+// How often `compare` takes an option.
+fn use_in_compare(option: CommandOption) -> Use
+    ensures { result ≡ use_of Command.Compare option }
+{
+    match option {
+        CommandOption::Files | CommandOption::Count => Use::Must,
+        _ => Use::No,
+    }
+}
+
+// How often `prove` takes an option.
+fn use_in_prove(option: CommandOption) -> Use
+    ensures { result ≡ use_of Command.Prove option }
+{
+    match option {
+        CommandOption::App | CommandOption::Blocks => Use::Must,
+        CommandOption::Block | CommandOption::Write => Use::Must,
+        _ => Use::No,
+    }
+}
+
+// How often `verify` takes an option.
+fn use_in_verify(option: CommandOption) -> Use
+    ensures { result ≡ use_of Command.Verify option }
+{
+    match option {
+        CommandOption::Proof | CommandOption::Head => Use::Must,
+        _ => Use::No,
+    }
+}
+
 /// How often a command takes an option.
 pub fn use_of(command: Command, option: CommandOption) -> Use
     ensures { result ≡ use_of command option }
@@ -216,6 +284,10 @@ pub fn use_of(command: Command, option: CommandOption) -> Use
         Command::Seal => use_in_seal(option),
         Command::Load => use_in_load(option),
         Command::Order => use_in_order(option),
+        Command::Checkpoint => use_in_checkpoint(option),
+        Command::Compare => use_in_compare(option),
+        Command::Prove => use_in_prove(option),
+        Command::Verify => use_in_verify(option),
     }
 }
 

@@ -1,7 +1,7 @@
 //! From words to settings.
 
 ghost use Rattle.std.specs.Prelude.{◌≡◌, ◌↔◌, IfOk, IsErrOf, Option, Some, None, length};
-ghost use Rattle.cli_words.specs.Language.{AreWithin, are_taken, first, flags_of, given, is_allowed, is_given, is_line, made, number_or, settings_of, settled, text_or_none, texts};
+ghost use Rattle.cli_words.specs.Language.{AreWithin, are_taken, first, flags_of, given, is_allowed, is_given, is_line, made, hash_or_zeros, number_or, settings_of, settled, text_or_none, texts};
 
 use crate::command::{Command, command_of};
 use crate::flags::Flags;
@@ -10,6 +10,7 @@ use crate::options::{CommandOption, OPTIONS, Use, use_of};
 use crate::settings::{Settings, WordsFault};
 use crate::value::whole_number;
 use crate::word::Word;
+use hex_digits::read_hash;
 use rel_base::NoMemory;
 use std::alloc::Global;
 
@@ -76,7 +77,7 @@ fn executors_of(words: &[&str]) -> u32
     number_or(2, words, CommandOption::Executors) as u32
 }
 
-// How many clients the words name.
+// How many clients or peers the words name.
 #[tactic(auto, using(crate::proofs::Ranges::few_clients))]
 fn count_of(words: &[&str]) -> u32
     ensures { result ≡ number_or 1 (given (texts words.now) CommandOption.Count) }
@@ -90,6 +91,16 @@ fn most_of(words: &[&str]) -> u32
     ensures { result ≡ number_or 1 (given (texts words.now) CommandOption.Most) }
 {
     number_or(1, words, CommandOption::Most) as u32
+}
+
+// The hash that the words give an option, or else zeros.
+fn hash_of(words: &[&str], option: CommandOption) -> [u8; 32]
+    ensures { result ≡ hash_or_zeros (given (texts words.now) option) }
+{
+    match find(words, option) {
+        None => [0; 32],
+        Some(digits) => read_hash(digits.as_bytes()).unwrap_or([0; 32]),
+    }
 }
 
 // The value of an option, if the words give it.
@@ -178,6 +189,45 @@ fn to_order(alloc: Global, words: &[&str]) -> Result<Settings, NoMemory>
     })
 }
 
+fn to_checkpoint(alloc: Global, words: &[&str]) -> Result<Settings, NoMemory>
+    ensures { IfOk result (λ settings. settings ≡ made Command.Checkpoint (given (texts words.now))) }
+{
+    Ok(Settings::Checkpoint {
+        app: text_of(alloc, words, CommandOption::App)?,
+        blocks: text_of(alloc, words, CommandOption::Blocks)?,
+        heads: is_given(words, CommandOption::Heads),
+    })
+}
+
+fn to_compare(alloc: Global, words: &[&str]) -> Result<Settings, NoMemory>
+    ensures { IfOk result (λ settings. settings ≡ made Command.Compare (given (texts words.now))) }
+{
+    Ok(Settings::Compare {
+        files: text_of(alloc, words, CommandOption::Files)?,
+        count: count_of(words),
+    })
+}
+
+fn to_prove(alloc: Global, words: &[&str]) -> Result<Settings, NoMemory>
+    ensures { IfOk result (λ settings. settings ≡ made Command.Prove (given (texts words.now))) }
+{
+    Ok(Settings::Prove {
+        app: text_of(alloc, words, CommandOption::App)?,
+        blocks: text_of(alloc, words, CommandOption::Blocks)?,
+        block: number_or(0, words, CommandOption::Block),
+        write: number_or(0, words, CommandOption::Write),
+    })
+}
+
+fn to_verify(alloc: Global, words: &[&str]) -> Result<Settings, NoMemory>
+    ensures { IfOk result (λ settings. settings ≡ made Command.Verify (given (texts words.now))) }
+{
+    Ok(Settings::Verify {
+        proof: text_of(alloc, words, CommandOption::Proof)?,
+        head: hash_of(words, CommandOption::Head),
+    })
+}
+
 // The settings of a command by what the words give its options.
 fn to_settings(alloc: Global, command: Command, words: &[&str]) -> Result<Settings, NoMemory>
     ensures { IfOk result (λ settings. settings ≡ made command (given (texts words.now))) }
@@ -191,6 +241,10 @@ fn to_settings(alloc: Global, command: Command, words: &[&str]) -> Result<Settin
             number: number_or(0, words, CommandOption::Number),
         }),
         Command::Order => to_order(alloc, words),
+        Command::Checkpoint => to_checkpoint(alloc, words),
+        Command::Compare => to_compare(alloc, words),
+        Command::Prove => to_prove(alloc, words),
+        Command::Verify => to_verify(alloc, words),
     }
 }
 
@@ -207,8 +261,8 @@ fn settle(alloc: Global, command: Command, words: &[&str]) -> Result<Settings, W
 }
 
 /// Reads the words after the program's name. The fault `Usage` comes exactly where the words are not in the language of
-/// the command line; so a run that is asked for has 1 to 8 nodes, and at most 16 executors a node, and an order has 1 to 8 clients
-/// and 1 to 1,024 transactions a block.
+/// the command line; so a run that is asked for has 1 to 8 nodes, and at most 16 executors a node, an order has 1 to 8 clients and 1 to
+/// 1,024 transactions a block, and a comparison has 1 to 8 peers.
 pub fn read_words(alloc: Global, words: &[&str]) -> Result<Settings, WordsFault>
     ensures ok { IfOk result (λ settings. settings_of (texts words.now) ≡ Some settings) }
     ensures within { IfOk result AreWithin }

@@ -63,6 +63,40 @@ pub enum Settings {
         /// How many transactions a block has at most, 1 to 1,024.
         most: u32,
     },
+    /// Writes the digest of each block of a file, or the head of its writes.
+    Checkpoint {
+        /// The name of the application's file.
+        app: Word,
+        /// The name of the file of blocks.
+        blocks: Word,
+        /// Whether heads are written.
+        heads: bool,
+    },
+    /// Compares the digests of peers.
+    Compare {
+        /// The prefix of the names of the peers' digest files.
+        files: Word,
+        /// How many peers there are, 1 to 8.
+        count: u32,
+    },
+    /// Proves a write of a block of a file.
+    Prove {
+        /// The name of the application's file.
+        app: Word,
+        /// The name of the file of blocks.
+        blocks: Word,
+        /// The number of the block, from 1.
+        block: u64,
+        /// The number of the write among those of the block, from 1.
+        write: u64,
+    },
+    /// Verifies a proof by the head of the writes of a block.
+    Verify {
+        /// The name of the proof's file.
+        proof: Word,
+        /// The head.
+        head: [u8; 32],
+    },
 }
 
 /// Why there are no settings.

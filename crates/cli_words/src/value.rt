@@ -4,6 +4,7 @@ ghost use Rattle.std.specs.Prelude.{◌≡◌, Option};
 ghost use Rattle.cli_words.specs.Language.{fits, is_value, is_within, whole_number};
 
 use crate::options::Takes;
+use hex_digits::read_hash;
 use literals::read_number;
 
 /// Whether a word may be a value: it is not empty and does not begin with `-`.
@@ -44,5 +45,6 @@ pub fn fits(takes: Takes, word: &str) -> bool
         Takes::Nothing => false,
         Takes::Text => is_value(word),
         Takes::Number { least, most } => is_within(least, most, word),
+        Takes::Hash => read_hash(word.as_bytes()).is_some(),
     }
 }

@@ -69,7 +69,7 @@ fn collision(
 }
 
 /// What it means that a proof is verified against the head of some writes: the write is a member, or else two inputs with one SHA-256 are in hand.
-/// Nothing is assumed of SHA-256. The only refusal is out of memory.
+/// Nothing is assumed of SHA-256. It fails only where memory runs out.
 pub fn explain(
     alloc: Global,
     writes: &List<Placed>,

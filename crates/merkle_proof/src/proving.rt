@@ -45,7 +45,7 @@ fn push_path(
     steps.push(beside)
 }
 
-/// The proof of the write at an index, from 1, of the writes of a block. It is verified against their head. The only refusal is out of memory.
+/// The proof of the write at an index, from 1, of the writes of a block. It is verified against their head. It fails only where memory runs out.
 pub fn prove(alloc: Global, writes: &List<Placed>, index: u32) -> Result<Proof, NoMemory>
     requires from_one { 1 ≤ index }
     requires within { index ≤ length writes.now }

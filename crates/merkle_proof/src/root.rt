@@ -73,8 +73,8 @@ pub fn tree_of(alloc: Global, writes: &[Placed]) -> Result<[u8; 32], NoMemory>
     root(alloc, writes, most_levels())
 }
 
-/// The head of writes: 32 bytes that bind their number, their order and what each of them is, as far as SHA-256 binds what it hashes. The only
-/// refusal is out of memory, which is taken for the code of one write at a time.
+/// The head of writes: 32 bytes that bind their number, their order and what each of them is, as far as SHA-256 binds what it hashes. It fails
+/// only where memory runs out, which is taken for the code of one write at a time.
 pub fn head_of(alloc: Global, writes: &List<Placed>) -> Result<[u8; 32], NoMemory>
     requires few { length writes.now < 2 ^ 32 }
     requires rows { All IsFewWrite writes.now }

@@ -49,7 +49,7 @@ fn leads(head: &[u8; 32], code: &[u8], proof: &Proof) -> bool
 }
 
 /// Whether a proof shows, by the head of some writes, that a write stands at its index among them: its path has the length that its count and
-/// its index give, and leads from the write to the head. The only refusal is out of memory, which is taken for the code of the write.
+/// its index give, and leads from the write to the head. It fails only where memory runs out, which is taken for the code of the write.
 pub fn verify(
     alloc: Global,
     head: &[u8; 32],

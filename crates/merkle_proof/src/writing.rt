@@ -80,7 +80,7 @@ fn file_of(alloc: Global, write: &Placed, proof: &Proof) -> Result<List<u8>, NoM
 }
 
 /// The proof file of a write and a proof of at most 32 steps. Where the write has a code and the proof an index from 1 to its count, it is read back.
-/// The only refusal is out of memory.
+/// It fails only where memory runs out.
 pub fn write_proof(alloc: Global, write: &Placed, proof: &Proof) -> Result<List<u8>, NoMemory>
     requires row { IsFewWrite write.now }
     requires short { length proof.now.path ≤ 32 }

@@ -2,13 +2,16 @@ use Rattle.std.proofs.Common.{IfOk, IfSome, List, Some, refl, subst, sym, ℕ}
 use Rattle.bcdb.proofs.Replying.{replies_told}
 use Rattle.bcdb.proofs.commands.reply_to.Goals as goal
 use Rattle.bcdb.specs.Accepted.{accepted}
+use Rattle.bcdb.specs.ExtractAnswer.{over_extract}
 use Rattle.bcdb.specs.Reply.{Means}
 use Rattle.bcdb.specs.SimulationAnswer.{over_simulation}
 use Rattle.bcdb.specs.Sources.{run_sources, simulation_sources}
 use Rattle.bcdb.specs.Traced.{Replies, RepliesRun}
 use Rattle.bcdb.specs.VersionsAnswer.{over_query}
+use Rattle.bcdb.specs.declared.extract.Extract.TheVariants.{Hashes, Proof}
+use Rattle.bcdb.specs.declared.extract.Extract.{Extract}
 use Rattle.bcdb.specs.declared.sources.Sources.{Sources}
-use Rattle.cli_words.specs.declared.settings.Settings.TheVariants.{Provenance, Simulate}
+use Rattle.cli_words.specs.declared.settings.Settings.TheVariants.{Checkpoint, Provenance, Prove, Simulate}
 use Rattle.cli_words.specs.declared.settings.Settings.{Settings}
 use Rattle.report_text.specs.declared.look.Look.{Look}
 
@@ -45,3 +48,23 @@ pub returns-in-Order-clause-told : goal.returns-in-Order-clause-told
 returns-in-Order-clause-told g c =
     let told = g.S.Shelf.told c.args.shelf.now in
     subst (λ (settings : Settings). IfOk c.answer_order-reply.result (λ reply. IfSome told (λ files. Replies (Some settings) files reply))) (sym c.in-Order.is) c.answer_order-reply.ensures.told
+
+pub returns-in-Checkpoint-clause-told : goal.returns-in-Checkpoint-clause-told
+returns-in-Checkpoint-clause-told g c =
+    let told = g.S.Shelf.told c.args.shelf.now in
+    let result = c.answer_extract-reply.result in
+    let wanted : Extract = Hashes c.in-Checkpoint.heads in
+    subst (λ (settings : Settings). IfOk result (λ reply. IfSome told (λ files. Replies (Some settings) files reply))) (sym c.in-Checkpoint.is)
+    (replies_told (Checkpoint c.in-Checkpoint.app c.in-Checkpoint.blocks c.in-Checkpoint.heads) told result (λ files. refl)
+    (subst (λ (asked : Sources). IfOk result (λ reply. IfSome told (λ files. Means (over_extract wanted (accepted (files asked.app)) (files asked.blocks)) reply)))
+    c.of_query-asked-in-Checkpoint.ensures c.answer_extract-reply.ensures.told))
+
+pub returns-in-Prove-clause-told : goal.returns-in-Prove-clause-told
+returns-in-Prove-clause-told g c =
+    let told = g.S.Shelf.told c.args.shelf.now in
+    let result = c.answer_extract-reply-in-Prove.result in
+    let wanted : Extract = Proof c.in-Prove.block c.in-Prove.write in
+    subst (λ (settings : Settings). IfOk result (λ reply. IfSome told (λ files. Replies (Some settings) files reply))) (sym c.in-Prove.is)
+    (replies_told (Prove c.in-Prove.app c.in-Prove.blocks c.in-Prove.block c.in-Prove.write) told result (λ files. refl)
+    (subst (λ (asked : Sources). IfOk result (λ reply. IfSome told (λ files. Means (over_extract wanted (accepted (files asked.app)) (files asked.blocks)) reply)))
+    c.of_query-asked-in-Prove.ensures c.answer_extract-reply-in-Prove.ensures.told))
