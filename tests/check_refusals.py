@@ -1,11 +1,11 @@
 #!/usr/bin/env python3
-"""Refuses each growth of memory, each read and each write of the built program once, and checks how the run ends.
+"""Refuses each growth of memory, each read, each write and each start of a thread of the built program once, and checks how the run ends.
 
 A library that is loaded before the C library refuses the call of one number, for each number until a run meets none. Where a growth was refused, the run
 ends with its own status or with 8, or, where a file was to be opened or the output to be written with it, as where that failed; where a read was refused,
-with its own status or 3; where a write was, with its own or 7. At 3 it writes so, at 7 and 8 a front of what the run writes, and at its own status all of
-it. Nothing crashes, hangs or is written twice. Reads and writes that move one byte change nothing, and where one of these writes is refused, exactly the
-bytes before it were written.
+with its own status or 3; where a write was, with its own or 7; where a start was, with its own. At 3 it writes so, at 7 and 8 a front of what the run
+writes, and at its own status all of it. Nothing crashes, hangs or is written twice. Reads and writes that move one byte change nothing, and where one of
+these writes is refused, exactly the bytes before it were written. Where no start is refused, a run starts a thread for each of its actors.
 Of runs with many growths some are chosen, evenly, unless all are asked for. Usage: check_refusals.py PROGRAM [--all]
 """
 import concurrent.futures
@@ -24,7 +24,10 @@ from accounts import APP
 SECONDS = 30
 MOST_CHOSEN = 120
 # how a run may end in which a call of a kind was refused
-ENDS = {"growth": (8, 3, 7), "read": (3,), "write": (7,)}
+ENDS = {"growth": (8, 3, 7), "read": (3,), "write": (7,), "start": ()}
+# How many threads a run starts at least, beside the first one: of a run two executors, and where something arrives one more; of an order its two clients; of
+# a load three nodes, of which one runs on the first thread, and at each of them four executors and one that makes the arrivals.
+STARTS = {"one-insert": 2, "side-by-side": 2 + 1, "order-one-of-two": 2, "load": 2 + 3 * (4 + 1)}
 PAYMENTS = ["tx p1 1 pay 1 2 5", "tx p2 1 pay 3 4 5"]
 
 
@@ -140,10 +143,17 @@ def numbers_of(count, takes_all):
     return sorted({*range(1, count + 3, step), *range(1, min(count, 10) + 1), *range(max(1, count - 10), count + 3)})
 
 
+def check_starts(refuser, run, tally):
+    _, _, count = refuser.run(run, "start", 0)
+    least = STARTS.get(run.name, 0)
+    tally.note(run, "no start refused", f"{count} threads and not {least}" if count < least else None)
+
+
 def check_run(refuser, run, takes_all, tally, pool):
     for kind in ENDS:
         run.status, run.stdout, count = refuser.run(run, kind, 0)
         tally.note_all(run, kind, pool.map(lambda number: try_one(refuser, run, kind, number), numbers_of(count, takes_all)))
+    check_starts(refuser, run, tally)
     tally.note_all(run, "write", pool.map(lambda number: try_front(refuser, run, number), numbers_of(len(run.stdout), takes_all)))
     status, stdout, _ = refuser.run(run, "none", 0, most=1)
     tally.note(run, "one byte at a time", None if (status, stdout) == (run.status, run.stdout) else f"status {status}")
