@@ -1,9 +1,9 @@
 -- What each call of a held job leaves in hand, whether or not memory was wanting.
-use Rattle.std.proofs.Common.{Err, IfErr, IfOk, IfSome, Ok, OnErr, OnOk, Option, Result, subst, sym, ◌∙◌, ◌≡◌}
-use Rattle.cluster_run.proofs.Hands.{claim_has, finish_has, read_has}
+use Rattle.std.proofs.Common.{Err, IfErr, IfOk, IfSome, None, Ok, OnErr, OnOk, Option, Result, Some, ap, subst, sym, ◌∙◌, ◌≡◌}
+use Rattle.cluster_run.proofs.Hands.{claim_has, finish_has, finish_over, none_taken, read_has}
 use Rattle.cluster_run.proofs.Quiet.{step_blocks}
 use Rattle.cluster_run.proofs.Turning.{look_blocks, look_none, look_work}
-use Rattle.cluster_run.specs.Standing.{Has, HasNone, HasWork, SameBlocks, left_of}
+use Rattle.cluster_run.specs.Standing.{Has, HasNone, HasWork, IsOver, SameBlocks, Takes, left_of}
 use Rattle.node_core.specs.Answers.{claimed_as, finished_as, got_as}
 use Rattle.node_core.specs.Core.{Core, IsHeld}
 use Rattle.node_core.specs.Hands.{IsAnswered, IsClaimed}
@@ -27,6 +27,7 @@ module _ {ghosts : Ghosts Core App Entry} where
     actor = has.actor;
     held = record { app = has.held.app; holds = has.held.holds; time = has.held.time };
     only = has.only;
+    settled = has.settled;
   })
 
   -- two stretches with the same blocks
@@ -43,6 +44,11 @@ module _ {ghosts : Ghosts Core App Entry} where
     claim_leaves pick (Ok got) has turn held fresh err = claim_has old new same pick has got turn held fresh
     claim_leaves pick (Err refused) has turn held fresh err = look_none old new same has.true_to err has
 
+    pub claim_takes : (pick : Pick) (r : Result (Option InHand) M) → HasNone old → IfOk r (λ got. IsTurn old new (ToClaim pick) (claimed_as got)) → IfOk r (Takes new pick)
+    claim_takes pick (Ok None) has turn = none_taken old new same pick has turn
+    claim_takes pick (Ok (Some work)) has turn = tt
+    claim_takes pick (Err refused) has turn = tt
+
     pub claim_blocks : (pick : Pick) (r : Result (Option InHand) M) → HasNone old → IfOk r (λ got. IsTurn old new (ToClaim pick) (claimed_as got)) → OnErr r (IsLook old new) → pass_number old ≡ 0 → SameBlocks old new
     claim_blocks pick (Ok got) has turn err = step_blocks old new same (ToClaim pick) (claimed_as got) has.true_to turn tt
     claim_blocks pick (Err refused) has turn err = look_blocks old new same has.true_to err
@@ -54,14 +60,22 @@ module _ {ghosts : Ghosts Core App Entry} where
       read_leaves (Ok got) work' turn held answered err = read_has old new same work has got turn work' held answered
       read_leaves (Err refused) work' turn held answered err = subst (HasWork new) (sym err.1) (look_work old new same has.true_to err.0 work has)
 
+      pub read_job : (r : Result Got M) (work' : InHand) → IfOk r (λ got. IsAnswered got work work') → OnErr r (IsLook old new × (work' ≡ work)) → work'.job ≡ work.job
+      read_job (Ok got) work' answered err = answered.job
+      read_job (Err refused) work' answered err = ap (λ (one : InHand). one.job) err.1
+
       pub read_blocks : (r : Result Got M) (work' : InHand) → IfOk r (λ got. IsTurn old new (ToRead work.job) (got_as got)) → OnErr r (IsLook old new × (work' ≡ work)) → pass_number old ≡ 0 → SameBlocks old new
       read_blocks (Ok got) work' turn err = step_blocks old new same (ToRead work.job) (got_as got) has.true_to turn tt
       read_blocks (Err refused) work' turn err = look_blocks old new same has.true_to err.0
 
       -- an end
-      pub finish_over : (r : Result Finished (InHand × M)) → IfOk r (λ got. IsTurn old new (ToFinish work.job) (finished_as got)) → OnOk r (HasNone new)
-      finish_over (Ok got) turn = finish_has old new same work has (finished_as got) turn
-      finish_over (Err refused) turn = tt
+      pub finish_free : (r : Result Finished (InHand × M)) → IfOk r (λ got. IsTurn old new (ToFinish work.job) (finished_as got)) → OnOk r (HasNone new)
+      finish_free (Ok got) turn = finish_has old new same work has (finished_as got) turn
+      finish_free (Err refused) turn = tt
+
+      pub finish_ends : (r : Result Finished (InHand × M)) → IfOk r (λ got. IsTurn old new (ToFinish work.job) (finished_as got)) → OnOk r (IsOver new work.job)
+      finish_ends (Ok got) turn = finish_over old new same work has (finished_as got) turn
+      finish_ends (Err refused) turn = tt
 
       pub finish_back : (r : Result Finished (InHand × M)) → OnErr r (IsLook old new) → IfErr r (λ refused. refused.0 ≡ work) → IfErr r (λ refused. HasWork new refused.0)
       finish_back (Ok got) err back = tt

@@ -1,9 +1,13 @@
 -- What a turn leaves to its pass, and what it changes for it.
-use Rattle.std.proofs.Common.{List, Option, ap, subst, sym, ◌++◌, ◌∙◌, ◌≡◌, ℕ}
+use Rattle.std.proofs.Common.{Bool, List, Option, Some, [], ap, cond, false, find, refl, subst, sym, true, ◌++◌, ◌∙◌, ◌≡◌, ◌∷◌, ℕ}
+use Rattle.std.proofs.lemmas.Bool.{false≢true}
+use Rattle.std.specs.Option.{is_some, option_map}
 use Rattle.cluster_run.specs.Standing.{HasNone, HasWork, HoldsOnly, IsTrue, SameBlocks, delivered_by, state_seen}
 use Rattle.node_core.proofs.Journal.{world_grown}
 use Rattle.node_core.specs.Core.{Core, IsHeld, entries_for}
 use Rattle.node_core.specs.InHand.{InHand}
+use Rattle.node_model.specs.Events.{has_told, is_settled}
+use Rattle.node_model.specs.History.{SealedBlock}
 use Rattle.node_model.specs.Journals.{IsLegal, delivered, world}
 use Rattle.node_model.specs.Steps.{Answer, Ask, noted, reply}
 use Rattle.node_model.specs.World.{HoldsNone, World}
@@ -19,6 +23,16 @@ use Rattle.schedule_laws.specs.Stable.{IsLater, entries_by}
 use Rattle.schedule_laws.proofs.Folding.{delivered-append}
 use Rattle.turn_lock.specs.Passes.{IsSamePass, mine, pass_base, pass_number, seen}
 use Rattle.turn_lock.specs.declared.pass.Pass.{Pass}
+
+-- an id that is settled is settled still once more is sealed
+settled_more : (id : List ℕ) (sealed more : List SealedBlock) → is_settled id sealed ≡ true → is_settled id (sealed ++ more) ≡ true
+settled_more id [] more is = absurd (false≢true is)
+settled_more id (x ∷ xs) more is = by (has_told id x) (settled_more id xs more) is
+  where
+    by : (b : Bool) → (is_settled id xs ≡ true → is_settled id (xs ++ more) ≡ true) → is_some (option_map (λ (block : SealedBlock). block.number) (cond b (Some x) (find (has_told id) xs))) ≡ true
+        → is_some (option_map (λ (block : SealedBlock). block.number) (cond b (Some x) (find (has_told id) (xs ++ more)))) ≡ true
+    by true rest is = refl
+    by false rest is = rest is
 
 module _ {ghosts : Ghosts Core App Entry} (old new : Pass Core App Entry ghosts) (same : IsSamePass old new) where
   -- ---- a pass that others may have gone ahead of
@@ -37,16 +51,21 @@ module _ {ghosts : Ghosts Core App Entry} (old new : Pass Core App Entry ghosts)
     pub finds_held : (work : InHand) → work.actor ≡ pass_number old → IsHeld (node_seen old) work → IsHeld (record { app = pass_base old; journal = journal }) work
     finds_held work actor held = found_held (pass_base old) (pass_number old) (seen old) (mine old) journal was.own found work actor held
 
+    pub finds_settled : (id : List ℕ) → is_settled id (state_seen old).sealed ≡ true → is_settled id (world (pass_base old) journal).sealed ≡ true
+    finds_settled id is = subst (λ (sealed : List SealedBlock). is_settled id sealed ≡ true) (sym found_later.sealed) (settled_more id (state_seen old).sealed found_later.more is)
+
   -- what is shown of the new pass, by what the old one tells of node and number
   none_new : IsTrue new → HoldsNone (state_seen new) (pass_number old) → HasNone new
   none_new is none = record { true_to = is; none = subst (HoldsNone (state_seen new)) (sym same.same_number) none }
 
-  work_new : (work : InHand) → IsTrue new → work.actor ≡ pass_number old → IsHeld (node_seen new) work → HoldsOnly (state_seen new) (pass_number old) work.job → HasWork new work
-  work_new work is actor held only = record {
+  work_new : (work : InHand) → IsTrue new → work.actor ≡ pass_number old → IsHeld (node_seen new) work → HoldsOnly (state_seen new) (pass_number old) work.job
+      → (work.gone ≡ true → is_settled work.told.tx.id (state_seen new).sealed ≡ true) → HasWork new work
+  work_new work is actor held only settled = record {
     true_to = is;
     actor = actor ∙ sym same.same_number;
     held = held;
     only = subst (λ n. HoldsOnly (state_seen new) n work.job) (sym same.same_number) only;
+    settled = settled;
   }
 
   -- ---- a look
@@ -71,6 +90,7 @@ module _ {ghosts : Ghosts Core App Entry} (old new : Pass Core App Entry ghosts)
     look_work work has =
         work_new work look_true has.actor (subst (λ (a : App). IsHeld (record { app = a; journal = seen new }) work) (sym app_new) (finds_held was (seen new) look.found work has.actor has.held))
         (subst (λ (w : World). HoldsOnly w (pass_number old) work.job) (sym look_state) (finds_only was (seen new) look.found work.job has.only))
+        (λ gone. subst (λ (w : World). is_settled work.told.tx.id w.sealed ≡ true) (sym look_state) (finds_settled was (seen new) look.found work.told.tx.id (has.settled gone)))
 
     pub look_blocks : pass_number old ≡ 0 → SameBlocks old new
     look_blocks zero = record {
@@ -118,5 +138,6 @@ module _ {ghosts : Ghosts Core App Entry} (old new : Pass Core App Entry ghosts)
     pub step_none : HoldsNone (state_seen new) (pass_number old) → HasNone new
     step_none none = none_new step_true none
 
-    pub step_job : (work : InHand) → work.actor ≡ pass_number old → IsHeld (node_seen new) work → HoldsOnly (state_seen new) (pass_number old) work.job → HasWork new work
-    step_job work actor held only = work_new work step_true actor held only
+    pub step_job : (work : InHand) → work.actor ≡ pass_number old → IsHeld (node_seen new) work → HoldsOnly (state_seen new) (pass_number old) work.job
+        → (work.gone ≡ true → is_settled work.told.tx.id (state_seen new).sealed ≡ true) → HasWork new work
+    step_job work actor held only settled = work_new work step_true actor held only settled

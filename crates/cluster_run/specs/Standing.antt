@@ -3,9 +3,12 @@ use Rattle.node_core.specs.Core.{Core, IsHeld, world_of}
 use Rattle.node_core.specs.InHand.{InHand}
 use Rattle.node_core.specs.declared.answers.Decided.TheVariants as decided
 use Rattle.node_core.specs.declared.answers.Decided.{Decided}
+use Rattle.node_model.specs.Events.{is_settled}
 use Rattle.node_model.specs.Journals.{IsLegal, delivered}
-use Rattle.node_model.specs.World.{Holds, HoldsNone, Job, World, due}
+use Rattle.node_model.specs.Steps.{chosen}
+use Rattle.node_model.specs.World.{Done, Dropped, Holds, HoldsNone, Job, World, due, job_at}
 use Rattle.node_model.specs.declared.journal.Entry.{Entry}
+use Rattle.node_model.specs.declared.journal.Pick.{Pick}
 use Rattle.node_shared.specs.Turn.{node_seen}
 use Rattle.proc_syntax.specs.declared.call.Block.{Block}
 use Rattle.proc_syntax.specs.declared.tree.App.{App}
@@ -13,7 +16,7 @@ use Rattle.rel_base.specs.declared.storied.Storied.{Ghosts}
 use Rattle.schedule_laws.specs.Scheduled.{block_in}
 use Rattle.schedule_laws.specs.Stable.{entries_by}
 use Rattle.std.specs.Option.{option_and_then}
-use Rattle.std.specs.Prelude.{Err, List, None, Ok, Option, Result, Some, ◌≡◌, ℕ}
+use Rattle.std.specs.Prelude.{Bool, Err, List, None, Ok, Option, Result, Some, false, true, ◌≡◌, ◌⊎◌, ℕ}
 use Rattle.turn_lock.specs.Passes.{mine, pass_base, pass_number, seen}
 use Rattle.turn_lock.specs.declared.pass.Pass.{Pass}
 
@@ -38,16 +41,40 @@ module _ {ghosts : Ghosts Core App Entry} where
     pub true_to : IsTrue pass
     pub none : HoldsNone (state_seen pass) (pass_number pass)
 
-  -- its actor holds this job, and no other
+  -- its actor holds this job, and no other; where the last read of the job found its id settled, it is
   pub record HasWork (pass : Pass Core App Entry ghosts) (work : InHand) : Type 0 where
     pub true_to : IsTrue pass
     pub actor : work.actor ≡ pass_number pass
     pub held : IsHeld (node_seen pass) work
     pub only : HoldsOnly (state_seen pass) (pass_number pass) work.job
+    pub settled : work.gone ≡ true → is_settled work.told.tx.id (state_seen pass).sealed ≡ true
 
   abbrev pub Has : Pass Core App Entry ghosts → Option InHand → Type 0
   Has pass None = HasNone pass
   Has pass (Some work) = HasWork pass work
+
+  -- ---- what becomes of a job
+
+  -- the job of a number is done or dropped
+  pub record IsOver (pass : Pass Core App Entry ghosts) (number : ℕ) : Type 0 where
+    pub job : Job
+    pub stands : job_at (state_seen pass).jobs number ≡ Some job
+    pub over : (job.status ≡ Done) ⊎ (job.status ≡ Dropped)
+
+  -- what a step leaves of the job of a number: it goes on, or it is over
+  abbrev pub Leaves : Pass Core App Entry ghosts → ℕ → Option InHand → Type 0
+  Leaves pass number None = IsOver pass number
+  Leaves pass number (Some work) = work.job ≡ number
+
+  -- what a claim takes: a job, or there is none to take
+  abbrev pub Takes : Pass Core App Entry ghosts → Pick → Option InHand → Type 0
+  Takes pass pick None = chosen (pass_base pass) (state_seen pass) pick ≡ None
+  Takes pass pick (Some work) = Unit {0}
+
+  -- whether a job was taken and run: one is over, or there is none to take
+  abbrev pub Runs : Pass Core App Entry ghosts → Pick → Bool → Type 0
+  Runs pass pick true = (number : ℕ) × IsOver pass number
+  Runs pass pick false = Takes pass pick None
 
   -- ---- the blocks
 
@@ -75,7 +102,7 @@ module _ {ghosts : Ghosts Core App Entry} where
     pub delivered_same : delivered_by new ≡ delivered_by old
     pub in_work_same : in_work new ≡ in_work old
 
--- the job that is left after a step of it, if it goes on
+-- the job that is left after a step of it, if it goes on: none after one that memory was wanting for
 abbrev pub left_of : {E : Type 0} → Result (Option InHand) E → Option InHand
 left_of (Ok work) = work
 left_of (Err refused) = None

@@ -1,7 +1,7 @@
 //! A job is run from its claim to its end.
 
-ghost use Rattle.std.specs.Prelude.{◌≡◌, IfErr, OnOk};
-ghost use Rattle.cluster_run.specs.Standing.{Has, HasNone, HasWork, SameBlocks, left_of};
+ghost use Rattle.std.specs.Prelude.{◌≡◌, IfErr, IfOk, OnOk, true, ℕ};
+ghost use Rattle.cluster_run.specs.Standing.{Has, HasNone, HasWork, IsOver, Leaves, Runs, SameBlocks, Takes, left_of};
 ghost use Rattle.node_core.specs.InHand.{IsReady, WantsRead};
 ghost use Rattle.turn_lock.specs.Passes.{HoldsNoTurn, IsPassOf, IsSamePass, pass_number};
 
@@ -28,11 +28,12 @@ pub fn take_job<V: Versions, R: Wait>(
     ensures no_turn { HoldsNoTurn pass.new }
     ensures hand { Has pass.new (left_of result) }
     ensures blocks { pass_number pass.old ≡ 0 → SameBlocks pass.old pass.new }
+    ensures takes { IfOk result (Takes pass.new pick) }
 {
     node.claim(rt, pass, pick)
 }
 
-/// A held job is given up.
+/// A held job is given up. One whose id is settled is dropped.
 pub fn give_up<V: Versions, R: Wait>(
     rt: &R,
     node: &SharedNode<V>,
@@ -46,6 +47,7 @@ pub fn give_up<V: Versions, R: Wait>(
     ensures no_turn { HoldsNoTurn pass.new }
     ensures hand { HasNone pass.new }
     ensures blocks { pass_number pass.old ≡ 0 → SameBlocks pass.old pass.new }
+    ensures over { work.gone ≡ true → IsOver pass.new work.job }
 {
     node.release(rt, pass, work);
 }
@@ -65,6 +67,7 @@ fn make_read<V: Versions, R: Wait>(
     ensures no_turn { HoldsNoTurn pass.new }
     ensures hand { Has pass.new (left_of result) }
     ensures blocks { pass_number pass.old ≡ 0 → SameBlocks pass.old pass.new }
+    ensures leaves { IfOk result (Leaves pass.new work.job) }
 {
     if node.read(rt, pass, &mut work).is_err() {
         give_up(rt, node, pass, work);
@@ -73,7 +76,7 @@ fn make_read<V: Versions, R: Wait>(
     Ok(Some(work))
 }
 
-// A job whose end was noted is over; one that came back is given up.
+// A job whose end was noted is over; one that came back is given up, and memory ran out.
 fn settle<V: Versions, R: Wait>(
     rt: &R,
     node: &SharedNode<V>,
@@ -88,6 +91,7 @@ fn settle<V: Versions, R: Wait>(
     ensures no_turn { HoldsNoTurn pass.new }
     ensures hand { Has pass.new (left_of result) }
     ensures blocks { pass_number pass.old ≡ 0 → SameBlocks pass.old pass.new }
+    ensures leaves { (number : ℕ) → OnOk ended (IsOver pass.old number) → IfOk result (Leaves pass.new number) }
 {
     match ended {
         Ok(_) => Ok(None),
@@ -113,12 +117,13 @@ fn end_job<V: Versions, R: Wait>(
     ensures no_turn { HoldsNoTurn pass.new }
     ensures hand { Has pass.new (left_of result) }
     ensures blocks { pass_number pass.old ≡ 0 → SameBlocks pass.old pass.new }
+    ensures leaves { IfOk result (Leaves pass.new work.job) }
 {
     let ended = node.finish(rt, pass, work);
     settle(rt, node, pass, ended)
 }
 
-/// A held job runs to its next read and makes it, or to its end. What is left of it goes on.
+/// A held job runs to its next read and makes it, or to its end. What is left of it goes on; nothing is left of one that is done or dropped.
 pub fn step_job<V: Versions, G: Gate, R: Wait>(
     rt: &R,
     node: &SharedNode<V>,
@@ -133,6 +138,7 @@ pub fn step_job<V: Versions, G: Gate, R: Wait>(
     ensures no_turn { HoldsNoTurn pass.new }
     ensures hand { Has pass.new (left_of result) }
     ensures blocks { pass_number pass.old ≡ 0 → SameBlocks pass.old pass.new }
+    ensures leaves { IfOk result (Leaves pass.new work.job) }
 {
     match work.advance() {
         Ok(Next::Wants) => make_read(rt, node, pass, work),
@@ -167,6 +173,7 @@ pub fn run_job<V: Versions, G: Gate, R: Wait>(
     ensures no_turn { HoldsNoTurn pass.new }
     ensures hand { HasNone pass.new }
     ensures blocks { pass_number pass.old ≡ 0 → SameBlocks pass.old pass.new }
+    ensures over { OnOk result (IsOver pass.new work.job) }
 {
     crew.come_to(rt, pass.number(), &work, Point::Claimed);
     let mut made: u32 = 0;
@@ -196,6 +203,7 @@ pub fn run_one<V: Versions, G: Gate, R: Wait>(
     ensures no_turn { HoldsNoTurn pass.new }
     ensures hand { HasNone pass.new }
     ensures blocks { pass_number pass.old ≡ 0 → SameBlocks pass.old pass.new }
+    ensures runs { IfOk result (Runs pass.new pick) }
 {
     match take_job(rt, node, pass, pick) {
         Ok(None) => Ok(false),

@@ -1,8 +1,8 @@
-use Rattle.cluster_run.proofs.Calls.{finish_back, finish_blocks, finish_over, same_trans}
+use Rattle.cluster_run.proofs.Calls.{finish_back, finish_blocks, finish_ends, finish_free, same_trans}
 use Rattle.cluster_run.proofs.running_jobs.end_job.Goals as goal
 
 pub settle-requires-clause-over : goal.settle-requires-clause-over
-settle-requires-clause-over g c = finish_over c.args.pass.now c.finish-ended.new.pass c.finish-ended.ensures.same c.args.work c.requires.hand c.finish-ended.result c.finish-ended.ensures.turn
+settle-requires-clause-over g c = finish_free c.args.pass.now c.finish-ended.new.pass c.finish-ended.ensures.same c.args.work c.requires.hand c.finish-ended.result c.finish-ended.ensures.turn
 
 pub settle-requires-clause-back : goal.settle-requires-clause-back
 settle-requires-clause-back g c =
@@ -13,3 +13,8 @@ returns-clause-blocks g c =
     same_trans c.args.pass.now c.finish-ended.new.pass c.settle.new.pass c.finish-ended.ensures.same
     (finish_blocks c.args.pass.now c.finish-ended.new.pass c.finish-ended.ensures.same c.args.work c.requires.hand c.finish-ended.result c.finish-ended.ensures.turn c.finish-ended.ensures.err)
     c.settle.ensures.blocks
+
+pub returns-clause-leaves : goal.returns-clause-leaves
+returns-clause-leaves g c =
+    c.settle.ensures.leaves c.args.work.job
+    (finish_ends c.args.pass.now c.finish-ended.new.pass c.finish-ended.ensures.same c.args.work c.requires.hand c.finish-ended.result c.finish-ended.ensures.turn)

@@ -1,4 +1,4 @@
-use Rattle.cluster_run.proofs.Hands.{release_has}
+use Rattle.cluster_run.proofs.Hands.{release_has, release_over}
 use Rattle.cluster_run.proofs.Quiet.{step_blocks}
 use Rattle.node_model.specs.Steps.{Released, ToRelease}
 use Rattle.cluster_run.proofs.running_jobs.give_up.Goals as goal
@@ -9,3 +9,6 @@ returns-clause-hand g c = release_has c.args.pass.now c.release.new.pass c.relea
 pub returns-clause-blocks : goal.returns-clause-blocks
 returns-clause-blocks g c zero =
     step_blocks c.args.pass.now c.release.new.pass c.release.ensures.same (ToRelease c.args.work.job) Released c.requires.hand.true_to c.release.ensures.turn tt zero
+
+pub returns-clause-over : goal.returns-clause-over
+returns-clause-over g c = release_over c.args.pass.now c.release.new.pass c.release.ensures.same c.args.work c.requires.hand Released c.release.ensures.turn

@@ -1,4 +1,5 @@
-use Rattle.cluster_run.proofs.Calls.{read_blocks, read_leaves, same_trans}
+use Rattle.std.proofs.Common.{rules}
+use Rattle.cluster_run.proofs.Calls.{read_blocks, read_job, read_leaves, same_trans}
 use Rattle.cluster_run.proofs.running_jobs.make_read.Goals as goal
 
 pub give_up-requires-clause-hand : goal.give_up-requires-clause-hand
@@ -17,3 +18,9 @@ returns-clause-hand g c =
 pub returns-clause-blocks : goal.returns-clause-blocks
 returns-clause-blocks g c =
     read_blocks c.args.pass.now c.read.new.pass c.read.ensures.same c.args.work c.requires.hand c.read.result c.read.new.work c.read.ensures.turn c.read.ensures.err
+
+pub returns-clause-leaves : goal.returns-clause-leaves
+returns-clause-leaves g c = read_job c.args.pass.now c.read.new.pass c.read.ensures.same c.args.work c.requires.hand c.read.result c.read.new.work c.read.ensures.answered c.read.ensures.err
+
+pub returns-then-is_err-clause-leaves : goal.returns-then-is_err-clause-leaves
+returns-then-is_err-clause-leaves g c = search rules

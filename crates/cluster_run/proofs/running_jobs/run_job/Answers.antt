@@ -1,9 +1,9 @@
-use Rattle.std.proofs.Common.{rules}
+use Rattle.std.proofs.Common.{refl, rules}
 use Rattle.cluster_run.proofs.Following.{blocks_later, blocks_self, same_self, same_then}
 use Rattle.cluster_run.proofs.running_jobs.run_job.Goals as goal
 
 pub loop-init : goal.loop-init
-loop-init g c = (same_self c.args.pass.now, c.requires.no_turn, c.requires.hand, λ zero. blocks_self c.args.pass.now)
+loop-init g c = (same_self c.args.pass.now, c.requires.no_turn, c.requires.hand, (λ zero. blocks_self c.args.pass.now), refl)
 
 pub returns-in_err-step_job-clause-same : goal.returns-in_err-step_job-clause-same
 returns-in_err-step_job-clause-same g c = same_then c.loop.invariant.0 c.step_job.ensures.same
@@ -24,4 +24,10 @@ pub returns-in-None-2-clause-blocks : goal.returns-in-None-2-clause-blocks
 returns-in-None-2-clause-blocks g c = blocks_later c.loop.invariant.0 c.loop.invariant.3 c.step_job.ensures.blocks
 
 pub loop-preserved : goal.loop-preserved
-loop-preserved g c = (same_then c.loop.invariant.0 c.step_job.ensures.same, c.step_job.ensures.no_turn, search rules, blocks_later c.loop.invariant.0 c.loop.invariant.3 c.step_job.ensures.blocks)
+loop-preserved g c = (
+  same_then c.loop.invariant.0 c.step_job.ensures.same,
+  c.step_job.ensures.no_turn,
+  search rules,
+  blocks_later c.loop.invariant.0 c.loop.invariant.3 c.step_job.ensures.blocks,
+  search rules,
+)

@@ -1,4 +1,4 @@
-use Rattle.cluster_run.proofs.Calls.{claim_blocks, claim_leaves}
+use Rattle.cluster_run.proofs.Calls.{claim_blocks, claim_leaves, claim_takes}
 use Rattle.cluster_run.proofs.Hands.{may_claim}
 use Rattle.cluster_run.specs.Standing.{state_seen}
 use Rattle.turn_lock.specs.Passes.{pass_number}
@@ -13,3 +13,6 @@ returns-clause-hand g c =
 
 pub returns-clause-blocks : goal.returns-clause-blocks
 returns-clause-blocks g c = claim_blocks c.args.pass.now c.claim.new.pass c.claim.ensures.same c.args.pick c.claim.result c.requires.hand c.claim.ensures.turn c.claim.ensures.err
+
+pub returns-clause-takes : goal.returns-clause-takes
+returns-clause-takes g c = claim_takes c.args.pass.now c.claim.new.pass c.claim.ensures.same c.args.pick c.claim.result c.requires.hand c.claim.ensures.turn
