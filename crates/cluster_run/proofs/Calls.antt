@@ -3,7 +3,7 @@ use Rattle.std.proofs.Common.{Err, IfErr, IfOk, IfSome, None, Ok, OnErr, OnOk, O
 use Rattle.cluster_run.proofs.Hands.{claim_has, finish_has, finish_over, none_taken, read_has}
 use Rattle.cluster_run.proofs.Quiet.{step_blocks}
 use Rattle.cluster_run.proofs.Turning.{look_blocks, look_none, look_work}
-use Rattle.cluster_run.specs.Standing.{Has, HasNone, HasWork, IsOver, SameBlocks, Takes, left_of}
+use Rattle.cluster_run.specs.Standing.{Has, HasNone, HasWork, IsOver, SameBlocks, Stands, Takes, left_of}
 use Rattle.node_core.specs.Answers.{claimed_as, finished_as, got_as}
 use Rattle.node_core.specs.Core.{Core, IsHeld}
 use Rattle.node_core.specs.Hands.{IsAnswered, IsClaimed}
@@ -16,7 +16,8 @@ use Rattle.node_model.specs.declared.journal.Pick.{Pick}
 use Rattle.node_shared.specs.Turn.{IsLook, IsTurn, node_seen}
 use Rattle.proc_syntax.specs.declared.tree.App.{App}
 use Rattle.rel_base.specs.declared.storied.Storied.{Ghosts}
-use Rattle.turn_lock.specs.Passes.{IsSamePass, pass_number}
+use Rattle.turn_lock.specs.Passes.{HoldsNoTurn, IsPassOf, IsSamePass, pass_number}
+use Rattle.turn_lock.specs.declared.lock.TurnLock.{TurnLock}
 use Rattle.turn_lock.specs.declared.pass.Pass.{Pass}
 
 module _ {ghosts : Ghosts Core App Entry} where
@@ -29,6 +30,9 @@ module _ {ghosts : Ghosts Core App Entry} where
     only = has.only;
     settled = has.settled;
   })
+
+  pub ran_stands : (turns : TurnLock Core App Entry) (pass : Pass Core App Entry ghosts) (old new : InHand) → IsSameRun old new → Stands turns pass (Some old) → Stands turns pass (Some new)
+  ran_stands turns pass old new same was = record { lock = was.lock; no_turn = was.no_turn; hand = ran_on pass old new same was.hand }
 
   -- two stretches with the same blocks
   pub same_trans : (one two three : Pass Core App Entry ghosts) → IsSamePass one two → (pass_number one ≡ 0 → SameBlocks one two) → (pass_number two ≡ 0 → SameBlocks two three) → pass_number one ≡ 0 → SameBlocks one three
@@ -69,17 +73,22 @@ module _ {ghosts : Ghosts Core App Entry} where
       read_blocks (Err refused) work' turn err = look_blocks old new same has.true_to err.0
 
       -- an end
-      pub finish_free : (r : Result Finished (InHand × M)) → IfOk r (λ got. IsTurn old new (ToFinish work.job) (finished_as got)) → OnOk r (HasNone new)
-      finish_free (Ok got) turn = finish_has old new same work has (finished_as got) turn
-      finish_free (Err refused) turn = tt
+      pub finish_free : (turns : TurnLock Core App Entry) (r : Result Finished (InHand × M)) → IsPassOf turns old → HoldsNoTurn new → IfOk r (λ got. IsTurn old new (ToFinish work.job) (finished_as got)) → OnOk r (Stands turns new None)
+      finish_free turns (Ok got) lock no_turn turn = record { lock = same.same_lock ∙ lock; no_turn = no_turn; hand = finish_has old new same work has (finished_as got) turn }
+      finish_free turns (Err refused) lock no_turn turn = tt
 
       pub finish_ends : (r : Result Finished (InHand × M)) → IfOk r (λ got. IsTurn old new (ToFinish work.job) (finished_as got)) → OnOk r (IsOver new work.job)
       finish_ends (Ok got) turn = finish_over old new same work has (finished_as got) turn
       finish_ends (Err refused) turn = tt
 
-      pub finish_back : (r : Result Finished (InHand × M)) → OnErr r (IsLook old new) → IfErr r (λ refused. refused.0 ≡ work) → IfErr r (λ refused. HasWork new refused.0)
-      finish_back (Ok got) err back = tt
-      finish_back (Err refused) err back = subst (HasWork new) (sym back) (look_work old new same has.true_to err work has)
+      pub finish_back : (turns : TurnLock Core App Entry) (r : Result Finished (InHand × M)) → IsPassOf turns old → HoldsNoTurn new → OnErr r (IsLook old new) → IfErr r (λ refused. refused.0 ≡ work)
+          → IfErr r (λ refused. Stands turns new (Some refused.0))
+      finish_back turns (Ok got) lock no_turn err back = tt
+      finish_back turns (Err refused) lock no_turn err back = record {
+        lock = same.same_lock ∙ lock;
+        no_turn = no_turn;
+        hand = subst (HasWork new) (sym back) (look_work old new same has.true_to err work has);
+      }
 
       pub finish_blocks : (r : Result Finished (InHand × M)) → IfOk r (λ got. IsTurn old new (ToFinish work.job) (finished_as got)) → OnErr r (IsLook old new) → pass_number old ≡ 0 → SameBlocks old new
       finish_blocks (Ok got) turn err = step_blocks old new same (ToFinish work.job) (finished_as got) has.true_to turn tt

@@ -1,11 +1,13 @@
 -- Calls that follow one another.
-use Rattle.std.proofs.Common.{refl, ◌∙◌, ◌≡◌}
-use Rattle.cluster_run.specs.Standing.{SameBlocks}
+use Rattle.std.proofs.Common.{None, Option, refl, ◌∙◌, ◌≡◌}
+use Rattle.cluster_run.specs.Standing.{Comes, KeepsBlocks, SameBlocks, Stands}
 use Rattle.node_core.specs.Core.{Core}
+use Rattle.node_core.specs.InHand.{InHand}
 use Rattle.node_model.specs.declared.journal.Entry.{Entry}
 use Rattle.proc_syntax.specs.declared.tree.App.{App}
 use Rattle.rel_base.specs.declared.storied.Storied.{Ghosts}
 use Rattle.turn_lock.specs.Passes.{IsSameHolder, IsSamePass, pass_number}
+use Rattle.turn_lock.specs.declared.lock.TurnLock.{TurnLock}
 use Rattle.turn_lock.specs.declared.pass.Pass.{Pass}
 
 module _ {ghosts : Ghosts Core App Entry} where
@@ -18,6 +20,13 @@ module _ {ghosts : Ghosts Core App Entry} where
     same_left = then.same_left ∙ first.same_left;
   }
 
+  pub comes_then : {one two three : Pass Core App Entry ghosts} {work : Option InHand} → IsSamePass one two → Comes two three work → Comes one three work
+  comes_then first then = record { same = same_then first then.same; no_turn = then.no_turn; hand = then.hand }
+
+  -- so that the pass stands there as it stood before
+  pub stands_then : {turns : TurnLock Core App Entry} {old new : Pass Core App Entry ghosts} {before work : Option InHand} → Stands turns old before → Comes old new work → Stands turns new work
+  stands_then was comes = record { lock = comes.same.same_lock ∙ was.lock; no_turn = comes.no_turn; hand = comes.hand }
+
   pub holder_then : {one two three : Pass Core App Entry ghosts} → IsSameHolder one two → IsSameHolder two three → IsSameHolder one three
   holder_then first then = record {
     same_lock = then.same_lock ∙ first.same_lock;
@@ -27,6 +36,20 @@ module _ {ghosts : Ghosts Core App Entry} where
 
   pub blocks_then : {one two three : Pass Core App Entry ghosts} → SameBlocks one two → SameBlocks two three → SameBlocks one three
   blocks_then first then = record { delivered_same = then.delivered_same ∙ first.delivered_same; in_work_same = then.in_work_same ∙ first.in_work_same }
+
+  -- turns of the same holder
+  pub holder_goes : {one two three : Pass Core App Entry ghosts} → IsSameHolder one two → IsSamePass two three → IsSameHolder one three
+  holder_goes first then = record {
+    same_lock = then.same_lock ∙ first.same_lock;
+    same_number = then.same_number ∙ first.same_number;
+    same_base = then.same_base ∙ first.same_base;
+  }
+
+  pub keeps_then : {one two three : Pass Core App Entry ghosts} → KeepsBlocks one two → KeepsBlocks two three → KeepsBlocks one three
+  keeps_then first then = record { same = holder_then first.same then.same; no_turn = then.no_turn; hand = then.hand; blocks = blocks_then first.blocks then.blocks }
+
+  pub stands_kept : {turns : TurnLock Core App Entry} {old new : Pass Core App Entry ghosts} {before : Option InHand} → Stands turns old before → KeepsBlocks old new → Stands turns new None
+  stands_kept was keeps = record { lock = keeps.same.same_lock ∙ was.lock; no_turn = keeps.no_turn; hand = keeps.hand }
 
   -- where the pass is the processor's
   pub blocks_later : {one two three : Pass Core App Entry ghosts} → IsSamePass one two → (pass_number one ≡ 0 → SameBlocks one two) → (pass_number two ≡ 0 → SameBlocks two three) → pass_number one ≡ 0 → SameBlocks one three

@@ -3,6 +3,7 @@ use Rattle.std.proofs.Common.{All, List, [], ap, length, length-append, subst, s
 use Rattle.std.proofs.lemmas.List.Elements.{All-append, All-cons, All-nil}
 use Rattle.std.proofs.lemmas.Option.{none-some}
 use mathlib.Core.List.{IsPrefix}
+use Rattle.cluster_run.proofs.Following.{holder_goes}
 use Rattle.cluster_run.specs.Standing.{HasNone, SameBlocks, state_seen}
 use Rattle.node_core.specs.Core.{Core}
 use Rattle.node_model.specs.Journals.{IsLegal, delivered, world}
@@ -67,9 +68,6 @@ module _ {ghosts : Ghosts Core App Entry} where
       in_work_same = ap (λ (w : World). block_in w.work) state_is ∙ ap block_in (later.own_work zero_is);
     }
 
-  pub blocks_trans : (one two three : Pass Core App Entry ghosts) → SameBlocks one two → SameBlocks two three → SameBlocks one three
-  blocks_trans one two three first then = record { delivered_same = then.delivered_same ∙ first.delivered_same; in_work_same = then.in_work_same ∙ first.in_work_same }
-
   -- ---- a split
 
   module _ (old new : Pass Core App Entry ghosts) (same : IsSameHolder old new) (has : HasNone old) (seen_same : seen new ≡ seen old) (mine_same : mine new ≡ mine old) where
@@ -99,12 +97,8 @@ module _ {ghosts : Ghosts Core App Entry} where
   -- ---- a join, and a look after it
 
   module _ (old mid new : Pass Core App Entry ghosts) (joined : IsSameHolder old mid) (looked : IsSamePass mid new) (has : HasNone old) (longer : IsPrefix (seen old) (seen mid)) (mine_same : mine mid ≡ mine old) (look : IsLook mid new) where
-    pub both_same : IsSameHolder old new
-    both_same = record {
-      same_lock = looked.same_lock ∙ joined.same_lock;
-      same_number = looked.same_number ∙ joined.same_number;
-      same_base = looked.same_base ∙ joined.same_base;
-    }
+    both_same : IsSameHolder old new
+    both_same = holder_goes joined looked
 
     found_both : IsFound (pass_base old) (pass_number old) (seen old) (mine old) (seen new)
     found_both = record {

@@ -16,8 +16,9 @@ use Rattle.rel_base.specs.declared.storied.Storied.{Ghosts}
 use Rattle.schedule_laws.specs.Scheduled.{block_in}
 use Rattle.schedule_laws.specs.Stable.{entries_by}
 use Rattle.std.specs.Option.{option_and_then}
-use Rattle.std.specs.Prelude.{Bool, Err, List, None, Ok, Option, Result, Some, false, true, ◌≡◌, ◌⊎◌, ℕ}
-use Rattle.turn_lock.specs.Passes.{mine, pass_base, pass_number, seen}
+use Rattle.std.specs.Prelude.{Bool, Err, List, None, Ok, Option, Result, Some, [], false, true, ◌≡◌, ◌⊎◌, ℕ}
+use Rattle.turn_lock.specs.Passes.{HoldsNoTurn, IsPassOf, IsSameHolder, IsSamePass, left, mine, pass_base, pass_number, seen}
+use Rattle.turn_lock.specs.declared.lock.TurnLock.{TurnLock}
 use Rattle.turn_lock.specs.declared.pass.Pass.{Pass}
 
 -- an actor holds no job but one
@@ -41,7 +42,7 @@ module _ {ghosts : Ghosts Core App Entry} where
     pub true_to : IsTrue pass
     pub none : HoldsNone (state_seen pass) (pass_number pass)
 
-  -- its actor holds this job, and no other; where the last read of the job found its id settled, it is
+  -- its actor holds this job, and no other; where the last read of the job found that its id is settled, it is so
   pub record HasWork (pass : Pass Core App Entry ghosts) (work : InHand) : Type 0 where
     pub true_to : IsTrue pass
     pub actor : work.actor ≡ pass_number pass
@@ -52,6 +53,20 @@ module _ {ghosts : Ghosts Core App Entry} where
   abbrev pub Has : Pass Core App Entry ghosts → Option InHand → Type 0
   Has pass None = HasNone pass
   Has pass (Some work) = HasWork pass work
+
+  -- ---- between two turns
+
+  -- a pass of this lock, which has no turn and this in hand
+  pub record Stands (turns : TurnLock Core App Entry) (pass : Pass Core App Entry ghosts) (work : Option InHand) : Type 0 where
+    pub lock : IsPassOf turns pass
+    pub no_turn : HoldsNoTurn pass
+    pub hand : Has pass work
+
+  -- a pass that stays the same, and has no turn and this in hand after its turns
+  pub record Comes (old new : Pass Core App Entry ghosts) (work : Option InHand) : Type 0 where
+    pub same : IsSamePass old new
+    pub no_turn : HoldsNoTurn new
+    pub hand : Has new work
 
   -- ---- what becomes of a job
 
@@ -102,7 +117,23 @@ module _ {ghosts : Ghosts Core App Entry} where
     pub delivered_same : delivered_by new ≡ delivered_by old
     pub in_work_same : in_work new ≡ in_work old
 
--- the job that is left after a step of it, if it goes on: none after one that memory was wanting for
+  -- passes are split off or joined: the pass stays that of its actor, which holds no job, and keeps its blocks
+  pub record KeepsBlocks (old new : Pass Core App Entry ghosts) : Type 0 where
+    pub same : IsSameHolder old new
+    pub no_turn : HoldsNoTurn new
+    pub hand : HasNone new
+    pub blocks : SameBlocks old new
+
+  -- the processor's pass, once no other is left, after it has processed these blocks of a node of this application
+  pub record HasProcessed (turns : TurnLock Core App Entry) (app : App) (blocks : List Block) (pass : Pass Core App Entry ghosts) : Type 0 where
+    pub stands : Stands turns pass None
+    pub processor : pass_number pass ≡ 0
+    pub alone : left pass ≡ 0
+    pub base : pass_base pass ≡ app
+    pub rests : in_work pass ≡ []
+    pub delivers : delivered_by pass ≡ blocks
+
+-- the job that is left after a step of it, if it goes on: none where memory ran out
 abbrev pub left_of : {E : Type 0} → Result (Option InHand) E → Option InHand
 left_of (Ok work) = work
 left_of (Err refused) = None

@@ -1,8 +1,8 @@
 //! The transactions of the block in work are decided.
 
-ghost use Rattle.std.specs.Prelude.{◌≡◌, IfOk, OnOk, true};
-ghost use Rattle.cluster_run.specs.Standing.{AllDecided, HasNone, SameBlocks, Says};
-ghost use Rattle.turn_lock.specs.Passes.{HoldsNoTurn, IsPassOf, IsSamePass, pass_number};
+ghost use Rattle.std.specs.Prelude.{◌≡◌, IfOk, None, OnOk, true};
+ghost use Rattle.cluster_run.specs.Standing.{AllDecided, Comes, SameBlocks, Says, Stands};
+ghost use Rattle.turn_lock.specs.Passes.{pass_number};
 
 use crate::crew::Crew;
 use crate::gate::Gate;
@@ -20,13 +20,9 @@ fn commit_next<V: Versions, R: Wait>(
     node: &SharedNode<V>,
     pass: &mut NodePass<V>,
 ) -> Result<Decided, NoMemory>
-    requires lock { IsPassOf node.now.lock pass.old }
-    requires no_turn { HoldsNoTurn pass.old }
+    requires stands { Stands node.now.lock pass.old None }
     requires processor { pass_number pass.old ≡ 0 }
-    requires hand { HasNone pass.old }
-    ensures same { IsSamePass pass.old pass.new }
-    ensures no_turn { HoldsNoTurn pass.new }
-    ensures hand { HasNone pass.new }
+    ensures comes { Comes pass.old pass.new None }
     ensures blocks { SameBlocks pass.old pass.new }
     ensures says { IfOk result (λ decided. Says decided pass.new) }
 {
@@ -40,13 +36,9 @@ fn decide_next<V: Versions, G: Gate, R: Wait>(
     crew: &Crew<'_, G>,
     pass: &mut NodePass<V>,
 ) -> Result<bool, NoMemory>
-    requires lock { IsPassOf node.now.lock pass.old }
-    requires no_turn { HoldsNoTurn pass.old }
+    requires stands { Stands node.now.lock pass.old None }
     requires processor { pass_number pass.old ≡ 0 }
-    requires hand { HasNone pass.old }
-    ensures same { IsSamePass pass.old pass.new }
-    ensures no_turn { HoldsNoTurn pass.new }
-    ensures hand { HasNone pass.new }
+    ensures comes { Comes pass.old pass.new None }
     ensures blocks { SameBlocks pass.old pass.new }
     ensures all { IfOk result (λ all. all ≡ true → AllDecided pass.new) }
 {
@@ -81,13 +73,9 @@ pub fn decide_all<V: Versions, G: Gate, R: Wait>(
     crew: &Crew<'_, G>,
     pass: &mut NodePass<V>,
 ) -> Result<(), NoMemory>
-    requires lock { IsPassOf node.now.lock pass.old }
-    requires no_turn { HoldsNoTurn pass.old }
+    requires stands { Stands node.now.lock pass.old None }
     requires processor { pass_number pass.old ≡ 0 }
-    requires hand { HasNone pass.old }
-    ensures same { IsSamePass pass.old pass.new }
-    ensures no_turn { HoldsNoTurn pass.new }
-    ensures hand { HasNone pass.new }
+    ensures comes { Comes pass.old pass.new None }
     ensures blocks { SameBlocks pass.old pass.new }
     ensures all { OnOk result (AllDecided pass.new) }
 {

@@ -1,8 +1,8 @@
 //! Actors beside the processor: executors, and the one that makes the arrivals.
 
-ghost use Rattle.std.specs.Prelude.{◌≡◌};
-ghost use Rattle.cluster_run.specs.Standing.{HasNone};
-ghost use Rattle.turn_lock.specs.Passes.{HoldsNoTurn, IsPassOf, IsSamePass};
+ghost use Rattle.std.specs.Prelude.{◌≡◌, None};
+ghost use Rattle.cluster_run.specs.Standing.{Comes, Stands};
+ghost use Rattle.turn_lock.specs.Passes.{HoldsNoTurn, IsIdle, IsSamePass};
 
 use crate::crew::Crew;
 use crate::gate::Gate;
@@ -24,12 +24,8 @@ fn run_first<V: Versions, G: Gate, R: Wait>(
     crew: &Crew<'_, G>,
     pass: &mut NodePass<V>,
 ) -> Result<bool, NoMemory>
-    requires lock { IsPassOf node.now.lock pass.old }
-    requires no_turn { HoldsNoTurn pass.old }
-    requires hand { HasNone pass.old }
-    ensures same { IsSamePass pass.old pass.new }
-    ensures no_turn { HoldsNoTurn pass.new }
-    ensures hand { HasNone pass.new }
+    requires stands { Stands node.now.lock pass.old None }
+    ensures comes { Comes pass.old pass.new None }
 {
     let ran = run_one(rt, node, crew, pass, Pick::Nth(0));
     if !matches!(ran, Ok(false)) {
@@ -46,12 +42,8 @@ pub fn execute<V: Versions, G: Gate, R: Wait>(
     stopped: &AtomicBool,
     mut pass: NodePass<V>,
 ) -> NodePass<V>
-    requires lock { IsPassOf node.now.lock pass }
-    requires no_turn { HoldsNoTurn pass }
-    requires hand { HasNone pass }
-    ensures same { IsSamePass pass result }
-    ensures no_turn { HoldsNoTurn result }
-    ensures hand { HasNone result }
+    requires stands { Stands node.now.lock pass None }
+    ensures comes { Comes pass result None }
 {
     for _ in rt.forever() {
         let heard = crew.bell.heard();
@@ -75,8 +67,7 @@ pub fn feed<V: Versions, G: Gate, R: Wait>(
     stopped: &AtomicBool,
     mut pass: NodePass<V>,
 ) -> NodePass<V>
-    requires lock { IsPassOf node.now.lock pass }
-    requires no_turn { HoldsNoTurn pass }
+    requires idle { IsIdle node.now.lock pass }
     ensures same { IsSamePass pass result }
     ensures no_turn { HoldsNoTurn result }
 {
@@ -104,9 +95,7 @@ pub fn act<V: Versions, G: Gate, R: Wait>(
     feeds: bool,
     pass: NodePass<V>,
 ) -> NodePass<V>
-    requires lock { IsPassOf node.now.lock pass }
-    requires no_turn { HoldsNoTurn pass }
-    requires hand { HasNone pass }
+    requires stands { Stands node.now.lock pass None }
     ensures same { IsSamePass pass result }
     ensures no_turn { HoldsNoTurn result }
 {

@@ -1,8 +1,8 @@
 //! Passes for executors are split off, and joined again.
 
-ghost use Rattle.std.specs.Prelude.{◌≡◌, ◌+◌, ◌-◌, ◌<◌, ◌^◌};
-ghost use Rattle.cluster_run.specs.Standing.{HasNone, SameBlocks};
-ghost use Rattle.turn_lock.specs.Passes.{HoldsNoTurn, IsPassOf, IsSameHolder, left, made, pass_number};
+ghost use Rattle.std.specs.Prelude.{◌≡◌, ◌+◌, ◌-◌, ◌<◌, ◌^◌, None};
+ghost use Rattle.cluster_run.specs.Standing.{KeepsBlocks, Stands};
+ghost use Rattle.turn_lock.specs.Passes.{IsIdle, left, made, pass_number};
 
 use node_shared::{NodePass, SharedNode};
 use row_sets::Versions;
@@ -10,16 +10,12 @@ use std::sync::Wait;
 
 /// A pass for an executor, which holds no job.
 pub fn split_off<V: Versions>(node: &SharedNode<V>, pass: &mut NodePass<V>) -> NodePass<V>
-    requires lock { IsPassOf node.now.lock pass.old }
-    requires no_turn { HoldsNoTurn pass.old }
+    requires stands { Stands node.now.lock pass.old None }
     requires processor { pass_number pass.old ≡ 0 }
-    requires hand { HasNone pass.old }
     requires room { made pass.old < 2 ^ 32 - 1 }
-    ensures same { IsSameHolder pass.old pass.new × HoldsNoTurn pass.new }
-    ensures hand { HasNone pass.new }
-    ensures blocks { SameBlocks pass.old pass.new }
+    ensures keeps { KeepsBlocks pass.old pass.new }
     ensures counts { (made pass.new ≡ made pass.old + 1) × (left pass.new ≡ left pass.old + 1) }
-    ensures other { IsPassOf node.now.lock result × HoldsNoTurn result × HasNone result }
+    ensures other { Stands node.now.lock result None }
 {
     let other = node.split(pass);
     let _ = other.number();
@@ -33,14 +29,10 @@ pub fn take_back<V: Versions, R: Wait>(
     pass: &mut NodePass<V>,
     other: NodePass<V>,
 )
-    requires lock { IsPassOf node.now.lock pass.old }
-    requires no_turn { HoldsNoTurn pass.old }
+    requires stands { Stands node.now.lock pass.old None }
     requires processor { pass_number pass.old ≡ 0 }
-    requires hand { HasNone pass.old }
-    requires other { IsPassOf node.now.lock other × HoldsNoTurn other }
-    ensures same { IsSameHolder pass.old pass.new × HoldsNoTurn pass.new }
-    ensures hand { HasNone pass.new }
-    ensures blocks { SameBlocks pass.old pass.new }
+    requires other { IsIdle node.now.lock other }
+    ensures keeps { KeepsBlocks pass.old pass.new }
     ensures made { made pass.new ≡ made pass.old }
     ensures left { (0 < left pass.old) × (left pass.new ≡ left pass.old - 1) }
 {

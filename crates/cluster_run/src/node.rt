@@ -2,9 +2,9 @@
 
 ghost use Rattle.std.specs.Prelude.{◌≡◌, ◌≤◌, IfOk, []};
 ghost use Rattle.cluster_run.specs.Nodes.{IsNodeOf};
-ghost use Rattle.cluster_run.specs.Standing.{HasNone, delivered_by, in_work};
+ghost use Rattle.cluster_run.specs.Standing.{HasProcessed, delivered_by};
 ghost use Rattle.serial_laws.specs.Chained.{AreNumbered};
-ghost use Rattle.turn_lock.specs.Passes.{HoldsNoTurn, IsPassOf, left, made, pass_base, pass_number};
+ghost use Rattle.turn_lock.specs.Passes.{made, pass_base};
 
 use crate::crew::Crew;
 use crate::gate::Gate;
@@ -24,11 +24,8 @@ fn open_node<V: Versions>(
     alloc: Global,
     app: &Arc<Checked>,
 ) -> Result<(SharedNode<V>, NodePass<V>), NoMemory>
-    ensures lock { IfOk result (λ opened. IsPassOf opened.0.lock opened.1 × HoldsNoTurn opened.1) }
-    ensures processor { IfOk result (λ opened. (pass_number opened.1 ≡ 0) × (made opened.1 ≡ 0) × (left opened.1 ≡ 0)) }
-    ensures base { IfOk result (λ opened. pass_base opened.1 ≡ app.now.value.app) }
-    ensures hand { IfOk result (λ opened. HasNone opened.1) }
-    ensures blocks { IfOk result (λ opened. (in_work opened.1 ≡ []) × (delivered_by opened.1 ≡ [])) }
+    ensures processed { IfOk result (λ opened. HasProcessed opened.0.lock app.now.value.app [] opened.1) }
+    ensures made { IfOk result (λ opened. made opened.1 ≡ 0) }
 {
     let core = NodeCore::new(alloc, app)?;
     SharedNode::new(alloc, core)
@@ -36,11 +33,7 @@ fn open_node<V: Versions>(
 
 // What a node tells, once its pass is alone and no block is in work.
 fn close_node<V: Versions>(node: SharedNode<V>, pass: NodePass<V>) -> Result<NodeResult, NoMemory>
-    requires lock { IsPassOf node.lock pass }
-    requires no_turn { HoldsNoTurn pass }
-    requires processor { (pass_number pass ≡ 0) × (left pass ≡ 0) }
-    requires hand { HasNone pass }
-    requires rests { in_work pass ≡ [] }
+    requires processed { HasProcessed node.lock (pass_base pass) (delivered_by pass) pass }
     requires numbered { AreNumbered 1 (delivered_by pass) }
     ensures node { IfOk result (IsNodeOf (pass_base pass) (delivered_by pass)) }
 {

@@ -1,9 +1,9 @@
 //! The blocks of a chain are processed one after another.
 
-ghost use Rattle.std.specs.Prelude.{◌≡◌, ◌+◌, ◌++◌, ◌∷◌, OnOk, [], length};
-ghost use Rattle.cluster_run.specs.Standing.{AllDecided, HasNone, delivered_by, in_work};
+ghost use Rattle.std.specs.Prelude.{◌≡◌, ◌+◌, ◌++◌, ◌∷◌, None, OnOk, [], length};
+ghost use Rattle.cluster_run.specs.Standing.{AllDecided, Comes, Stands, delivered_by, in_work};
 ghost use Rattle.serial_laws.specs.Chained.{AreNumbered};
-ghost use Rattle.turn_lock.specs.Passes.{HoldsNoTurn, IsPassOf, IsSamePass, pass_number};
+ghost use Rattle.turn_lock.specs.Passes.{pass_number};
 
 use crate::crew::Crew;
 use crate::deciding::decide_all;
@@ -23,15 +23,11 @@ fn deliver_block<V: Versions, G: Gate, R: Wait>(
     pass: &mut NodePass<V>,
     block: &Block,
 ) -> Result<Delivered, NoMemory>
-    requires lock { IsPassOf node.now.lock pass.old }
-    requires no_turn { HoldsNoTurn pass.old }
+    requires stands { Stands node.now.lock pass.old None }
     requires processor { pass_number pass.old ≡ 0 }
-    requires hand { HasNone pass.old }
     requires rests { in_work pass.old ≡ [] }
     requires next { block.now.number ≡ length (delivered_by pass.old) + 1 }
-    ensures same { IsSamePass pass.old pass.new }
-    ensures no_turn { HoldsNoTurn pass.new }
-    ensures hand { HasNone pass.new }
+    ensures comes { Comes pass.old pass.new None }
     ensures delivers { OnOk result (delivered_by pass.new ≡ delivered_by pass.old ++ block.now ∷ []) }
 {
     crew.come_to_block(rt, block.number);
@@ -47,14 +43,10 @@ fn seal_block<V: Versions, G: Gate, R: Wait>(
     crew: &Crew<'_, G>,
     pass: &mut NodePass<V>,
 ) -> Result<Sealed, NoMemory>
-    requires lock { IsPassOf node.now.lock pass.old }
-    requires no_turn { HoldsNoTurn pass.old }
+    requires stands { Stands node.now.lock pass.old None }
     requires processor { pass_number pass.old ≡ 0 }
-    requires hand { HasNone pass.old }
     requires all { AllDecided pass.old }
-    ensures same { IsSamePass pass.old pass.new }
-    ensures no_turn { HoldsNoTurn pass.new }
-    ensures hand { HasNone pass.new }
+    ensures comes { Comes pass.old pass.new None }
     ensures delivers { OnOk result (delivered_by pass.new ≡ delivered_by pass.old) }
     ensures rests { OnOk result (in_work pass.new ≡ []) }
 {
@@ -71,15 +63,11 @@ pub fn process_block<V: Versions, G: Gate, R: Wait>(
     pass: &mut NodePass<V>,
     block: &Block,
 ) -> Result<(), NoMemory>
-    requires lock { IsPassOf node.now.lock pass.old }
-    requires no_turn { HoldsNoTurn pass.old }
+    requires stands { Stands node.now.lock pass.old None }
     requires processor { pass_number pass.old ≡ 0 }
-    requires hand { HasNone pass.old }
     requires rests { in_work pass.old ≡ [] }
     requires next { block.now.number ≡ length (delivered_by pass.old) + 1 }
-    ensures same { IsSamePass pass.old pass.new }
-    ensures no_turn { HoldsNoTurn pass.new }
-    ensures hand { HasNone pass.new }
+    ensures comes { Comes pass.old pass.new None }
     ensures delivers { OnOk result (delivered_by pass.new ≡ delivered_by pass.old ++ block.now ∷ []) }
     ensures rests { OnOk result (in_work pass.new ≡ []) }
 {
@@ -97,15 +85,11 @@ pub fn process_all<V: Versions, G: Gate, R: Wait>(
     pass: &mut NodePass<V>,
     blocks: &[Block],
 ) -> Result<(), NoMemory>
-    requires lock { IsPassOf node.now.lock pass.old }
-    requires no_turn { HoldsNoTurn pass.old }
+    requires stands { Stands node.now.lock pass.old None }
     requires processor { pass_number pass.old ≡ 0 }
-    requires hand { HasNone pass.old }
     requires rests { in_work pass.old ≡ [] }
     requires numbered { AreNumbered (length (delivered_by pass.old) + 1) blocks.now }
-    ensures same { IsSamePass pass.old pass.new }
-    ensures no_turn { HoldsNoTurn pass.new }
-    ensures hand { HasNone pass.new }
+    ensures comes { Comes pass.old pass.new None }
     ensures delivers { OnOk result (delivered_by pass.new ≡ delivered_by pass.old ++ blocks.now) }
     ensures rests { OnOk result (in_work pass.new ≡ []) }
 {

@@ -1,9 +1,9 @@
 //! A job is run from its claim to its end.
 
-ghost use Rattle.std.specs.Prelude.{◌≡◌, IfErr, IfOk, OnOk, true, ℕ};
-ghost use Rattle.cluster_run.specs.Standing.{Has, HasNone, HasWork, IsOver, Leaves, Runs, SameBlocks, Takes, left_of};
+ghost use Rattle.std.specs.Prelude.{◌≡◌, IfErr, IfOk, None, OnOk, Some, true, ℕ};
+ghost use Rattle.cluster_run.specs.Standing.{Comes, IsOver, Leaves, Runs, SameBlocks, Stands, Takes, left_of};
 ghost use Rattle.node_core.specs.InHand.{IsReady, WantsRead};
-ghost use Rattle.turn_lock.specs.Passes.{HoldsNoTurn, IsPassOf, IsSamePass, pass_number};
+ghost use Rattle.turn_lock.specs.Passes.{pass_number};
 
 use crate::crew::Crew;
 use crate::gate::{Gate, Point};
@@ -21,12 +21,8 @@ pub fn take_job<V: Versions, R: Wait>(
     pass: &mut NodePass<V>,
     pick: Pick,
 ) -> Result<Option<HeldJob>, NoMemory>
-    requires lock { IsPassOf node.now.lock pass.old }
-    requires no_turn { HoldsNoTurn pass.old }
-    requires hand { HasNone pass.old }
-    ensures same { IsSamePass pass.old pass.new }
-    ensures no_turn { HoldsNoTurn pass.new }
-    ensures hand { Has pass.new (left_of result) }
+    requires stands { Stands node.now.lock pass.old None }
+    ensures comes { Comes pass.old pass.new (left_of result) }
     ensures blocks { pass_number pass.old ≡ 0 → SameBlocks pass.old pass.new }
     ensures takes { IfOk result (Takes pass.new pick) }
 {
@@ -40,12 +36,8 @@ pub fn give_up<V: Versions, R: Wait>(
     pass: &mut NodePass<V>,
     work: HeldJob,
 )
-    requires lock { IsPassOf node.now.lock pass.old }
-    requires no_turn { HoldsNoTurn pass.old }
-    requires hand { HasWork pass.old work }
-    ensures same { IsSamePass pass.old pass.new }
-    ensures no_turn { HoldsNoTurn pass.new }
-    ensures hand { HasNone pass.new }
+    requires stands { Stands node.now.lock pass.old (Some work) }
+    ensures comes { Comes pass.old pass.new None }
     ensures blocks { pass_number pass.old ≡ 0 → SameBlocks pass.old pass.new }
     ensures over { work.gone ≡ true → IsOver pass.new work.job }
 {
@@ -59,13 +51,9 @@ fn make_read<V: Versions, R: Wait>(
     pass: &mut NodePass<V>,
     mut work: HeldJob,
 ) -> Result<Option<HeldJob>, NoMemory>
-    requires lock { IsPassOf node.now.lock pass.old }
-    requires no_turn { HoldsNoTurn pass.old }
-    requires hand { HasWork pass.old work }
+    requires stands { Stands node.now.lock pass.old (Some work) }
     requires wants { WantsRead work }
-    ensures same { IsSamePass pass.old pass.new }
-    ensures no_turn { HoldsNoTurn pass.new }
-    ensures hand { Has pass.new (left_of result) }
+    ensures comes { Comes pass.old pass.new (left_of result) }
     ensures blocks { pass_number pass.old ≡ 0 → SameBlocks pass.old pass.new }
     ensures leaves { IfOk result (Leaves pass.new work.job) }
 {
@@ -83,13 +71,9 @@ fn settle<V: Versions, R: Wait>(
     pass: &mut NodePass<V>,
     ended: Result<Finished, (HeldJob, NoMemory)>,
 ) -> Result<Option<HeldJob>, NoMemory>
-    requires lock { IsPassOf node.now.lock pass.old }
-    requires no_turn { HoldsNoTurn pass.old }
-    requires over { OnOk ended (HasNone pass.old) }
-    requires back { IfErr ended (λ refused. HasWork pass.old refused.0) }
-    ensures same { IsSamePass pass.old pass.new }
-    ensures no_turn { HoldsNoTurn pass.new }
-    ensures hand { Has pass.new (left_of result) }
+    requires over { OnOk ended (Stands node.now.lock pass.old None) }
+    requires back { IfErr ended (λ refused. Stands node.now.lock pass.old (Some refused.0)) }
+    ensures comes { Comes pass.old pass.new (left_of result) }
     ensures blocks { pass_number pass.old ≡ 0 → SameBlocks pass.old pass.new }
     ensures leaves { (number : ℕ) → OnOk ended (IsOver pass.old number) → IfOk result (Leaves pass.new number) }
 {
@@ -109,13 +93,9 @@ fn end_job<V: Versions, R: Wait>(
     pass: &mut NodePass<V>,
     work: HeldJob,
 ) -> Result<Option<HeldJob>, NoMemory>
-    requires lock { IsPassOf node.now.lock pass.old }
-    requires no_turn { HoldsNoTurn pass.old }
-    requires hand { HasWork pass.old work }
+    requires stands { Stands node.now.lock pass.old (Some work) }
     requires ready { IsReady work }
-    ensures same { IsSamePass pass.old pass.new }
-    ensures no_turn { HoldsNoTurn pass.new }
-    ensures hand { Has pass.new (left_of result) }
+    ensures comes { Comes pass.old pass.new (left_of result) }
     ensures blocks { pass_number pass.old ≡ 0 → SameBlocks pass.old pass.new }
     ensures leaves { IfOk result (Leaves pass.new work.job) }
 {
@@ -131,12 +111,8 @@ pub fn step_job<V: Versions, G: Gate, R: Wait>(
     pass: &mut NodePass<V>,
     mut work: HeldJob,
 ) -> Result<Option<HeldJob>, NoMemory>
-    requires lock { IsPassOf node.now.lock pass.old }
-    requires no_turn { HoldsNoTurn pass.old }
-    requires hand { HasWork pass.old work }
-    ensures same { IsSamePass pass.old pass.new }
-    ensures no_turn { HoldsNoTurn pass.new }
-    ensures hand { Has pass.new (left_of result) }
+    requires stands { Stands node.now.lock pass.old (Some work) }
+    ensures comes { Comes pass.old pass.new (left_of result) }
     ensures blocks { pass_number pass.old ≡ 0 → SameBlocks pass.old pass.new }
     ensures leaves { IfOk result (Leaves pass.new work.job) }
 {
@@ -166,12 +142,8 @@ pub fn run_job<V: Versions, G: Gate, R: Wait>(
     pass: &mut NodePass<V>,
     mut work: HeldJob,
 ) -> Result<(), NoMemory>
-    requires lock { IsPassOf node.now.lock pass.old }
-    requires no_turn { HoldsNoTurn pass.old }
-    requires hand { HasWork pass.old work }
-    ensures same { IsSamePass pass.old pass.new }
-    ensures no_turn { HoldsNoTurn pass.new }
-    ensures hand { HasNone pass.new }
+    requires stands { Stands node.now.lock pass.old (Some work) }
+    ensures comes { Comes pass.old pass.new None }
     ensures blocks { pass_number pass.old ≡ 0 → SameBlocks pass.old pass.new }
     ensures over { OnOk result (IsOver pass.new work.job) }
 {
@@ -196,12 +168,8 @@ pub fn run_one<V: Versions, G: Gate, R: Wait>(
     pass: &mut NodePass<V>,
     pick: Pick,
 ) -> Result<bool, NoMemory>
-    requires lock { IsPassOf node.now.lock pass.old }
-    requires no_turn { HoldsNoTurn pass.old }
-    requires hand { HasNone pass.old }
-    ensures same { IsSamePass pass.old pass.new }
-    ensures no_turn { HoldsNoTurn pass.new }
-    ensures hand { HasNone pass.new }
+    requires stands { Stands node.now.lock pass.old None }
+    ensures comes { Comes pass.old pass.new None }
     ensures blocks { pass_number pass.old ≡ 0 → SameBlocks pass.old pass.new }
     ensures runs { IfOk result (Runs pass.new pick) }
 {

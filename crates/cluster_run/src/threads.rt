@@ -1,9 +1,9 @@
 //! Actors in threads of their own, beside the processor on the caller's.
 
-ghost use Rattle.std.specs.Prelude.{◌≡◌, ◌+◌, ◌++◌, ◌≤◌, All, IfOk, [], length, vec_capacity, vec_len};
-ghost use Rattle.cluster_run.specs.Standing.{HasNone, SameBlocks, delivered_by, in_work};
+ghost use Rattle.std.specs.Prelude.{◌≡◌, ◌+◌, ◌++◌, ◌≤◌, All, IfOk, None, [], length, vec_capacity, vec_len};
+ghost use Rattle.cluster_run.specs.Standing.{HasProcessed, KeepsBlocks, Stands, delivered_by, in_work};
 ghost use Rattle.serial_laws.specs.Chained.{AreNumbered};
-ghost use Rattle.turn_lock.specs.Passes.{HoldsNoTurn, IsPassOf, IsSameHolder, left, made, pass_base, pass_number};
+ghost use Rattle.turn_lock.specs.Passes.{IsIdle, left, made, pass_base, pass_number};
 
 use crate::bell::Bell;
 use crate::crew::Crew;
@@ -35,9 +35,9 @@ impl<V: Versions> PassOf<V> {
 }
 
 impl<V: Versions> Promise<NodePass<V>> for PassOf<V> {
-    ghost use Rattle.turn_lock.specs.Passes.{HoldsNoTurn, IsPassOf};
+    ghost use Rattle.turn_lock.specs.Passes.{IsIdle};
 
-    ghost kept_by = { λ promise pass. IsPassOf promise.0.value.lock pass × HoldsNoTurn pass };
+    ghost kept_by = { λ promise pass. IsIdle promise.0.value.lock pass };
 }
 
 // A flag for each actor, not set.
@@ -66,15 +66,11 @@ fn join_all<V: Versions, R: Threads + Wait>(
     pass: &mut NodePass<V>,
     children: Vec<PromisedHandle<NodePass<V>, PassOf<V>>>,
 )
-    requires lock { IsPassOf node.now.lock pass.old }
-    requires no_turn { HoldsNoTurn pass.old }
+    requires stands { Stands node.now.lock pass.old None }
     requires processor { pass_number pass.old ≡ 0 }
-    requires hand { HasNone pass.old }
     requires left { left pass.old ≡ vec_len children }
     requires promised { All (λ child. child.promise.0.value ≡ node.now) children.items }
-    ensures same { IsSameHolder pass.old pass.new × HoldsNoTurn pass.new }
-    ensures hand { HasNone pass.new }
-    ensures blocks { SameBlocks pass.old pass.new }
+    ensures keeps { KeepsBlocks pass.old pass.new }
     ensures left { left pass.new ≡ 0 }
 {
     for child in children {
@@ -92,19 +88,13 @@ fn process_beside<V: Versions, G: Gate, R: Threads + Wait>(
     stops: &[AtomicBool],
     children: Vec<PromisedHandle<NodePass<V>, PassOf<V>>>,
 ) -> Result<NodePass<V>, NoMemory>
-    requires lock { IsPassOf node.now.lock pass × HoldsNoTurn pass }
+    requires stands { Stands node.now.lock pass None }
     requires processor { pass_number pass ≡ 0 }
-    requires hand { HasNone pass }
     requires rests { in_work pass ≡ [] }
     requires numbered { AreNumbered (length (delivered_by pass) + 1) crew.now.blocks.now }
     requires left { left pass ≡ vec_len children }
     requires promised { All (λ child. child.promise.0.value ≡ node.now) children.items }
-    ensures lock { IfOk result (λ own. IsPassOf node.now.lock own × HoldsNoTurn own) }
-    ensures processor { IfOk result (λ own. (pass_number own ≡ 0) × (left own ≡ 0)) }
-    ensures base { IfOk result (λ own. pass_base own ≡ pass_base pass) }
-    ensures hand { IfOk result (λ own. HasNone own) }
-    ensures rests { IfOk result (λ own. in_work own ≡ []) }
-    ensures delivers { IfOk result (λ own. delivered_by own ≡ delivered_by pass ++ crew.now.blocks.now) }
+    ensures processed { IfOk result (HasProcessed node.now.lock (pass_base pass) (delivered_by pass ++ crew.now.blocks.now)) }
 {
     let processed = process_all(rt, node, crew, &mut pass, crew.blocks);
     stop_all(stops, &crew.bell);
@@ -122,18 +112,12 @@ pub fn run_crew<V: Versions + Send, G: Gate, R: Threads + Wait + Sync>(
     crew: &Crew<'_, G>,
     mut pass: NodePass<V>,
 ) -> Result<NodePass<V>, NoMemory>
-    requires lock { IsPassOf node.now.lock pass × HoldsNoTurn pass }
+    requires stands { Stands node.now.lock pass None }
     requires processor { (pass_number pass ≡ 0) × (made pass ≡ 0) × (left pass ≡ 0) }
-    requires hand { HasNone pass }
     requires rests { in_work pass ≡ [] }
     requires numbered { AreNumbered (length (delivered_by pass) + 1) crew.now.blocks.now }
     requires few { crew.now.executors ≤ 16 }
-    ensures lock { IfOk result (λ own. IsPassOf node.now.lock own × HoldsNoTurn own) }
-    ensures processor { IfOk result (λ own. (pass_number own ≡ 0) × (left own ≡ 0)) }
-    ensures base { IfOk result (λ own. pass_base own ≡ pass_base pass) }
-    ensures hand { IfOk result (λ own. HasNone own) }
-    ensures rests { IfOk result (λ own. in_work own ≡ []) }
-    ensures delivers { IfOk result (λ own. delivered_by own ≡ delivered_by pass ++ crew.now.blocks.now) }
+    ensures processed { IfOk result (HasProcessed node.now.lock (pass_base pass) (delivered_by pass ++ crew.now.blocks.now)) }
 {
     let actors = crew.beside();
     let flags = flags_for(alloc, actors)?;
@@ -144,19 +128,13 @@ pub fn run_crew<V: Versions + Send, G: Gate, R: Threads + Wait + Sync>(
         thread::scope_env(),
         rt,
         move |scope| -> Result<NodePass<V>, NoMemory>
-            requires lock { IsPassOf node.now.lock pass × HoldsNoTurn pass }
+            requires stands { Stands node.now.lock pass None }
             requires processor { (pass_number pass ≡ 0) × (made pass ≡ 0) × (left pass ≡ 0) }
-            requires hand { HasNone pass }
             requires rests { in_work pass ≡ [] }
             requires numbered { AreNumbered (length (delivered_by pass) + 1) crew.now.blocks.now }
             requires few { (actors ≤ 17) × (length stops.now ≡ actors) }
             requires room { (children.items ≡ []) × (actors ≤ vec_capacity children) }
-            ensures lock { IfOk result (λ own. IsPassOf node.entry.now.lock own × HoldsNoTurn own) }
-            ensures processor { IfOk result (λ own. (pass_number own ≡ 0) × (left own ≡ 0)) }
-            ensures base { IfOk result (λ own. pass_base own ≡ pass_base pass) }
-            ensures hand { IfOk result (λ own. HasNone own) }
-            ensures rests { IfOk result (λ own. in_work own ≡ []) }
-            ensures delivers { IfOk result (λ own. delivered_by own ≡ delivered_by pass ++ crew.entry.now.blocks.now) }
+            ensures processed { IfOk result (HasProcessed node.entry.now.lock (pass_base pass) (delivered_by pass ++ crew.entry.now.blocks.now)) }
         {
             for i in 0..actors {
                 let other = split_off(node, &mut pass);
@@ -165,8 +143,8 @@ pub fn run_crew<V: Versions + Send, G: Gate, R: Threads + Wait + Sync>(
                 let start = scope.spawn_with(
                     PassOf::new(node),
                     move || -> NodePass<V>
-                        requires { IsPassOf node.now.lock other × HoldsNoTurn other × HasNone other }
-                        ensures { IsPassOf node.entry.now.lock result × HoldsNoTurn result }
+                        requires { Stands node.now.lock other None }
+                        ensures { IsIdle node.entry.now.lock result }
                     { act(rt, node, crew, stopped, feeds, other) },
                 );
                 match start {

@@ -1,9 +1,9 @@
 //! Passes for threads are split off and taken back.
 
-ghost use Rattle.std.specs.Prelude.{◌≡◌, ◌+◌, ◌<◌, ◌≤◌, All, IfOk, vec_len};
-ghost use Rattle.cluster_run.specs.Standing.{HasNone, SameBlocks};
+ghost use Rattle.std.specs.Prelude.{◌≡◌, ◌+◌, ◌<◌, ◌≤◌, All, IfOk, None, vec_len};
+ghost use Rattle.cluster_run.specs.Standing.{KeepsBlocks, Stands};
 ghost use Rattle.node_tests.specs.Free.{IsFree};
-ghost use Rattle.turn_lock.specs.Passes.{HoldsNoTurn, IsIdle, IsPassOf, IsSameHolder, left, made, pass_number};
+ghost use Rattle.turn_lock.specs.Passes.{IsIdle, left, made, pass_number};
 
 use cluster_run::forking::{split_off, take_back};
 use node_shared::{NodePass, SharedNode};
@@ -19,14 +19,10 @@ pub fn split_crew<V: Versions>(
     pass: &mut NodePass<V>,
     count: u32,
 ) -> Result<Vec<NodePass<V>>, NoMemory>
-    requires lock { IsPassOf node.now.lock pass.old }
-    requires no_turn { HoldsNoTurn pass.old }
+    requires stands { Stands node.now.lock pass.old None }
     requires processor { pass_number pass.old ≡ 0 }
-    requires hand { HasNone pass.old }
     requires few { (made pass.old < 1000) × (count ≤ 16) }
-    ensures same { IsSameHolder pass.old pass.new × HoldsNoTurn pass.new }
-    ensures hand { HasNone pass.new }
-    ensures blocks { SameBlocks pass.old pass.new }
+    ensures keeps { KeepsBlocks pass.old pass.new }
     ensures left { IfOk result (λ crew. left pass.new ≡ left pass.old + vec_len crew) }
     ensures crew { IfOk result (λ crew. (vec_len crew ≡ count) × All (IsFree node.now.lock) crew.items) }
 {
@@ -46,14 +42,11 @@ pub fn join_crew<V: Versions, R: Wait>(
     pass: &mut NodePass<V>,
     crew: Vec<NodePass<V>>,
 )
-    requires lock { IsPassOf node.now.lock pass.old }
-    requires no_turn { HoldsNoTurn pass.old }
+    requires stands { Stands node.now.lock pass.old None }
     requires processor { pass_number pass.old ≡ 0 }
-    requires hand { HasNone pass.old }
     requires left { left pass.old ≡ vec_len crew }
     requires crew { All (IsIdle node.now.lock) crew.items }
-    ensures same { IsSameHolder pass.old pass.new × HoldsNoTurn pass.new }
-    ensures hand { HasNone pass.new }
+    ensures keeps { KeepsBlocks pass.old pass.new }
     ensures left { left pass.new ≡ 0 }
 {
     for other in crew {

@@ -1,7 +1,8 @@
 //! Looks at what held jobs read.
 
-ghost use Rattle.cluster_run.specs.Standing.{HasWork};
-ghost use Rattle.turn_lock.specs.Passes.{HoldsNoTurn, IsPassOf, IsSamePass};
+ghost use Rattle.std.specs.Prelude.{Some};
+ghost use Rattle.cluster_run.specs.Standing.{Stands};
+ghost use Rattle.turn_lock.specs.Passes.{HoldsNoTurn, IsSamePass};
 
 use node_core::{HeldJob, Looked};
 use node_shared::{NodePass, SharedNode};
@@ -17,9 +18,7 @@ pub fn look_ahead<V: Versions, R: Wait>(
     height: u64,
     work: &mut HeldJob,
 ) -> Result<Option<Looked>, NoMemory>
-    requires lock { IsPassOf node.now.lock pass.old }
-    requires no_turn { HoldsNoTurn pass.old }
-    requires hand { HasWork pass.old work.old }
+    requires stands { Stands node.now.lock pass.old (Some work.old) }
     ensures same { IsSamePass pass.old pass.new }
     ensures no_turn { HoldsNoTurn pass.new }
 {

@@ -1,9 +1,8 @@
 //! Threads that claim, read, finish and release as they are drawn, each with a pass of its own.
 
-ghost use Rattle.std.specs.Prelude.{◌≡◌, All, length, vec_len};
-ghost use Rattle.cluster_run.specs.Standing.{Has, HasNone, left_of};
+ghost use Rattle.std.specs.Prelude.{◌≡◌, All, None, length, vec_len};
+ghost use Rattle.cluster_run.specs.Standing.{Comes, Stands, left_of};
 ghost use Rattle.node_tests.specs.Free.{IsFree};
-ghost use Rattle.turn_lock.specs.Passes.{HoldsNoTurn, IsPassOf, IsSamePass};
 
 use cluster_run::running_jobs::{give_up, step_job, take_job};
 use cluster_run::{Crew, NoGate};
@@ -34,12 +33,8 @@ fn draw_step<V: Versions, R: Wait>(
     drawn: u64,
     hand: Option<HeldJob>,
 ) -> Result<Option<HeldJob>, NoMemory>
-    requires lock { IsPassOf node.now.lock pass.old }
-    requires no_turn { HoldsNoTurn pass.old }
-    requires hand { Has pass.old hand }
-    ensures same { IsSamePass pass.old pass.new }
-    ensures no_turn { HoldsNoTurn pass.new }
-    ensures hand { Has pass.new (left_of result) }
+    requires stands { Stands node.now.lock pass.old hand }
+    ensures comes { Comes pass.old pass.new (left_of result) }
 {
     match hand {
         None => take_job(rt, node, pass, Pick::Nth(drawn)),
@@ -60,12 +55,8 @@ fn let_go<V: Versions, R: Wait>(
     pass: &mut NodePass<V>,
     hand: Option<HeldJob>,
 )
-    requires lock { IsPassOf node.now.lock pass.old }
-    requires no_turn { HoldsNoTurn pass.old }
-    requires hand { Has pass.old hand }
-    ensures same { IsSamePass pass.old pass.new }
-    ensures no_turn { HoldsNoTurn pass.new }
-    ensures hand { HasNone pass.new }
+    requires stands { Stands node.now.lock pass.old hand }
+    ensures comes { Comes pass.old pass.new None }
 {
     if let Some(work) = hand {
         give_up(rt, node, pass, work);

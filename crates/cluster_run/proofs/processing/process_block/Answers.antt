@@ -1,42 +1,24 @@
 use Rattle.std.proofs.Common.{◌∙◌}
-use Rattle.cluster_run.proofs.Following.{same_then}
+use Rattle.cluster_run.proofs.Following.{comes_then, same_then, stands_then}
 use Rattle.cluster_run.proofs.processing.process_block.Goals as goal
 
-pub returns-in_err-deliver_block-clause-same : goal.returns-in_err-deliver_block-clause-same
-returns-in_err-deliver_block-clause-same g c = c.deliver_block.ensures.same
+pub decide_all-requires-clause-stands : goal.decide_all-requires-clause-stands
+decide_all-requires-clause-stands g c κs within = stands_then c.requires.stands c.deliver_block.ensures.comes
 
-pub returns-in_err-deliver_block-clause-no_turn : goal.returns-in_err-deliver_block-clause-no_turn
-returns-in_err-deliver_block-clause-no_turn g c = c.deliver_block.ensures.no_turn
+pub seal_block-requires-clause-stands : goal.seal_block-requires-clause-stands
+seal_block-requires-clause-stands g c κs within = stands_then (stands_then c.requires.stands c.deliver_block.ensures.comes) c.decide_all.ensures.comes
 
-pub returns-in_err-deliver_block-clause-hand : goal.returns-in_err-deliver_block-clause-hand
-returns-in_err-deliver_block-clause-hand g c = c.deliver_block.ensures.hand
+pub returns-in_err-deliver_block-clause-comes : goal.returns-in_err-deliver_block-clause-comes
+returns-in_err-deliver_block-clause-comes g c = c.deliver_block.ensures.comes
 
-pub returns-in_err-decide_all-clause-same : goal.returns-in_err-decide_all-clause-same
-returns-in_err-decide_all-clause-same g c = same_then c.deliver_block.ensures.same c.decide_all.ensures.same
+pub returns-in_err-decide_all-clause-comes : goal.returns-in_err-decide_all-clause-comes
+returns-in_err-decide_all-clause-comes g c = comes_then c.deliver_block.ensures.comes.same c.decide_all.ensures.comes
 
-pub returns-in_err-decide_all-clause-no_turn : goal.returns-in_err-decide_all-clause-no_turn
-returns-in_err-decide_all-clause-no_turn g c = c.decide_all.ensures.no_turn
+pub returns-in_err-seal_block-clause-comes : goal.returns-in_err-seal_block-clause-comes
+returns-in_err-seal_block-clause-comes g c = comes_then (same_then c.deliver_block.ensures.comes.same c.decide_all.ensures.comes.same) c.seal_block.ensures.comes
 
-pub returns-in_err-decide_all-clause-hand : goal.returns-in_err-decide_all-clause-hand
-returns-in_err-decide_all-clause-hand g c = c.decide_all.ensures.hand
-
-pub returns-in_err-seal_block-clause-same : goal.returns-in_err-seal_block-clause-same
-returns-in_err-seal_block-clause-same g c = same_then (same_then c.deliver_block.ensures.same c.decide_all.ensures.same) c.seal_block.ensures.same
-
-pub returns-in_err-seal_block-clause-no_turn : goal.returns-in_err-seal_block-clause-no_turn
-returns-in_err-seal_block-clause-no_turn g c = c.seal_block.ensures.no_turn
-
-pub returns-in_err-seal_block-clause-hand : goal.returns-in_err-seal_block-clause-hand
-returns-in_err-seal_block-clause-hand g c = c.seal_block.ensures.hand
-
-pub returns-clause-same : goal.returns-clause-same
-returns-clause-same g c = same_then (same_then c.deliver_block.ensures.same c.decide_all.ensures.same) c.seal_block.ensures.same
-
-pub returns-clause-no_turn : goal.returns-clause-no_turn
-returns-clause-no_turn g c = c.seal_block.ensures.no_turn
-
-pub returns-clause-hand : goal.returns-clause-hand
-returns-clause-hand g c = c.seal_block.ensures.hand
+pub returns-clause-comes : goal.returns-clause-comes
+returns-clause-comes g c = comes_then (same_then c.deliver_block.ensures.comes.same c.decide_all.ensures.comes.same) c.seal_block.ensures.comes
 
 pub returns-clause-delivers : goal.returns-clause-delivers
 returns-clause-delivers g c = c.in_ok-seal_block.ensures.delivers ∙ (c.decide_all.ensures.blocks.delivered_same ∙ c.in_ok-deliver_block.ensures.delivers)

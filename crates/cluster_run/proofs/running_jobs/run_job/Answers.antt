@@ -1,33 +1,33 @@
 use Rattle.std.proofs.Common.{refl, rules}
-use Rattle.cluster_run.proofs.Following.{blocks_later, blocks_self, same_self, same_then}
+use Rattle.cluster_run.proofs.Following.{blocks_later, blocks_self, same_self, same_then, stands_then}
+use Rattle.cluster_run.specs.Standing.{HasNone}
 use Rattle.cluster_run.proofs.running_jobs.run_job.Goals as goal
 
 pub loop-init : goal.loop-init
-loop-init g c = (same_self c.args.pass.now, c.requires.no_turn, c.requires.hand, (λ zero. blocks_self c.args.pass.now), refl)
+loop-init g c = (record { same = same_self c.args.pass.now; no_turn = c.requires.stands.no_turn; hand = c.requires.stands.hand }, (λ zero. blocks_self c.args.pass.now), refl)
 
-pub returns-in_err-step_job-clause-same : goal.returns-in_err-step_job-clause-same
-returns-in_err-step_job-clause-same g c = same_then c.loop.invariant.0 c.step_job.ensures.same
+pub step_job-requires-clause-stands : goal.step_job-requires-clause-stands
+step_job-requires-clause-stands g c κs within = stands_then c.requires.stands c.loop.invariant.0
 
-pub returns-in_err-step_job-clause-no_turn : goal.returns-in_err-step_job-clause-no_turn
-returns-in_err-step_job-clause-no_turn g c = c.step_job.ensures.no_turn
+pub returns-in_err-step_job-clause-comes : goal.returns-in_err-step_job-clause-comes
+returns-in_err-step_job-clause-comes g c =
+    let none : HasNone c.step_job.new.pass = search rules in
+    record { same = same_then c.loop.invariant.0.same c.step_job.ensures.comes.same; no_turn = c.step_job.ensures.comes.no_turn; hand = none }
 
 pub returns-in_err-step_job-clause-blocks : goal.returns-in_err-step_job-clause-blocks
-returns-in_err-step_job-clause-blocks g c = blocks_later c.loop.invariant.0 c.loop.invariant.3 c.step_job.ensures.blocks
+returns-in_err-step_job-clause-blocks g c = blocks_later c.loop.invariant.0.same c.loop.invariant.1 c.step_job.ensures.blocks
 
-pub returns-in-None-2-clause-same : goal.returns-in-None-2-clause-same
-returns-in-None-2-clause-same g c = same_then c.loop.invariant.0 c.step_job.ensures.same
-
-pub returns-in-None-2-clause-no_turn : goal.returns-in-None-2-clause-no_turn
-returns-in-None-2-clause-no_turn g c = c.step_job.ensures.no_turn
+pub returns-in-None-2-clause-comes : goal.returns-in-None-2-clause-comes
+returns-in-None-2-clause-comes g c =
+    let none : HasNone c.step_job.new.pass = search rules in
+    record { same = same_then c.loop.invariant.0.same c.step_job.ensures.comes.same; no_turn = c.step_job.ensures.comes.no_turn; hand = none }
 
 pub returns-in-None-2-clause-blocks : goal.returns-in-None-2-clause-blocks
-returns-in-None-2-clause-blocks g c = blocks_later c.loop.invariant.0 c.loop.invariant.3 c.step_job.ensures.blocks
+returns-in-None-2-clause-blocks g c = blocks_later c.loop.invariant.0.same c.loop.invariant.1 c.step_job.ensures.blocks
 
 pub loop-preserved : goal.loop-preserved
 loop-preserved g c = (
-  same_then c.loop.invariant.0 c.step_job.ensures.same,
-  c.step_job.ensures.no_turn,
-  search rules,
-  blocks_later c.loop.invariant.0 c.loop.invariant.3 c.step_job.ensures.blocks,
+  record { same = same_then c.loop.invariant.0.same c.step_job.ensures.comes.same; no_turn = c.step_job.ensures.comes.no_turn; hand = search rules },
+  blocks_later c.loop.invariant.0.same c.loop.invariant.1 c.step_job.ensures.blocks,
   search rules,
 )

@@ -1,38 +1,27 @@
 use Rattle.std.proofs.Common.{◌∙◌}
+use Rattle.cluster_run.proofs.Following.{stands_kept, stands_then}
 use Rattle.cluster_run.proofs.threads.process_beside.Goals as goal
 
-pub join_all-requires-clause-lock : goal.join_all-requires-clause-lock
-join_all-requires-clause-lock g c = c.process_all-processed.ensures.same.same_lock ∙ c.requires.lock.0
-
-pub join_all-requires-clause-no_turn : goal.join_all-requires-clause-no_turn
-join_all-requires-clause-no_turn g c = c.process_all-processed.ensures.no_turn
+pub join_all-requires-clause-stands : goal.join_all-requires-clause-stands
+join_all-requires-clause-stands g c = stands_then c.requires.stands c.process_all-processed.ensures.comes
 
 pub join_all-requires-clause-processor : goal.join_all-requires-clause-processor
-join_all-requires-clause-processor g c = c.process_all-processed.ensures.same.same_number ∙ c.requires.processor
-
-pub join_all-requires-clause-hand : goal.join_all-requires-clause-hand
-join_all-requires-clause-hand g c = c.process_all-processed.ensures.hand
+join_all-requires-clause-processor g c = c.process_all-processed.ensures.comes.same.same_number ∙ c.requires.processor
 
 pub join_all-requires-clause-left : goal.join_all-requires-clause-left
-join_all-requires-clause-left g c = c.process_all-processed.ensures.same.same_left ∙ c.requires.left
+join_all-requires-clause-left g c = c.process_all-processed.ensures.comes.same.same_left ∙ c.requires.left
 
 pub join_all-requires-clause-promised : goal.join_all-requires-clause-promised
 join_all-requires-clause-promised g c = c.requires.promised
 
-pub returns-clause-lock : goal.returns-clause-lock
-returns-clause-lock g c = (c.join_all.ensures.same.0.same_lock ∙ (c.process_all-processed.ensures.same.same_lock ∙ c.requires.lock.0), c.join_all.ensures.same.1)
-
-pub returns-clause-processor : goal.returns-clause-processor
-returns-clause-processor g c = (c.join_all.ensures.same.0.same_number ∙ (c.process_all-processed.ensures.same.same_number ∙ c.requires.processor), c.join_all.ensures.left)
-
-pub returns-clause-base : goal.returns-clause-base
-returns-clause-base g c = c.join_all.ensures.same.0.same_base ∙ c.process_all-processed.ensures.same.same_base
-
-pub returns-clause-hand : goal.returns-clause-hand
-returns-clause-hand g c = c.join_all.ensures.hand
-
-pub returns-clause-rests : goal.returns-clause-rests
-returns-clause-rests g c = c.join_all.ensures.blocks.in_work_same ∙ c.in_ok-processed.ensures.rests
-
-pub returns-clause-delivers : goal.returns-clause-delivers
-returns-clause-delivers g c = c.join_all.ensures.blocks.delivered_same ∙ c.in_ok-processed.ensures.delivers
+pub returns : goal.returns
+returns g c = record {
+  processed = record {
+    stands = stands_kept (stands_then c.requires.stands c.process_all-processed.ensures.comes) c.join_all.ensures.keeps;
+    processor = c.join_all.ensures.keeps.same.same_number ∙ (c.process_all-processed.ensures.comes.same.same_number ∙ c.requires.processor);
+    alone = c.join_all.ensures.left;
+    base = c.join_all.ensures.keeps.same.same_base ∙ c.process_all-processed.ensures.comes.same.same_base;
+    rests = c.join_all.ensures.keeps.blocks.in_work_same ∙ c.in_ok-processed.ensures.rests;
+    delivers = c.join_all.ensures.keeps.blocks.delivered_same ∙ c.in_ok-processed.ensures.delivers;
+  };
+}

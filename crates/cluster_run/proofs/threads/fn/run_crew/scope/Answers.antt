@@ -3,13 +3,13 @@ use denote.Param.Send.{IsSend, IsSync, param_send, param_sync, sendable}
 use Rattle.std.specs.Prelude.{vec_items, ◌+◌}
 use Rattle.std.proofs.Common.{ap, rules, subst, sym, ◌∙◌}
 use Rattle.std.proofs.Crossing.{crosses}
-use Rattle.cluster_run.proofs.Forks.{all_snoc, blocks_trans}
-use Rattle.cluster_run.proofs.Following.{holder_then}
+use Rattle.cluster_run.proofs.Following.{keeps_then}
+use Rattle.cluster_run.proofs.Forks.{all_snoc}
 use Rattle.cluster_run.proofs.Sharing.{node_sync, pass_send}
-use Rattle.cluster_run.specs.Standing.{HasNone, SameBlocks}
+use Rattle.cluster_run.specs.Standing.{KeepsBlocks}
 use Rattle.proc_syntax.proofs.call.Block.TheSendSync as block
 use Rattle.proc_syntax.proofs.call.Tx.TheSendSync as tx
-use Rattle.turn_lock.specs.Passes.{HoldsNoTurn, IsSameHolder, made}
+use Rattle.turn_lock.specs.Passes.{made}
 use Rattle.cluster_run.proofs.threads.fn.run_crew.scope.Goals.{in-Err, in-Ok}
 use Rattle.cluster_run.proofs.threads.fn.run_crew.scope.Goals as goal
 
@@ -30,27 +30,20 @@ spawn_with-start-requires-send-T g c κs within =
 
 pub loop-i-preserved : goal.loop-i-preserved
 loop-i-preserved g c =
-    let begun = blocks_trans c.captures.pass c.loop-i.pass c.split_off-other.new.pass c.loop-i.invariant.3 c.split_off-other.ensures.blocks in
-    let held = holder_then c.loop-i.invariant.0 c.split_off-other.ensures.same.0 in
-    let counted = c.split_off-other.ensures.counts.0 ∙ ap (λ n. n + 1) c.loop-i.invariant.4 in
+    let begun = keeps_then c.loop-i.invariant.0 c.split_off-other.ensures.keeps in
+    let counted = c.split_off-other.ensures.counts.0 ∙ ap (λ n. n + 1) c.loop-i.invariant.1 in
     elim c.match-start.branch [
       | in-Ok w ↦ (
-        subst (IsSameHolder c.captures.pass) (sym w.pass-is) held,
-        subst (λ pass. HoldsNoTurn pass) (sym w.pass-is) c.split_off-other.ensures.same.1,
-        subst (λ pass. HasNone pass) (sym w.pass-is) c.split_off-other.ensures.hand,
-        subst (SameBlocks c.captures.pass) (sym w.pass-is) begun,
+        subst (KeepsBlocks c.captures.pass) (sym w.pass-is) begun,
         ap (λ pass. made pass) w.pass-is ∙ counted,
         search rules,
         search rules,
         search rules,
         all_snoc c.loop-i.children.items (vec_items c.match-start.children) w.in-Ok.child (λ child. child.promise.0.value) c.captures.node.now
-            (ap vec_items w.children-is ∙ w.push_reserved.ensures.items) c.loop-i.invariant.8 (ap (λ promise. promise.0.value) w.in-Ok.ensures.ok ∙ c.new.ensures),
+            (ap vec_items w.children-is ∙ w.push_reserved.ensures.items) c.loop-i.invariant.5 (ap (λ promise. promise.0.value) w.in-Ok.ensures.ok ∙ c.new.ensures),
       )
       | in-Err w ↦ (
-        subst (IsSameHolder c.captures.pass) (sym w.pass-is) (holder_then held w.take_back.ensures.same.0),
-        subst (λ pass. HoldsNoTurn pass) (sym w.pass-is) w.take_back.ensures.same.1,
-        subst (λ pass. HasNone pass) (sym w.pass-is) w.take_back.ensures.hand,
-        subst (SameBlocks c.captures.pass) (sym w.pass-is) (blocks_trans c.captures.pass c.split_off-other.new.pass w.take_back.new.pass begun w.take_back.ensures.blocks),
+        subst (KeepsBlocks c.captures.pass) (sym w.pass-is) (keeps_then begun w.take_back.ensures.keeps),
         ap (λ pass. made pass) w.pass-is ∙ (w.take_back.ensures.made ∙ counted),
         search rules,
         search rules,

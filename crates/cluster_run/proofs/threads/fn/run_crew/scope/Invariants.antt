@@ -1,15 +1,12 @@
 use Rattle.std.specs.Prelude.{All, vec_capacity, vec_items, vec_len, ◌≡◌, ◌≤◌}
-use Rattle.cluster_run.specs.Standing.{HasNone, SameBlocks}
-use Rattle.turn_lock.specs.Passes.{HoldsNoTurn, IsSameHolder, left, made}
+use Rattle.cluster_run.specs.Standing.{KeepsBlocks}
+use Rattle.turn_lock.specs.Passes.{left, made}
 use Rattle.cluster_run.proofs.threads.fn.run_crew.scope.Given as goal
 
 -- as many passes are out as threads were started, each of which promises a pass of the node
 abbrev pub invariant-loop-i : goal.invariant-loop-i
 invariant-loop-i g l =
-    IsSameHolder l.initial.pass l.pass
-    × HoldsNoTurn l.pass
-    × HasNone l.pass
-    × SameBlocks l.initial.pass l.pass
+    KeepsBlocks l.initial.pass l.pass
     × (made l.pass ≡ l.i)
     × (left l.pass ≡ vec_len l.children)
     × (l.actors ≤ vec_capacity l.children)
