@@ -1,3 +1,6 @@
 pub mod Spelled
+pub mod Checking
+pub mod Accounts
+pub mod Sounding
 pub mod Stepping
 pub mod Listing
