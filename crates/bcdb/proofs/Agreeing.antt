@@ -12,7 +12,7 @@ use Rattle.bcdb.specs.Sources.{run_sources, simulation_sources}
 use Rattle.bcdb.specs.Refusals.{refusal_line}
 use Rattle.bcdb.specs.declared.refusal.Refusal.{Refusal}
 use Rattle.chain_file.specs.Chain.{chain}
-use Rattle.cli_words.specs.declared.settings.Settings.TheVariants.{Checkpoint, Compare, Load, Order, Provenance, Prove, Run, Seal, Simulate, Verify}
+use Rattle.cli_words.specs.declared.settings.Settings.TheVariants.{Checkpoint, Compare, Load, Order, Provenance, Prove, Query, Run, Seal, Simulate, Verify}
 use Rattle.cli_words.specs.declared.settings.Settings.{Settings}
 use Rattle.edge_traits.specs.Shelf.{Files}
 use Rattle.node_model.specs.Fold.{all_rows, node_result, results_of}
@@ -83,6 +83,7 @@ as_run (Some (Checkpoint app blocks heads)) files = tt
 as_run (Some (Compare prefix count)) files = tt
 as_run (Some (Prove app blocks block write)) files = tt
 as_run (Some (Verify proof head)) files = tt
+as_run (Some (Query app blocks height text)) files = tt
 
 pub told_as_run : (settings : Option Settings) (told : Option Files) → IfSome told (AnswersAsRun settings)
 told_as_run settings None = tt

@@ -8,6 +8,7 @@ pub mod Taken
 pub mod Orders
 pub mod Simulated
 pub mod Arriving
+pub mod Asked
 pub mod Long
 pub mod Planning
 pub mod Leaves
@@ -22,3 +23,4 @@ pub mod FewWrites
 pub mod Digests
 pub mod Verifications
 pub mod Numbered
+pub mod Sooner

@@ -9,7 +9,7 @@ use Rattle.bcdb.specs.declared.refusal.Refusal.{Refusal}
 use Rattle.chain_file.proofs.Counted.{file_numbered}
 use Rattle.chain_file.specs.Chain.{chain}
 use Rattle.chain_file.specs.Numbered.{NumberedFrom}
-use Rattle.cli_words.specs.declared.settings.Settings.TheVariants.{Checkpoint, Compare, Load, Order, Provenance, Prove, Run, Seal, Simulate, Verify}
+use Rattle.cli_words.specs.declared.settings.Settings.TheVariants.{Checkpoint, Compare, Load, Order, Provenance, Prove, Query, Run, Seal, Simulate, Verify}
 use Rattle.cli_words.specs.declared.settings.Settings.{Settings}
 use Rattle.edge_traits.specs.Shelf.{Files}
 use Rattle.node_model.specs.Fold.{results_of}
@@ -69,6 +69,7 @@ runs_in_order (Some (Checkpoint app blocks heads)) files = tt
 runs_in_order (Some (Compare prefix count)) files = tt
 runs_in_order (Some (Prove app blocks block write)) files = tt
 runs_in_order (Some (Verify proof head)) files = tt
+runs_in_order (Some (Query app blocks height text)) files = tt
 
 pub told_in_order : (settings : Option Settings) (told : Option Files) → IfSome told (RunsInOrder settings)
 told_in_order settings None = tt

@@ -2,7 +2,9 @@
 use Rattle.std.proofs.Common.{Bool, IfSome, List, None, Option, Some, [], ap, cond, false, inl, inr, refl, subst, suc, sym, true, zero, ◌+◌, ◌∙◌, ◌≡◌, ◌≤◌, ◌⊎◌, ℕ}
 use Rattle.std.proofs.lemmas.Bool.{le-leb, leb-true}
 use Rattle.std.specs.Prelude.{Err, IsOk, IsSome, Ok, Result}
+use Rattle.std.specs.Result.{is_ok}
 use Rattle.bcdb.proofs.Ends.{ends_refused, ends_short}
+use Rattle.bcdb.proofs.Loads.{load_accepted}
 use Rattle.bcdb.proofs.Planning.{all_sound, both_sound, first_sound, rest_sound, sound_all}
 use Rattle.bcdb.specs.Accepted.{accepted}
 use Rattle.bcdb.specs.Answer.{Writes, over_settings, read_refused, usage_refused}
@@ -15,6 +17,7 @@ use Rattle.bcdb.specs.PeerFiles.{all_digests, digests_before, digests_read}
 use Rattle.bcdb.specs.Plan.{AppFile, AreSound, BlocksFile, RoseAt, RoseIn, ScheduleFile, arrivals_plan, digests_plan, plan_from_arrivals, plan_from_schedule, plan_of, planned, planned_if, sources_plan}
 use Rattle.bcdb.specs.ProgramAnswer.{ProgramAnswer, look_of, says, status_of}
 use Rattle.bcdb.specs.Refusals.{order_refusal}
+use Rattle.bcdb.specs.RowsAnswer.{rows_asked, over_ask, over_rows}
 use Rattle.bcdb.specs.RunAnswer.{over_nodes, over_run}
 use Rattle.bcdb.specs.SealAnswer.{sealed}
 use Rattle.bcdb.specs.Selected.{selected}
@@ -23,7 +26,7 @@ use Rattle.bcdb.specs.Sources.{query_sources, run_sources, simulation_sources, s
 use Rattle.bcdb.specs.Traced.{EndsTraced, followed_by}
 use Rattle.bcdb.specs.VerificationAnswer.{over_shown, proof_read}
 use Rattle.bcdb.specs.VersionsAnswer.{over_query, over_versions}
-use Rattle.bcdb.specs.Whole.{Extracts, IsWhole, SealsAll, Selects}
+use Rattle.bcdb.specs.Whole.{Extracts, IsAnswered, IsWhole, SealsAll, Selects}
 use Rattle.bcdb.specs.declared.extract.Extract.TheVariants as extract
 use Rattle.bcdb.specs.declared.extract.Extract.TheVariants.{Hashes}
 use Rattle.bcdb.specs.declared.extract.Extract.{Extract}
@@ -38,7 +41,7 @@ use Rattle.chain_file.specs.Headers.{version_of}
 use Rattle.chain_file.specs.declared.form.ChainVersion.{ChainVersion}
 use Rattle.cli_words.specs.declared.settings.WordsFault.TheVariants as fault
 use Rattle.cli_words.specs.declared.settings.WordsFault.{WordsFault}
-use Rattle.cli_words.specs.declared.settings.Settings.TheVariants.{Checkpoint, Compare, Load, Order, Provenance, Prove, Run, Seal, Simulate, Verify}
+use Rattle.cli_words.specs.declared.settings.Settings.TheVariants.{Checkpoint, Compare, Load, Order, Provenance, Prove, Query, Run, Seal, Simulate, Verify}
 use Rattle.cli_words.specs.declared.settings.Settings.{Settings}
 use Rattle.edge_traits.specs.Causes.{Counts}
 use Rattle.edge_traits.specs.Shelf.{Files}
@@ -53,8 +56,10 @@ use Rattle.proc_syntax.specs.declared.chain_fault.ChainFault.{ChainFault}
 use Rattle.proc_syntax.specs.declared.tree.App.{App}
 use Rattle.provenance.specs.Grammar.{query_of}
 use Rattle.provenance.specs.declared.query.QueryFault.{QueryFault}
+use Rattle.query_plan.specs.declared.fault.AskFault.{AskFault}
 use Rattle.rel_base.specs.declared.access.Placed.{Placed}
 use Rattle.rel_base.specs.declared.schema.TableDef.{TableDef}
+use Rattle.rel_base.specs.declared.value.Value.{Value}
 use Rattle.report_text.specs.declared.look.Look.{Look}
 use Rattle.schedule_sim.specs.Running.{simulated}
 use Rattle.schedule_sim.specs.declared.step.Step.{Step}
@@ -196,6 +201,14 @@ verification_done : (head : List ℕ) (found : Result (Placed × Proof) ℕ) →
 verification_done head (Err line) ok = absurd (cc)
 verification_done head (Ok said) ok = refl
 
+rows_done : (stop : Option ChainFault) (rows : Result (List (List Value)) AskFault) → stop ≡ None → IsOk rows → (over_rows stop rows).status ≡ Done
+rows_done stop (Err fault) faultless ok = absurd (cc)
+rows_done stop (Ok rows) faultless ok = ap status_of faultless
+
+ask_done : (height : ℕ) (text : List ℕ) (found : Result App Refusal) (bytes : List ℕ) → (chain bytes).1 ≡ None → IsAnswered height text found bytes → (over_ask height text found bytes).status ≡ Done
+ask_done height text (Err refusal) bytes faultless is = absurd is
+ask_done height text (Ok app) bytes faultless is = rows_done (chain bytes).1 (rows_asked height text app (chain bytes).0) faultless is
+
 pub whole_done : (settings : Option Settings) (files : Files) → IsWhole settings files → (over_settings settings files).status ≡ Done
 whole_done None files whole = absurd whole.1
 whole_done (Some (Run app blocks arrivals nodes executors flags)) files whole =
@@ -210,7 +223,7 @@ whole_done (Some (Provenance app blocks query)) files whole =
     let all = all_of (query_sources app blocks) files whole.0 in
     query_done query (accepted (files app)) (files blocks) all.blocks whole.1
 whole_done (Some (Seal blocks)) files whole = sealed_done (version_of (files blocks)) (chain (files blocks)).0 (chain (files blocks)).1 whole.0.0
-whole_done (Some (Load number)) files whole = load_done number (accepted app_text) whole.1
+whole_done (Some (Load number)) files whole = load_done number (accepted app_text) (ap is_ok load_accepted)
 whole_done (Some (Order clients count most)) files whole = order_done most (all_arrived (Some clients) 1 count files) whole.1
 whole_done (Some (Checkpoint app blocks heads)) files whole =
     let all = all_of (query_sources app blocks) files whole.0 in
@@ -220,6 +233,9 @@ whole_done (Some (Prove app blocks block write)) files whole =
     let all = all_of (query_sources app blocks) files whole.0 in
     extract_done (extract.Proof block write) (accepted (files app)) (files blocks) all.blocks whole.1
 whole_done (Some (Verify proof head)) files whole = verification_done head (proof_read (files proof)) whole.0.0
+whole_done (Some (Query app blocks height text)) files whole =
+    let all = all_of (query_sources app blocks) files whole.0 in
+    ask_done height text (accepted (files app)) (files blocks) all.blocks whole.1
 
 -- ---- and only there
 
@@ -276,10 +292,6 @@ done_sealed : (version : Option ChainVersion) (blocks : List Block) (stop : Opti
 done_sealed version blocks None is = refl
 done_sealed version blocks (Some fault) is = absurd (cc)
 
-done_load : (number : ℕ) (found : Result App Refusal) → (over_load number found).status ≡ Done → IsOk found
-done_load number (Err refusal) is = absurd (cc)
-done_load number (Ok app) is = refl
-
 few_done : (clients : List (List Tx)) (most : ℕ) (few : Bool) → is_few clients most ≡ few → (cond few (says Done []) (says OrderRefused (order_refusal (blocks_needed clients most)))).status ≡ Done
     → blocks_needed clients most ≤ 1000000
 few_done clients most true e is = leb-true (blocks_needed clients most) 1000000 e
@@ -312,6 +324,15 @@ extract_whole wanted app blocks files is =
     let done = done_extract wanted (accepted (files app)) (files blocks) is in
     (of_all (query_sources app blocks) files (record { app = done.0; arrivals = refl; schedule = refl; blocks = done.1.0 }), done.1.1)
 
+done_rows : (stop : Option ChainFault) (rows : Result (List (List Value)) AskFault) → (over_rows stop rows).status ≡ Done → (stop ≡ None) × IsOk rows
+done_rows stop (Err fault) is = absurd (cc)
+done_rows stop (Ok rows) is = (no_stop stop is, refl)
+
+done_ask : (height : ℕ) (text : List ℕ) (found : Result App Refusal) (bytes : List ℕ) → (over_ask height text found bytes).status ≡ Done
+    → IsOk found × (((chain bytes).1 ≡ None) × IsAnswered height text found bytes)
+done_ask height text (Err refusal) bytes is = absurd (cc)
+done_ask height text (Ok app) bytes is = (refl, done_rows (chain bytes).1 (rows_asked height text app (chain bytes).0) is)
+
 pub done_whole : (settings : Option Settings) (files : Files) → (over_settings settings files).status ≡ Done → IsWhole settings files
 done_whole None files is = absurd (cc)
 done_whole (Some (Run app blocks arrivals nodes executors flags)) files is =
@@ -326,7 +347,7 @@ done_whole (Some (Provenance app blocks query)) files is =
     let done = done_query query (accepted (files app)) (files blocks) is in
     (of_all (query_sources app blocks) files (record { app = done.0; arrivals = refl; schedule = refl; blocks = done.1.0 }), done.1.1)
 done_whole (Some (Seal blocks)) files is = ((done_sealed (version_of (files blocks)) (chain (files blocks)).0 (chain (files blocks)).1 is, tt), tt)
-done_whole (Some (Load number)) files is = (tt, done_load number (accepted app_text) is)
+done_whole (Some (Load number)) files is = (tt, tt)
 done_whole (Some (Order clients count most)) files is =
     let done = done_order most (all_arrived (Some clients) 1 count files) is in
     (all_sound (Some clients) 1 count files done.0, done.1)
@@ -334,6 +355,9 @@ done_whole (Some (Checkpoint app blocks heads)) files is = extract_whole (Hashes
 done_whole (Some (Compare prefix count)) files is = (digests_sound prefix 1 count files (done_comparison (all_digests prefix 1 count files) is), tt)
 done_whole (Some (Prove app blocks block write)) files is = extract_whole (extract.Proof block write) app blocks files is
 done_whole (Some (Verify proof head)) files is = ((done_verification head (proof_read (files proof)) is, tt), tt)
+done_whole (Some (Query app blocks height text)) files is =
+    let done = done_ask height text (accepted (files app)) (files blocks) is in
+    (of_all (query_sources app blocks) files (record { app = done.0; arrivals = refl; schedule = refl; blocks = done.1.0 }), done.1.1)
 
 -- ---- how a call ends
 

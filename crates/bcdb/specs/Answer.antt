@@ -8,6 +8,7 @@ use Rattle.bcdb.specs.LoadAnswer.{over_load}
 use Rattle.bcdb.specs.OrderAnswer.{over_order}
 use Rattle.bcdb.specs.PeerFiles.{all_digests}
 use Rattle.bcdb.specs.ProgramAnswer.{ProgramAnswer, look_of, says}
+use Rattle.bcdb.specs.RowsAnswer.{over_ask}
 use Rattle.bcdb.specs.RunAnswer.{over_run}
 use Rattle.bcdb.specs.SealAnswer.{sealed}
 use Rattle.bcdb.specs.SimulationAnswer.{over_simulation}
@@ -20,7 +21,7 @@ use Rattle.bcdb.specs.declared.status.Status.{Status}
 use Rattle.chain_file.specs.Chain.{chain}
 use Rattle.chain_file.specs.Headers.{version_of}
 use Rattle.cli_words.specs.Language.{settings_of}
-use Rattle.cli_words.specs.declared.settings.Settings.TheVariants.{Checkpoint, Compare, Load, Order, Provenance, Prove, Run, Seal, Simulate, Verify}
+use Rattle.cli_words.specs.declared.settings.Settings.TheVariants.{Checkpoint, Compare, Load, Order, Provenance, Prove, Query, Run, Seal, Simulate, Verify}
 use Rattle.cli_words.specs.declared.settings.Settings.{Settings}
 use Rattle.edge_traits.specs.Shelf.{Files}
 use Rattle.edge_traits.specs.Sink.{WroteFront, appended}
@@ -44,6 +45,7 @@ over_settings (Some (Checkpoint app blocks heads)) files = over_extract (Hashes 
 over_settings (Some (Compare prefix count)) files = over_comparison (all_digests prefix 1 count files)
 over_settings (Some (Prove app blocks block write)) files = over_extract (Proof block write) (accepted (files app)) (files blocks)
 over_settings (Some (Verify proof head)) files = over_verification head (files proof)
+over_settings (Some (Query app blocks height text)) files = over_ask height text (accepted (files app)) (files blocks)
 
 -- what the words mean over files
 abbrev pub answer : List (List ℕ) → Files → ProgramAnswer

@@ -19,6 +19,7 @@ pub mod ProgramAnswer
 pub mod Reading
 pub mod Refusals
 pub mod Reply
+pub mod RowsAnswer
 pub mod RunAnswer
 pub mod SealAnswer
 pub mod Selected

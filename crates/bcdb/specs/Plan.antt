@@ -11,7 +11,7 @@ use Rattle.bcdb.specs.declared.fault.FilesFault.TheVariants as fault
 use Rattle.bcdb.specs.declared.fault.FilesFault.{FilesFault}
 use Rattle.bcdb.specs.declared.sources.Sources.{Sources}
 use Rattle.chain_file.specs.Chain.{chain, lasting}
-use Rattle.cli_words.specs.declared.settings.Settings.TheVariants.{Checkpoint, Compare, Load, Order, Provenance, Prove, Run, Seal, Simulate, Verify}
+use Rattle.cli_words.specs.declared.settings.Settings.TheVariants.{Checkpoint, Compare, Load, Order, Provenance, Prove, Query, Run, Seal, Simulate, Verify}
 use Rattle.cli_words.specs.declared.settings.Settings.{Settings}
 use Rattle.edge_traits.specs.Causes.{AllowsFront, Counts, Leave, Rose}
 use Rattle.edge_traits.specs.Shelf.{Files}
@@ -86,6 +86,7 @@ plan_of (Some (Checkpoint app blocks heads)) = sources_plan (query_sources app b
 plan_of (Some (Compare files count)) = digests_plan files 1 count
 plan_of (Some (Prove app blocks block write)) = sources_plan (query_sources app blocks)
 plan_of (Some (Verify proof head)) = planned ProofFile proof
+plan_of (Some (Query app blocks height text)) = sources_plan (query_sources app blocks)
 
 -- each file is what it must be
 abbrev pub AreSound : List PlannedFile → Files → Type 0

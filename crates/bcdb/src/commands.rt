@@ -5,6 +5,7 @@ ghost use Rattle.bcdb.specs.Reply.{is_answer};
 ghost use Rattle.bcdb.specs.Traced.{Replies};
 ghost use Rattle.cli_words.specs.Language.{AreWithin};
 
+use crate::asking::{Question, answer_ask};
 use crate::comparing::answer_comparison;
 use crate::extract::Extract;
 use crate::extracting::answer_extract;
@@ -109,6 +110,22 @@ pub fn reply_to<R: Threads + Wait + Sync, S: Shelf, G: Gate>(
         }
         Settings::Verify { proof, head } => {
             answer_verification(alloc, shelf, proof.as_str(), &head)
+        }
+        Settings::Query {
+            app,
+            blocks,
+            height,
+            text,
+        } => {
+            let asked = Sources::of_query(app, blocks);
+            let question = Question {
+                height,
+                text: text.as_str(),
+            };
+            let reply = answer_ask(alloc, shelf, &asked, question);
+            drop(asked);
+            drop(text);
+            reply
         }
     }
 }

@@ -10,8 +10,8 @@ ghost use Rattle.load_gen.specs.Application.{app_text};
 ghost use Rattle.node_model.specs.Fold.{node_result};
 ghost use Rattle.report_text.specs.Summary.{summary_text};
 
-use crate::application::{AppFault, read_application};
-use crate::reply::{Reply, refuse_app};
+use crate::application::read_application;
+use crate::reply::Reply;
 use crate::status::Status;
 use cluster_run::{Gate, run_cluster};
 use load_gen::{Load, generate};
@@ -61,7 +61,7 @@ fn run_load<R: Threads + Wait + Sync, G: Gate>(
     })
 }
 
-/// The reply to the load of a number. Its application is read as that of a file.
+/// The reply to the load of a number. Its application is read as that of a file, and never refused.
 #[tactic(auto, using(crate::proofs::Loads::loads_numbered))]
 pub fn answer_load<R: Threads + Wait + Sync, G: Gate>(
     rt: &R,
@@ -79,11 +79,8 @@ pub fn answer_load<R: Threads + Wait + Sync, G: Gate>(
             drop(load);
             reply
         }
-        Err(AppFault::Refused(refusal)) => {
-            drop(load);
-            refuse_app(alloc, refusal)
-        }
-        Err(AppFault::NoMemory) => {
+        // The application of a load is accepted, so memory ran out.
+        Err(_) => {
             drop(load);
             Err(NoMemory)
         }

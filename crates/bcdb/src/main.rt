@@ -5,6 +5,7 @@
 
 pub mod application;
 pub mod arrivals;
+pub mod asking;
 pub mod blocks;
 pub mod commands;
 pub mod comparing;

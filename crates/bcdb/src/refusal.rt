@@ -2,10 +2,13 @@
 
 ghost use Rattle.std.specs.Prelude.{◌≡◌, ◌++◌, IfOk, OnOk};
 ghost use Rattle.bcdb.specs.Refusals.{arrivals_refusal, digests_refusal, fault_text, kind_text, numbered_refusal, order_refusal, place_text, proof_refusal, query_refusal, refusal_line, schedule_refusal, short_refusal};
+ghost use Rattle.bcdb.specs.RowsAnswer.{ask_refusal};
 
 use literals::push_number;
 use proc_check::BadKind;
 use provenance::QueryFault;
+use query_plan::AskFault;
+use query_text::fault_name;
 use rel_base::{List, NoMemory};
 use std::alloc::Global;
 
@@ -112,6 +115,16 @@ pub fn query_refusal(alloc: Global, fault: QueryFault) -> Result<List<u8>, NoMem
 {
     let mut out = b"refused query ".to_vec(alloc)?;
     push(&mut out, fault_text(fault))?;
+    push(&mut out, b"\n")?;
+    Ok(List::from_vec(out))
+}
+
+/// The line that says why a query of the tables is refused.
+pub fn ask_refusal(alloc: Global, fault: AskFault) -> Result<List<u8>, NoMemory>
+    ensures { IfOk result (λ bytes. bytes ≡ ask_refusal fault) }
+{
+    let mut out = b"refused query ".to_vec(alloc)?;
+    push(&mut out, fault_name(fault).as_bytes())?;
     push(&mut out, b"\n")?;
     Ok(List::from_vec(out))
 }

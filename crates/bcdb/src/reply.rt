@@ -4,18 +4,20 @@ ghost use Rattle.std.specs.Prelude.{◌≡◌, ◌++◌, IfOk, OnOk, true};
 ghost use Rattle.bcdb.specs.ProgramAnswer.{look_of, says, status_of};
 ghost use Rattle.bcdb.specs.Refusals.{arrivals_refusal, digests_refusal, order_refusal, proof_refusal, query_refusal, refusal_line, schedule_refusal, short_refusal};
 ghost use Rattle.bcdb.specs.Reply.{Means, is_answer};
+ghost use Rattle.bcdb.specs.RowsAnswer.{ask_refusal};
 ghost use Rattle.report_text.specs.Ending.{end_line};
 ghost use Rattle.report_text.specs.Report.{report_text};
 
 use crate::refusal::{
-    BadArrivals, BadDigests, Refusal, arrivals_refusal, digests_refusal, order_refusal,
-    proof_refusal, query_refusal, refusal_line, schedule_refusal, short_refusal,
+    BadArrivals, BadDigests, Refusal, arrivals_refusal, ask_refusal, digests_refusal,
+    order_refusal, proof_refusal, query_refusal, refusal_line, schedule_refusal, short_refusal,
 };
 use crate::status::Status;
 use cli_words::Flags;
 use node_model::NodeResult;
 use proc_syntax::ChainFault;
 use provenance::QueryFault;
+use query_plan::AskFault;
 use rel_base::{List, NoMemory, TableDef};
 use report_text::{Look, report, stopped_line};
 use std::alloc::Global;
@@ -115,6 +117,18 @@ pub fn refuse_query(alloc: Global, fault: QueryFault) -> Result<Reply, NoMemory>
     ensures kind { IfOk result (λ reply. is_answer reply.status ≡ true) }
 {
     let bytes = query_refusal(alloc, fault)?;
+    Ok(Reply {
+        status: Status::QueryRefused,
+        bytes,
+    })
+}
+
+/// The reply that refuses a query of the tables.
+pub fn refuse_ask(alloc: Global, fault: AskFault) -> Result<Reply, NoMemory>
+    ensures means { IfOk result (λ reply. Means (says Status.QueryRefused (ask_refusal fault)) reply) }
+    ensures kind { IfOk result (λ reply. is_answer reply.status ≡ true) }
+{
+    let bytes = ask_refusal(alloc, fault)?;
     Ok(Reply {
         status: Status::QueryRefused,
         bytes,

@@ -19,17 +19,17 @@ front_item [] back i inside = absurd (omega (arith, inside))
 front_item (x ∷ front) back zero inside = refl
 front_item (x ∷ front) back (suc i) inside = front_item front back i (omega (arith, inside))
 
-fold_append : (app : App) (chain : List SealedBlock) (xs ys : List Block) → fold_from app chain (xs ++ ys) ≡ fold_from app (fold_from app chain xs) ys
+pub fold_append : (app : App) (chain : List SealedBlock) (xs ys : List Block) → fold_from app chain (xs ++ ys) ≡ fold_from app (fold_from app chain xs) ys
 fold_append app chain [] ys = refl
 fold_append app chain (x ∷ xs) ys = fold_append app (chain ++ seal app chain x ∷ []) xs ys
 
-fold_grows : (app : App) (chain : List SealedBlock) (blocks : List Block) → (more : List SealedBlock) × (fold_from app chain blocks ≡ chain ++ more)
+pub fold_grows : (app : App) (chain : List SealedBlock) (blocks : List Block) → (more : List SealedBlock) × (fold_from app chain blocks ≡ chain ++ more)
 fold_grows app chain [] = ([], sym (append-nil chain))
 fold_grows app chain (block ∷ blocks) =
     let rest = fold_grows app (chain ++ seal app chain block ∷ []) blocks in
     (seal app chain block ∷ rest.0, rest.1 ∙ append_assoc chain (seal app chain block ∷ []) rest.0)
 
-fold_length : (app : App) (chain : List SealedBlock) (blocks : List Block) → length (fold_from app chain blocks) ≡ length chain + length blocks
+pub fold_length : (app : App) (chain : List SealedBlock) (blocks : List Block) → length (fold_from app chain blocks) ≡ length chain + length blocks
 fold_length app chain [] = omega arith
 fold_length app chain (block ∷ blocks) =
     let rest = fold_length app (chain ++ seal app chain block ∷ []) blocks in let one = length-append chain (seal app chain block ∷ []) in omega (arith, rest, one)
@@ -39,7 +39,7 @@ results_append : (tables : List TableDef) (previous : List ℕ) (xs ys : List Se
 results_append tables previous [] ys = refl
 results_append tables previous (x ∷ xs) ys = ap (λ rest. block_result tables previous x ∷ rest) (results_append tables (block_result tables previous x).digest xs ys)
 
-results_length : (tables : List TableDef) (previous : List ℕ) (chain : List SealedBlock) → length (results_from tables previous chain) ≡ length chain
+pub results_length : (tables : List TableDef) (previous : List ℕ) (chain : List SealedBlock) → length (results_from tables previous chain) ≡ length chain
 results_length tables previous [] = refl
 results_length tables previous (block ∷ chain) = ap suc (results_length tables (block_result tables previous block).digest chain)
 

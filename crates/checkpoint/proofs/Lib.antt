@@ -1,3 +1,3 @@
 mod Filed
-mod Folding
+pub mod Folding
 mod Majorities

@@ -5,7 +5,7 @@ use Rattle.std.specs.List.{find, list_all}
 use Rattle.std.proofs.lemmas.Bool.{and_parts}
 use Rattle.std.proofs.lemmas.Slice.Eq.{bytes_eq-Decides}
 use Rattle.cli_words.specs.declared.command.Command.{Command}
-use Rattle.cli_words.specs.declared.command.Command.TheVariants.{Run, Simulate, Provenance, Seal, Load, Order, Checkpoint, Compare, Prove, Verify}
+use Rattle.cli_words.specs.declared.command.Command.TheVariants.{Run, Simulate, Provenance, Seal, Load, Order, Checkpoint, Compare, Prove, Verify, Query}
 use Rattle.cli_words.specs.declared.options.CommandOption.{CommandOption}
 use Rattle.cli_words.specs.declared.options.CommandOption.TheVariants as option
 use Rattle.cli_words.specs.Table.{command_of, command_word, commands, is_same, option_of, options, word_of}
@@ -32,6 +32,7 @@ command_back Checkpoint = refl
 command_back Compare = refl
 command_back Prove = refl
 command_back Verify = refl
+command_back Query = refl
 
 pub named_command : (word : List ℕ) (command : Command) → command_of word ≡ Some command → word ≡ command_word command
 named_command word command e = sym (equal_bytes (command_word command) word (find_true (λ other. bytes_eq (command_word other) word) commands command e))
@@ -51,6 +52,8 @@ option_back option.Block = refl
 option_back option.Write = refl
 option_back option.Proof = refl
 option_back option.Head = refl
+option_back option.Height = refl
+option_back option.Text = refl
 option_back option.Nodes = refl
 option_back option.Executors = refl
 option_back option.Orders = refl
@@ -88,10 +91,12 @@ of_each test all option.Block = in_list test (take 10 options) (drop 11 options)
 of_each test all option.Write = in_list test (take 11 options) (drop 12 options) option.Write all
 of_each test all option.Proof = in_list test (take 12 options) (drop 13 options) option.Proof all
 of_each test all option.Head = in_list test (take 13 options) (drop 14 options) option.Head all
-of_each test all option.Nodes = in_list test (take 14 options) (drop 15 options) option.Nodes all
-of_each test all option.Executors = in_list test (take 15 options) (drop 16 options) option.Executors all
-of_each test all option.Orders = in_list test (take 16 options) (drop 17 options) option.Orders all
-of_each test all option.Digests = in_list test (take 17 options) (drop 18 options) option.Digests all
-of_each test all option.Heads = in_list test (take 18 options) (drop 19 options) option.Heads all
-of_each test all option.Json = in_list test (take 19 options) (drop 20 options) option.Json all
-of_each test all option.Trace = in_list test (take 20 options) (drop 21 options) option.Trace all
+of_each test all option.Height = in_list test (take 14 options) (drop 15 options) option.Height all
+of_each test all option.Text = in_list test (take 15 options) (drop 16 options) option.Text all
+of_each test all option.Nodes = in_list test (take 16 options) (drop 17 options) option.Nodes all
+of_each test all option.Executors = in_list test (take 17 options) (drop 18 options) option.Executors all
+of_each test all option.Orders = in_list test (take 18 options) (drop 19 options) option.Orders all
+of_each test all option.Digests = in_list test (take 19 options) (drop 20 options) option.Digests all
+of_each test all option.Heads = in_list test (take 20 options) (drop 21 options) option.Heads all
+of_each test all option.Json = in_list test (take 21 options) (drop 22 options) option.Json all
+of_each test all option.Trace = in_list test (take 22 options) (drop 23 options) option.Trace all

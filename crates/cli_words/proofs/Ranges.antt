@@ -78,6 +78,7 @@ made_within command.Checkpoint items sound = tt
 made_within command.Compare items sound = clients_in items sound
 made_within command.Prove items sound = tt
 made_within command.Verify items sound = tt
+made_within command.Query items sound = tt
 
 -- the settings that words say
 pub settings_within : (words : List (List ℕ)) (settings : Settings) → settings_of words ≡ Some settings → AreWithin settings

@@ -37,6 +37,8 @@ other_than option.Block = inl refl
 other_than option.Write = inl refl
 other_than option.Proof = inl refl
 other_than option.Head = inl refl
+other_than option.Height = inl refl
+other_than option.Text = inl refl
 other_than option.Nodes = inl refl
 other_than option.Executors = inl refl
 other_than option.Orders = inl refl
@@ -128,6 +130,7 @@ by_command words command.Checkpoint items blocks spelled line same = absurd (cc)
 by_command words command.Compare items blocks spelled line same = absurd (cc)
 by_command words command.Prove items blocks spelled line same = absurd (cc)
 by_command words command.Verify items blocks spelled line same = absurd (cc)
+by_command words command.Query items blocks spelled line same = absurd (cc)
 
 pub only_seals : (words : List (List ℕ)) (blocks : List ℕ) → settings_of words ≡ Some (Seal blocks) → IsSeal words blocks
 only_seals words blocks e =

@@ -17,7 +17,7 @@ use Rattle.cli_words.specs.declared.options.Takes.TheVariants.{Nothing, Text, Nu
 use Rattle.cli_words.specs.declared.options.Use.{Use}
 use Rattle.cli_words.specs.declared.options.Use.TheVariants.{No, May, Must}
 use Rattle.cli_words.specs.declared.settings.Settings.{Settings}
-use Rattle.cli_words.specs.declared.settings.Settings.TheVariants.{Run, Simulate, Provenance, Seal, Load, Order, Checkpoint, Compare, Prove, Verify}
+use Rattle.cli_words.specs.declared.settings.Settings.TheVariants.{Run, Simulate, Provenance, Seal, Load, Order, Checkpoint, Compare, Prove, Verify, Query}
 
 -- the words of a `&[&str]`
 abbrev pub texts : List (Bor (List ℕ)) → List (List ℕ)
@@ -175,6 +175,8 @@ made command.Compare values = Compare (text_or_none (values option.Files)) (numb
 made command.Prove values =
     Prove (text_or_none (values option.App)) (text_or_none (values option.Blocks)) (number_or 0 (values option.Block)) (number_or 0 (values option.Write))
 made command.Verify values = Verify (text_or_none (values option.Proof)) (hash_or_zeros (values option.Head))
+made command.Query values =
+    Query (text_or_none (values option.App)) (text_or_none (values option.Blocks)) (number_or 0 (values option.Height)) (text_or_none (values option.Text))
 
 -- what a command and the words after it come to
 abbrev pub settled : Option Command → List (List ℕ) → Option Settings

@@ -2,7 +2,7 @@
 use Rattle.std.specs.Prelude.{ℕ, ◌-◌, ◌^◌, List, [], ◌∷◌, Bool, cond, Option, codes, bytes_eq}
 use Rattle.std.specs.List.{find, list_any}
 use Rattle.cli_words.specs.declared.command.Command.{Command}
-use Rattle.cli_words.specs.declared.command.Command.TheVariants.{Run, Simulate, Provenance, Seal, Load, Order, Checkpoint, Compare, Prove, Verify}
+use Rattle.cli_words.specs.declared.command.Command.TheVariants.{Run, Simulate, Provenance, Seal, Load, Order, Checkpoint, Compare, Prove, Verify, Query}
 use Rattle.cli_words.specs.declared.options.CommandOption.{CommandOption}
 use Rattle.cli_words.specs.declared.options.CommandOption.TheVariants as option
 use Rattle.cli_words.specs.declared.options.Takes.{Takes}
@@ -23,9 +23,10 @@ command_word Checkpoint = codes "checkpoint"
 command_word Compare = codes "compare"
 command_word Prove = codes "prove"
 command_word Verify = codes "verify"
+command_word Query = codes "query"
 
 abbrev pub commands : List Command
-commands = Run ∷ Simulate ∷ Provenance ∷ Seal ∷ Load ∷ Order ∷ Checkpoint ∷ Compare ∷ Prove ∷ Verify ∷ []
+commands = Run ∷ Simulate ∷ Provenance ∷ Seal ∷ Load ∷ Order ∷ Checkpoint ∷ Compare ∷ Prove ∷ Verify ∷ Query ∷ []
 
 -- the command that a word names
 abbrev pub command_in : List Command → List ℕ → Option Command
@@ -47,8 +48,8 @@ abbrev rule : List ℕ → Takes → List Command → List Command → Rule
 rule word takes needed optional = record { word = word; takes = takes; needed = needed; optional = optional }
 
 abbrev pub rule_of : CommandOption → Rule
-rule_of option.App = rule (codes "--app") Text (Run ∷ Simulate ∷ Provenance ∷ Checkpoint ∷ Prove ∷ []) []
-rule_of option.Blocks = rule (codes "--blocks") Text (Run ∷ Simulate ∷ Provenance ∷ Seal ∷ Checkpoint ∷ Prove ∷ []) []
+rule_of option.App = rule (codes "--app") Text (Run ∷ Simulate ∷ Provenance ∷ Checkpoint ∷ Prove ∷ Query ∷ []) []
+rule_of option.Blocks = rule (codes "--blocks") Text (Run ∷ Simulate ∷ Provenance ∷ Seal ∷ Checkpoint ∷ Prove ∷ Query ∷ []) []
 rule_of option.Schedule = rule (codes "--schedule") Text (Simulate ∷ []) []
 rule_of option.Arrivals = rule (codes "--arrivals") Text [] (Run ∷ Simulate ∷ [])
 rule_of option.Query = rule (codes "--query") Text (Provenance ∷ []) []
@@ -61,6 +62,8 @@ rule_of option.Block = rule (codes "--block") (Number 0 (2 ^ 64 - 1)) (Prove ∷
 rule_of option.Write = rule (codes "--write") (Number 0 (2 ^ 64 - 1)) (Prove ∷ []) []
 rule_of option.Proof = rule (codes "--proof") Text (Verify ∷ []) []
 rule_of option.Head = rule (codes "--head") Hash (Verify ∷ []) []
+rule_of option.Height = rule (codes "--height") (Number 0 (2 ^ 64 - 1)) (Query ∷ []) []
+rule_of option.Text = rule (codes "--text") Text (Query ∷ []) []
 rule_of option.Nodes = rule (codes "--nodes") (Number 1 8) [] (Run ∷ [])
 rule_of option.Executors = rule (codes "--executors") (Number 0 16) [] (Run ∷ [])
 rule_of option.Orders = rule (codes "--orders") Nothing [] (Run ∷ Simulate ∷ [])
@@ -72,8 +75,8 @@ rule_of option.Trace = rule (codes "--trace") Nothing [] (Run ∷ Simulate ∷ [
 abbrev pub options : List CommandOption
 options =
     option.App ∷ option.Blocks ∷ option.Schedule ∷ option.Arrivals ∷ option.Query ∷ option.Number ∷ option.Clients ∷ option.Count ∷ option.Most
-    ∷ option.Files ∷ option.Block ∷ option.Write ∷ option.Proof ∷ option.Head ∷ option.Nodes ∷ option.Executors ∷ option.Orders ∷ option.Digests
-    ∷ option.Heads ∷ option.Json ∷ option.Trace ∷ []
+    ∷ option.Files ∷ option.Block ∷ option.Write ∷ option.Proof ∷ option.Head ∷ option.Height ∷ option.Text ∷ option.Nodes ∷ option.Executors
+    ∷ option.Orders ∷ option.Digests ∷ option.Heads ∷ option.Json ∷ option.Trace ∷ []
 
 abbrev pub word_of : CommandOption → List ℕ
 word_of x = (rule_of x).word

@@ -26,10 +26,12 @@ pub enum Command {
     Prove,
     /// `verify`: verifies such a proof by a head.
     Verify,
+    /// `query`: answers a query of the tables as they were after a block.
+    Query,
 }
 
 /// All commands.
-pub const COMMANDS: [Command; 10] = [
+pub const COMMANDS: [Command; 11] = [
     Command::Run,
     Command::Simulate,
     Command::Provenance,
@@ -40,6 +42,7 @@ pub const COMMANDS: [Command; 10] = [
     Command::Compare,
     Command::Prove,
     Command::Verify,
+    Command::Query,
 ];
 
 impl Command {
@@ -58,6 +61,7 @@ impl Command {
             Command::Compare => "compare",
             Command::Prove => "prove",
             Command::Verify => "verify",
+            Command::Query => "query",
         }
     }
 }

@@ -36,6 +36,10 @@ pub enum CommandOption {
     Proof,
     /// `--head`, the head of the writes of a block.
     Head,
+    /// `--height`, the number of the block after which the tables are asked for, or 0.
+    Height,
+    /// `--text`, the text of a query of the tables.
+    Text,
     /// `--nodes`, how many nodes run the blocks.
     Nodes,
     /// `--executors`, how many executors each node has.
@@ -53,7 +57,7 @@ pub enum CommandOption {
 }
 
 /// All options.
-pub const OPTIONS: [CommandOption; 21] = [
+pub const OPTIONS: [CommandOption; 23] = [
     CommandOption::App,
     CommandOption::Blocks,
     CommandOption::Schedule,
@@ -68,6 +72,8 @@ pub const OPTIONS: [CommandOption; 21] = [
     CommandOption::Write,
     CommandOption::Proof,
     CommandOption::Head,
+    CommandOption::Height,
+    CommandOption::Text,
     CommandOption::Nodes,
     CommandOption::Executors,
     CommandOption::Orders,
@@ -134,6 +140,8 @@ impl CommandOption {
             CommandOption::Write => ("--write", numbers(0, u64::MAX)),
             CommandOption::Proof => ("--proof", Takes::Text),
             CommandOption::Head => ("--head", Takes::Hash),
+            CommandOption::Height => ("--height", numbers(0, u64::MAX)),
+            CommandOption::Text => ("--text", Takes::Text),
             CommandOption::Nodes => ("--nodes", numbers(1, 8)),
             CommandOption::Executors => ("--executors", numbers(0, 16)),
             CommandOption::Orders => ("--orders", Takes::Nothing),
@@ -273,6 +281,17 @@ fn use_in_verify(option: CommandOption) -> Use
     }
 }
 
+// How often `query` takes an option.
+fn use_in_query(option: CommandOption) -> Use
+    ensures { result ≡ use_of Command.Query option }
+{
+    match option {
+        CommandOption::App | CommandOption::Blocks => Use::Must,
+        CommandOption::Height | CommandOption::Text => Use::Must,
+        _ => Use::No,
+    }
+}
+
 /// How often a command takes an option.
 pub fn use_of(command: Command, option: CommandOption) -> Use
     ensures { result ≡ use_of command option }
@@ -288,6 +307,7 @@ pub fn use_of(command: Command, option: CommandOption) -> Use
         Command::Compare => use_in_compare(option),
         Command::Prove => use_in_prove(option),
         Command::Verify => use_in_verify(option),
+        Command::Query => use_in_query(option),
     }
 }
 

@@ -228,6 +228,17 @@ fn to_verify(alloc: Global, words: &[&str]) -> Result<Settings, NoMemory>
     })
 }
 
+fn to_query(alloc: Global, words: &[&str]) -> Result<Settings, NoMemory>
+    ensures { IfOk result (λ settings. settings ≡ made Command.Query (given (texts words.now))) }
+{
+    Ok(Settings::Query {
+        app: text_of(alloc, words, CommandOption::App)?,
+        blocks: text_of(alloc, words, CommandOption::Blocks)?,
+        height: number_or(0, words, CommandOption::Height),
+        text: text_of(alloc, words, CommandOption::Text)?,
+    })
+}
+
 // The settings of a command by what the words give its options.
 fn to_settings(alloc: Global, command: Command, words: &[&str]) -> Result<Settings, NoMemory>
     ensures { IfOk result (λ settings. settings ≡ made command (given (texts words.now))) }
@@ -245,6 +256,7 @@ fn to_settings(alloc: Global, command: Command, words: &[&str]) -> Result<Settin
         Command::Compare => to_compare(alloc, words),
         Command::Prove => to_prove(alloc, words),
         Command::Verify => to_verify(alloc, words),
+        Command::Query => to_query(alloc, words),
     }
 }
 

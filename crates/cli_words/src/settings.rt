@@ -97,6 +97,17 @@ pub enum Settings {
         /// The head.
         head: [u8; 32],
     },
+    /// Answers a query of the tables as they were after a block of a file.
+    Query {
+        /// The name of the application's file.
+        app: Word,
+        /// The name of the file of blocks.
+        blocks: Word,
+        /// The number of the block, or 0 for the tables before the first.
+        height: u64,
+        /// The text of the query.
+        text: Word,
+    },
 }
 
 /// Why there are no settings.

@@ -10,3 +10,6 @@ pub mod Sorting
 pub mod Heights
 pub mod StepsFit
 pub mod Asking
+pub mod Nexts
+pub mod Written
+pub mod Writing

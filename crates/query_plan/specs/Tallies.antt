@@ -1,5 +1,5 @@
 -- What is kept of each item of a group, in place of its tuples.
-use Rattle.std.specs.Prelude.{◌≡◌, ◌<◌, ◌≤◌, Result, Ok, Err, ◌+◌, ◌+ℤ◌, ℕ, pos, List, [], ◌∷◌, map, cond, length, Option, Some, None}
+use Rattle.std.specs.Prelude.{◌≡◌, ◌<◌, ◌≤◌, Result, Ok, Err, ◌+◌, ◌+ℤ◌, ℕ, zero, suc, pos, List, [], ◌∷◌, map, cond, length, Option, Some, None}
 use Rattle.std.specs.BTreeMap.{BTreeMap, insert_entry, is_at}
 use Rattle.std.specs.Map.{lookup}
 use Rattle.std.specs.List.{filter}
@@ -46,8 +46,14 @@ next_tally tuple (tally.Max v) item = tally.Max v
 
 abbrev pub next_tallies : List Seen → List Tally → List Item → List Tally
 next_tallies tuple [] items = []
-next_tallies tuple (t ∷ tallies) [] = []
+next_tallies tuple (t ∷ tallies) [] = t ∷ tallies
 next_tallies tuple (t ∷ tallies) (item ∷ items) = next_tally tuple t item ∷ next_tallies tuple tallies items
+
+-- the same of the tally of one place
+abbrev pub next_at : List Seen → Item → ℕ → List Tally → List Tally
+next_at tuple item n [] = []
+next_at tuple item zero (t ∷ tallies) = next_tally tuple t item ∷ tallies
+next_at tuple item (suc n) (t ∷ tallies) = t ∷ next_at tuple item n tallies
 
 abbrev pub with_tallies : List Item → List Seen → Option (List Tally) → List Tally
 with_tallies items tuple None = map (tally_of (alone tuple)) items

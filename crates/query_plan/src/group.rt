@@ -12,7 +12,7 @@ use crate::cell::{at, cell_copy};
 use crate::compare::holds;
 use crate::fault::WalkFault;
 use crate::select::{Col, Comparison, Item};
-use crate::tally::{Tally, row_of, tallied};
+use crate::tally::{Tally, next_all, row_of, start_all};
 use rel_base::{Key, List, NoMemory, Row, Seen};
 use std::alloc::Global;
 use std::collections::BTreeMap;
@@ -43,7 +43,10 @@ pub fn put(
     ensures { OnOk result (groups.new.entries ≡ put_tallies columns.now items.now groups.old.entries tuple.now) }
 {
     let key = key_of(alloc, columns, tuple)?;
-    let tallies = tallied(alloc, groups.get(&key), items, tuple)?;
+    if let Some(tallies) = groups.get_mut(&key) {
+        return next_all(alloc, tallies, items, tuple);
+    }
+    let tallies = start_all(alloc, items, tuple)?;
     let _ = groups.insert(key, tallies)?;
     Ok(())
 }

@@ -1,10 +1,10 @@
 //! What is kept of the items of a group, in place of its tuples.
 
-ghost use Rattle.std.specs.Prelude.{◌≡◌, All, IfOk, map, pos};
-ghost use Rattle.std.specs.Option.{option_copied};
+ghost use Rattle.std.specs.Prelude.{◌≡◌, All, IfOk, OnOk, map, pos};
+ghost use Rattle.std.specs.Option.{unwrap_or};
 ghost use Rattle.query_plan.specs.Answer.{all_of, alone, int_of, int_value};
 ghost use Rattle.query_plan.specs.Cells.{IsEarly, cell_value};
-ghost use Rattle.query_plan.specs.Tallies.{greater, lesser, next_tallies, next_tally, tally_of, value_of, with_tallies};
+ghost use Rattle.query_plan.specs.Tallies.{greater, lesser, next_at, next_tallies, next_tally, tally_of, value_of};
 
 use crate::cell::{Cell, at, cell_cmp, cell_copy};
 use crate::select::Item;
@@ -48,57 +48,59 @@ fn start(alloc: Global, item: Item, tuple: &[Seen]) -> Result<Tally, NoMemory>
     }
 }
 
-/// The lesser of two values, the first where they are one.
-fn lesser(alloc: Global, least: &Value, cell: Cell<'_>) -> Result<Value, NoMemory>
-    ensures { IfOk result (λ value. value ≡ lesser least.now (cell_value cell.entry)) }
+/// A value that is less than the least one so far, where it is.
+fn lesser(alloc: Global, least: &Value, cell: Cell<'_>) -> Result<Option<Value>, NoMemory>
+    ensures { IfOk result (λ value. unwrap_or value least.now ≡ lesser least.now (cell_value cell.entry)) }
 {
     if cell_cmp(cell, Cell::Stored(least)).is_lt() {
-        cell_copy(alloc, cell)
+        Ok(Some(cell_copy(alloc, cell)?))
     } else {
-        least.copy(alloc)
+        Ok(None)
     }
 }
 
-/// The greater of two values, the first where they are one.
-fn greater(alloc: Global, greatest: &Value, cell: Cell<'_>) -> Result<Value, NoMemory>
-    ensures { IfOk result (λ value. value ≡ greater greatest.now (cell_value cell.entry)) }
+/// A value that is greater than the greatest one so far, where it is.
+fn greater(alloc: Global, greatest: &Value, cell: Cell<'_>) -> Result<Option<Value>, NoMemory>
+    ensures { IfOk result (λ value. unwrap_or value greatest.now ≡ greater greatest.now (cell_value cell.entry)) }
 {
     if cell_cmp(Cell::Stored(greatest), cell).is_lt() {
-        cell_copy(alloc, cell)
+        Ok(Some(cell_copy(alloc, cell)?))
     } else {
-        greatest.copy(alloc)
+        Ok(None)
     }
 }
 
-/// The tally with one tuple more. That a count or a sum outgrows its type can not happen below 2 ^ 63 tuples.
-fn next(alloc: Global, tally: &Tally, item: Item, tuple: &[Seen]) -> Result<Tally, NoMemory>
+/// What a tally is with one tuple more, where it is another. That a count or a sum outgrows its type can not happen below 2 ^ 63 tuples.
+fn next(alloc: Global, tally: &Tally, item: Item, tuple: &[Seen]) -> Result<Option<Tally>, NoMemory>
     requires { All IsEarly tuple.now }
-    ensures { IfOk result (λ next. next ≡ next_tally tuple.now tally.now item) }
+    ensures { IfOk result (λ next. unwrap_or next tally.now ≡ next_tally tuple.now tally.now item) }
 {
     match (tally, item) {
-        (Tally::Plain(value), Item::Plain(_)) => Ok(Tally::Plain(value.copy(alloc)?)),
+        (Tally::Plain(_), Item::Plain(_)) => Ok(None),
         (Tally::Count(count), Item::Count) => match count.checked_add(1) {
             None => Err(NoMemory),
-            Some(count) => Ok(Tally::Count(count)),
+            Some(count) => Ok(Some(Tally::Count(count))),
         },
         (Tally::Sum(sum), Item::Sum(col)) => {
             match sum.checked_add(i128::from(int_of(at(tuple, col)))) {
                 None => Err(NoMemory),
-                Some(sum) => Ok(Tally::Sum(sum)),
+                Some(sum) => Ok(Some(Tally::Sum(sum))),
             }
         }
-        (Tally::Min(least), Item::Min(col)) => {
-            Ok(Tally::Min(lesser(alloc, least, at(tuple, col))?))
-        }
-        (Tally::Max(greatest), Item::Max(col)) => {
-            Ok(Tally::Max(greater(alloc, greatest, at(tuple, col))?))
-        }
+        (Tally::Min(least), Item::Min(col)) => match lesser(alloc, least, at(tuple, col))? {
+            None => Ok(None),
+            Some(value) => Ok(Some(Tally::Min(value))),
+        },
+        (Tally::Max(greatest), Item::Max(col)) => match greater(alloc, greatest, at(tuple, col))? {
+            None => Ok(None),
+            Some(value) => Ok(Some(Tally::Max(value))),
+        },
         _ => Err(NoMemory),
     }
 }
 
 /// The tallies of a group of one tuple.
-fn start_all(alloc: Global, items: &[Item], tuple: &[Seen]) -> Result<List<Tally>, NoMemory>
+pub fn start_all(alloc: Global, items: &[Item], tuple: &[Seen]) -> Result<List<Tally>, NoMemory>
     requires { All IsEarly tuple.now }
     ensures { IfOk result (λ tallies. tallies ≡ map (tally_of (alone tuple.now)) items.now) }
 {
@@ -110,43 +112,40 @@ fn start_all(alloc: Global, items: &[Item], tuple: &[Seen]) -> Result<List<Tally
     Ok(tallies)
 }
 
-/// The tallies with one tuple more.
-fn next_all(
+/// The tally of a place, counted from 0, is brought to one tuple more.
+fn next_at(
     alloc: Global,
-    tallies: &[Tally],
-    items: &[Item],
+    tallies: &mut List<Tally>,
+    at: usize,
+    item: Item,
     tuple: &[Seen],
-) -> Result<List<Tally>, NoMemory>
+) -> Result<(), NoMemory>
     requires { All IsEarly tuple.now }
-    ensures { IfOk result (λ next. next ≡ next_tallies tuple.now tallies.now items.now) }
+    ensures { OnOk result (tallies.new ≡ next_at tuple.now item at tallies.old) }
 {
-    let mut made = List::new(alloc);
-    for (i, tally) in tallies.iter().enumerate() {
-        match items.get(i) {
-            None => return Ok(made),
-            Some(item) => {
-                let tally = next(alloc, tally, *item, tuple)?;
-                made.push(tally)?;
-            }
-        }
+    let Some(tally) = tallies.get(at) else {
+        return Ok(());
+    };
+    if let Some(next) = next(alloc, tally, item, tuple)? {
+        let _ = tallies.replace(at, next);
     }
-    Ok(made)
+    Ok(())
 }
 
-/// The tallies of a group, where there is one, with one tuple more.
-pub fn tallied(
+/// The tallies of a group are brought to one tuple more.
+pub fn next_all(
     alloc: Global,
-    tallies: Option<&List<Tally>>,
+    tallies: &mut List<Tally>,
     items: &[Item],
     tuple: &[Seen],
-) -> Result<List<Tally>, NoMemory>
+) -> Result<(), NoMemory>
     requires { All IsEarly tuple.now }
-    ensures { IfOk result (λ next. next ≡ with_tallies items.now tuple.now (option_copied tallies.entry)) }
+    ensures { OnOk result (tallies.new ≡ next_tallies tuple.now tallies.old items.now) }
 {
-    match tallies {
-        None => start_all(alloc, items, tuple),
-        Some(tallies) => next_all(alloc, tallies.as_slice(), items, tuple),
+    for (i, item) in items.iter().enumerate() {
+        next_at(alloc, tallies, i, *item, tuple)?;
     }
+    Ok(())
 }
 
 /// A number as a value, where it is an int.

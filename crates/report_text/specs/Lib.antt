@@ -6,3 +6,4 @@ pub mod Versions
 pub mod JsonReport
 pub mod JsonTokens
 pub mod Summary
+pub mod Answers

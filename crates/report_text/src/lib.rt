@@ -1,6 +1,7 @@
 //! Reports: what the nodes committed and what their tables hold, as lines of text or as JSON.
 #![tactic(auto)]
 
+mod answer;
 mod block;
 mod counts;
 mod ending;
@@ -17,6 +18,7 @@ mod text;
 mod value;
 mod version;
 
+pub use answer::answers;
 pub use counts::summary;
 pub use ending::stopped_line;
 pub use look::Look;

@@ -4,6 +4,7 @@ use Rattle.bcdb.proofs.commands.reply_to.Goals as goal
 use Rattle.bcdb.specs.Accepted.{accepted}
 use Rattle.bcdb.specs.ExtractAnswer.{over_extract}
 use Rattle.bcdb.specs.Reply.{Means}
+use Rattle.bcdb.specs.RowsAnswer.{over_ask}
 use Rattle.bcdb.specs.SimulationAnswer.{over_simulation}
 use Rattle.bcdb.specs.Sources.{run_sources, simulation_sources}
 use Rattle.bcdb.specs.Traced.{Replies, RepliesRun}
@@ -11,7 +12,7 @@ use Rattle.bcdb.specs.VersionsAnswer.{over_query}
 use Rattle.bcdb.specs.declared.extract.Extract.TheVariants.{Hashes, Proof}
 use Rattle.bcdb.specs.declared.extract.Extract.{Extract}
 use Rattle.bcdb.specs.declared.sources.Sources.{Sources}
-use Rattle.cli_words.specs.declared.settings.Settings.TheVariants.{Checkpoint, Provenance, Prove, Simulate}
+use Rattle.cli_words.specs.declared.settings.Settings.TheVariants.{Checkpoint, Provenance, Prove, Query, Simulate}
 use Rattle.cli_words.specs.declared.settings.Settings.{Settings}
 use Rattle.report_text.specs.declared.look.Look.{Look}
 
@@ -68,3 +69,13 @@ returns-in-Prove-clause-told g c =
     (replies_told (Prove c.in-Prove.app c.in-Prove.blocks c.in-Prove.block c.in-Prove.write) told result (λ files. refl)
     (subst (λ (asked : Sources). IfOk result (λ reply. IfSome told (λ files. Means (over_extract wanted (accepted (files asked.app)) (files asked.blocks)) reply)))
     c.of_query-asked-in-Prove.ensures c.answer_extract-reply-in-Prove.ensures.told))
+
+pub returns-in-Query-clause-told : goal.returns-in-Query-clause-told
+returns-in-Query-clause-told g c =
+    let told = g.S.Shelf.told c.args.shelf.now in
+    let result = c.answer_ask-reply.result in
+    subst (λ (settings : Settings). IfOk result (λ reply. IfSome told (λ files. Replies (Some settings) files reply))) (sym c.in-Query.is)
+    (replies_told (Query c.in-Query.app c.in-Query.blocks c.in-Query.height c.in-Query.text) told result (λ files. refl)
+    (subst (λ (text : List ℕ). IfOk result (λ reply. IfSome told (λ files. Means (over_ask c.in-Query.height text (accepted (files c.in-Query.app)) (files c.in-Query.blocks)) reply))) c.as_str-in-Query.ensures
+    (subst (λ (asked : Sources). IfOk result (λ reply. IfSome told (λ files. Means (over_ask c.in-Query.height c.as_str-in-Query.result.now (accepted (files asked.app)) (files asked.blocks)) reply)))
+    c.of_query-asked-in-Query.ensures c.answer_ask-reply.ensures.told)))

@@ -1,0 +1,19 @@
+//! The texts of queries: their grammar, and the walk that resolves the names in them.
+#![tactic(auto)]
+
+mod answer;
+mod columns;
+mod comparisons;
+mod items;
+mod keyword;
+mod lists;
+mod names;
+mod parse;
+mod query;
+mod scope;
+mod selected;
+mod tree;
+mod walk;
+
+pub use answer::{answer_query, fault_name};
+pub use parse::parse_select;
