@@ -1,5 +1,5 @@
 -- The codes of outcomes are exact.
-use Rattle.std.proofs.Common.{◌≡◌, ◌<◌, ◌^◌, ℕ, List, [], ◌∷◌, ◌++◌, Bool, true, false, cond, Some, refl, sym, ◌∙◌, ap}
+use Rattle.std.proofs.Common.{◌≡◌, ◌<◌, ◌^◌, ℕ, List, [], ◌∷◌, ◌++◌, Bool, true, false, Some, refl, sym, ◌∙◌, ap}
 use Rattle.std.specs.Int.{w64}
 use Rattle.std.proofs.lemmas.Option.{none-some}
 use Rattle.canon_code.specs.Codes.{be_code, counted, short_code}
@@ -9,6 +9,7 @@ use Rattle.canon_code.specs.Rows.{row_code, HasRowCode, row_at}
 use Rattle.canon_code.specs.Values.{is_text, text_at}
 use Rattle.canon_code.proofs.Exact.{IsExact, bytes_tail, u64_exact}
 use Rattle.canon_code.proofs.Things.{row_exact}
+use Rattle.node_model.specs.Kinds.{kind_byte, late_kind}
 use Rattle.node_model.specs.BlockCode.{small_code, fault_code, clash_code, danger_code, outcome_code}
 use Rattle.node_model.specs.declared.danger.Danger.TheVariants as danger
 use Rattle.node_model.specs.declared.outcome.Late.{Late}
@@ -174,8 +175,8 @@ outcome_says =
     (or_says (plain_says outcome_code HasOutcomeCode 2 outcome.FutureHeight tt refl)
     (or_says (plain_says outcome_code HasOutcomeCode 3 outcome.UnknownProcedure tt refl)
     (or_says (plain_says outcome_code HasOutcomeCode 4 outcome.BadArguments tt refl)
-    (or_says (made_says outcome.Late (λ late. fields_code (late_parts late)) (IsOfKind true) (late_at true) outcome_code HasOutcomeCode 5 (late_exact true) (λ late has. has.0) (λ late has. ap (λ kind. cond kind 5 6 ∷ fields_code (late_parts late)) has.1))
-    (or_says (made_says outcome.Late (λ late. fields_code (late_parts late)) (IsOfKind false) (late_at false) outcome_code HasOutcomeCode 6 (late_exact false) (λ late has. has.0) (λ late has. ap (λ kind. cond kind 5 6 ∷ fields_code (late_parts late)) has.1))
+    (or_says (made_says outcome.Late (λ late. fields_code (late_parts late)) (IsOfKind true) (late_at true) outcome_code HasOutcomeCode 5 (late_exact true) (λ late has. has.0) (λ late has. ap (λ stale. kind_byte (late_kind stale) ∷ fields_code (late_parts late)) has.1))
+    (or_says (made_says outcome.Late (λ late. fields_code (late_parts late)) (IsOfKind false) (late_at false) outcome_code HasOutcomeCode 6 (late_exact false) (λ late has. has.0) (λ late has. ap (λ stale. kind_byte (late_kind stale) ∷ fields_code (late_parts late)) has.1))
     (or_says (made_says outcome.Fault fault_code HasFaultCode fault_at outcome_code HasOutcomeCode 7 fault_exact (λ fault has. has) (λ fault has. refl))
     (or_says (made_says outcome.WriteConflict clash_code HasClashCode clash_at outcome_code HasOutcomeCode 8 clash_exact (λ clash has. has) (λ clash has. refl))
     (or_says (made_says outcome.Danger danger_code HasDangerCode danger_at outcome_code HasOutcomeCode 9 danger_exact (λ danger has. has) (λ danger has. refl))
@@ -183,10 +184,10 @@ outcome_says =
 
 late_back : (late : Late) (rest : List ℕ) → HasLateCode late → (stale : Bool) → late.stale ≡ stale → outcome_at (outcome_code (outcome.Late late) ++ rest) ≡ Some (outcome.Late late, rest)
 late_back late rest has true same =
-    ap (λ kind. outcome_at ((cond kind 5 6 ∷ fields_code (late_parts late)) ++ rest)) same
+    ap (λ stale. outcome_at ((kind_byte (late_kind stale) ∷ fields_code (late_parts late)) ++ rest)) same
     ∙ ap (λ found. found >>= λ a. Some (outcome.Late a.0, a.1)) ((late_exact true).back late rest (has, same))
 late_back late rest has false same =
-    ap (λ kind. outcome_at ((cond kind 5 6 ∷ fields_code (late_parts late)) ++ rest)) same
+    ap (λ stale. outcome_at ((kind_byte (late_kind stale) ∷ fields_code (late_parts late)) ++ rest)) same
     ∙ ap (λ found. found >>= λ a. Some (outcome.Late a.0, a.1)) ((late_exact false).back late rest (has, same))
 
 outcome_back : ComesBack outcome_code HasOutcomeCode outcome_at

@@ -12,6 +12,7 @@ use Rattle.node_model.specs.declared.outcome.Outcome.TheVariants as outcome
 use Rattle.node_model.specs.declared.outcome.Outcome.{Outcome}
 use Rattle.node_model.specs.declared.result.BlockResult.{BlockResult}
 use Rattle.node_model.specs.declared.result.Told.{Told}
+use Rattle.proc_syntax.specs.Limits.{most_transactions}
 use Rattle.proc_syntax.specs.declared.fault.Fault.TheVariants as fault
 use Rattle.proc_syntax.specs.declared.fault.Fault.{Fault}
 use Rattle.rel_base.specs.Tables.{ref_cmp, write_ref}
@@ -27,7 +28,7 @@ use Rattle.std.specs.declared.cmp.Ordering.{Ordering}
 
 -- the most transactions of a block
 abbrev pub most_outcomes : ℕ
-most_outcomes = 1024
+most_outcomes = most_transactions
 
 -- the most transactions on a path: all of a block but one
 abbrev pub most_on_path : ℕ

@@ -5,8 +5,10 @@ use Rattle.canon_code.specs.Parts.{counted_at, number_at, short_at}
 use Rattle.canon_code.specs.Rows.{row_at}
 use Rattle.canon_code.specs.Values.{int_at, text_at}
 use Rattle.canon_code.specs.Writes.{write_at}
+use Rattle.node_model.specs.Kinds.{danger_mark, fault_mark, kind_byte}
 use Rattle.node_model.specs.declared.danger.Danger.TheVariants as danger
 use Rattle.node_model.specs.declared.danger.Danger.{Danger}
+use Rattle.node_model.specs.declared.kind.OutcomeKind.TheVariants as kind
 use Rattle.node_model.specs.declared.outcome.Clash.{Clash}
 use Rattle.node_model.specs.declared.outcome.Late.{Late}
 use Rattle.node_model.specs.declared.outcome.Outcome.TheVariants as outcome
@@ -57,14 +59,14 @@ late_at stale = made_at (late_of stale) (then_at (then_at (then_at small_at (num
 
 abbrev pub fault_at : Reading Fault
 fault_at [] = None
-fault_at (kind ∷ bytes) =
-    cond (kind == 1) (Some (fault.Overflow, bytes))
-    (cond (kind == 2) (Some (fault.ZeroDivide, bytes))
-    (cond (kind == 3) (Some (fault.DuplicateKey, bytes))
-    (cond (kind == 4) (Some (fault.NoRow, bytes))
-    (cond (kind == 5) (Some (fault.TextTooLong, bytes))
-    (cond (kind == 6) (Some (fault.Steps, bytes))
-    (cond (kind == 7) (made_at fault.Failed text_at bytes) None))))))
+fault_at (byte ∷ bytes) =
+    cond (byte == (fault_mark fault.Overflow).1) (Some (fault.Overflow, bytes))
+    (cond (byte == (fault_mark fault.ZeroDivide).1) (Some (fault.ZeroDivide, bytes))
+    (cond (byte == (fault_mark fault.DuplicateKey).1) (Some (fault.DuplicateKey, bytes))
+    (cond (byte == (fault_mark fault.NoRow).1) (Some (fault.NoRow, bytes))
+    (cond (byte == (fault_mark fault.TextTooLong).1) (Some (fault.TextTooLong, bytes))
+    (cond (byte == (fault_mark fault.Steps).1) (Some (fault.Steps, bytes))
+    (cond (byte == (fault_mark (fault.Failed [])).1) (made_at fault.Failed text_at bytes) None))))))
 
 abbrev pub clash_of : ℕ × (ℕ × List Value) → Clash
 clash_of found = record { with = found.0; table = found.1.0; key = found.1.1 }
@@ -80,23 +82,23 @@ two_of found = danger.Two found.0 found.1
 
 abbrev pub danger_at : Reading Danger
 danger_at [] = None
-danger_at (form ∷ bytes) =
-    cond (form == 1) (made_at one_of (then_at small_at small_at) bytes)
-    (cond (form == 2) (made_at two_of (then_at small_at small_at) bytes) (cond (form == 3) (made_at danger.Cycle path_at bytes) None))
+danger_at (byte ∷ bytes) =
+    cond (byte == (danger_mark (danger.One 0 0)).1) (made_at one_of (then_at small_at small_at) bytes)
+    (cond (byte == (danger_mark (danger.Two 0 0)).1) (made_at two_of (then_at small_at small_at) bytes) (cond (byte == (danger_mark (danger.Cycle [])).1) (made_at danger.Cycle path_at bytes) None))
 
 abbrev pub outcome_at : Reading Outcome
 outcome_at [] = None
-outcome_at (kind ∷ bytes) =
-    cond (kind == 0) (Some (outcome.Committed, bytes))
-    (cond (kind == 1) (Some (outcome.DuplicateId, bytes))
-    (cond (kind == 2) (Some (outcome.FutureHeight, bytes))
-    (cond (kind == 3) (Some (outcome.UnknownProcedure, bytes))
-    (cond (kind == 4) (Some (outcome.BadArguments, bytes))
-    (cond (kind == 5) (made_at outcome.Late (late_at true) bytes)
-    (cond (kind == 6) (made_at outcome.Late (late_at false) bytes)
-    (cond (kind == 7) (made_at outcome.Fault fault_at bytes)
-    (cond (kind == 8) (made_at outcome.WriteConflict clash_at bytes)
-    (cond (kind == 9) (made_at outcome.Danger danger_at bytes) None)))))))))
+outcome_at (byte ∷ bytes) =
+    cond (byte == kind_byte kind.Committed) (Some (outcome.Committed, bytes))
+    (cond (byte == kind_byte kind.DuplicateId) (Some (outcome.DuplicateId, bytes))
+    (cond (byte == kind_byte kind.FutureHeight) (Some (outcome.FutureHeight, bytes))
+    (cond (byte == kind_byte kind.UnknownProcedure) (Some (outcome.UnknownProcedure, bytes))
+    (cond (byte == kind_byte kind.BadArguments) (Some (outcome.BadArguments, bytes))
+    (cond (byte == kind_byte kind.Stale) (made_at outcome.Late (late_at true) bytes)
+    (cond (byte == kind_byte kind.Phantom) (made_at outcome.Late (late_at false) bytes)
+    (cond (byte == kind_byte kind.Fault) (made_at outcome.Fault fault_at bytes)
+    (cond (byte == kind_byte kind.WriteConflict) (made_at outcome.WriteConflict clash_at bytes)
+    (cond (byte == kind_byte kind.Danger) (made_at outcome.Danger danger_at bytes) None)))))))))
 
 -- ---- blocks
 

@@ -18,6 +18,7 @@ use Rattle.rw_graph.specs.Laws.{places}
 use Rattle.rw_graph.specs.declared.edge_set.EdgeSet.{EdgeSet}
 use Rattle.rw_graph.specs.declared.edges.Edges.{Edges}
 use Rattle.std.specs.Prelude.{All, IsTrue, List, [], length, vec_capacity, vec_len, ◌+◌, ◌++◌, ◌<◌, ◌≡◌, ◌≤◌, ◌∷◌, ℕ}
+use Rattle.proc_syntax.specs.Limits.{most_steps}
 
 -- ---- what it stands for
 
@@ -60,7 +61,7 @@ pub record KeepsEdges (tables : List TableDef) (committed : List Committed) (set
 pub record IsConsistent (tables : List TableDef) (work : BlockInWork) : Type 0 where
   pub committed : StandInOrder tables 0 work.committed.items (length work.outcomes.items)
   pub reads : All (λ done. ReadsFit tables done.reads) work.committed.items
-  pub few : All (λ done. length done.writes ≤ 100000) work.committed.items
+  pub few : All (λ done. length done.writes ≤ most_steps) work.committed.items
   pub keys : All (λ told. HasFewKey told.outcome) work.outcomes.items
   pub directory : IsDirectoryOf work.committed.items work.directory
   pub edges : KeepsEdges tables work.committed.items work.edges

@@ -21,6 +21,7 @@ use Rattle.rw_graph.specs.Held.{holds}
 use Rattle.rw_graph.specs.declared.edges.Edges.{Edges}
 use Rattle.std.specs.Prelude.{All, Bool, IsTrue, List, None, Option, Some, cond, false, length, map, ◌<◌, ◌^◌, ◌≡◌, ◌≤◌, ℕ}
 use Rattle.std.specs.Option.{option_or}
+use Rattle.proc_syntax.specs.Limits.{most_steps}
 
 -- a cause of an abort: no commit, and the key that it names, if any, has few values
 abbrev pub IsCause : Outcome → Type 0
@@ -40,7 +41,7 @@ pub record RunFits (tables : List TableDef) (ran : Ran) : Type 0 where
   pub writes : All (WriteFitsIn tables) ran.writes
   pub rise : IsTrue (are_rising ran.writes)
   pub few : length ran.reads < 2 ^ 32
-  pub few_writes : length ran.writes ≤ 100000
+  pub few_writes : length ran.writes ≤ most_steps
 
 -- the outcome of a late read
 abbrev pub outcome_of_late : Overtaken → Outcome

@@ -8,6 +8,7 @@ use Rattle.node_model.specs.Edges.{StandByPosition}
 use Rattle.rel_base.specs.declared.access.Placed.{Placed}
 use Rattle.rel_base.specs.declared.access.Write.{Write}
 use Rattle.std.specs.Prelude.{All, List, length, ◌≤◌, ℕ}
+use Rattle.proc_syntax.specs.Limits.{most_steps, most_transactions}
 
 -- a write at a position
 abbrev pub placed_at : ℕ → Write → Placed
@@ -19,12 +20,12 @@ last_digest blocks = digest_after no_digest blocks
 
 -- a committed transaction has few writes, of few values each
 abbrev pub HasFewWrites : Committed → Type 0
-HasFewWrites done = (length done.writes ≤ 100000) × All (λ write. IsFewWrite (placed_at done.pos write)) done.writes
+HasFewWrites done = (length done.writes ≤ most_steps) × All (λ write. IsFewWrite (placed_at done.pos write)) done.writes
 
 -- a block is within the limits: there are at most 1,024 transactions, and all parts have a code
 pub record IsWithinLimits (outcomes : List Told) (committed : List Committed) : Type 0 where
-  pub few_outcomes : length outcomes ≤ 1024
-  pub few_committed : length committed ≤ 1024
+  pub few_outcomes : length outcomes ≤ most_transactions
+  pub few_committed : length committed ≤ most_transactions
   pub rise : StandByPosition committed
   pub keys : All (λ told. HasFewKey told.outcome) outcomes
   pub writes : All HasFewWrites committed

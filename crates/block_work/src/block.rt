@@ -7,6 +7,7 @@ ghost use Rattle.node_model.specs.Fold.{no_work};
 ghost use Rattle.node_model.specs.declared.outcome.Outcome.TheVariants as outcome;
 ghost use Rattle.proc_syntax.specs.declared.run.Ran.{Ran};
 ghost use Rattle.rel_base.specs.declared.schema.TableDef.{TableDef};
+ghost use Rattle.proc_syntax.specs.Limits.{most_transactions};
 
 use conflict_rules::Directory;
 use node_model::{Committed, Outcome, Told};
@@ -50,7 +51,7 @@ impl BlockInWork {
 
     /// Takes room for one more transaction. Nothing else changes, whether memory runs out or not.
     pub fn reserve(&mut self) -> Result<(), NoMemory>
-        requires few { length self.old.outcomes.items < 1024 }
+        requires few { length self.old.outcomes.items < most_transactions }
         ensures same { IsSameWork self.old self.new }
         ensures consistent { (tables : List TableDef) → IsConsistent tables self.old → IsConsistent tables self.new }
         ensures room { OnOk result (HasRoomForOne self.new) }
@@ -76,7 +77,7 @@ impl BlockInWork {
 
     /// Adds a transaction that commits with a run, and its edges to and from those that committed before it. Takes no memory.
     pub fn commit(&mut self, id: Id, ran: Ran, edges: &Edges)
-        requires few { length self.old.outcomes.items < 1024 }
+        requires few { length self.old.outcomes.items < most_transactions }
         requires room { HasRoomForOne self.old }
         requires can { (tables : List TableDef) × CanCommitWith tables self.old ran edges.now }
         ensures number { self.new.number ≡ self.old.number }

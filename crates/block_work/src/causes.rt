@@ -16,6 +16,7 @@ ghost use Rattle.rel_base.specs.Tables.{HistoryFits, writes_between};
 ghost use Rattle.rw_graph.specs.Graph.{has_edge, positions_of};
 ghost use Rattle.rw_graph.specs.Held.{holds};
 ghost use Rattle.rw_graph.specs.Sets.{AreAmong};
+ghost use Rattle.proc_syntax.specs.Limits.{most_transactions};
 
 use crate::block::BlockInWork;
 use crate::verdict::Verdict;
@@ -122,7 +123,7 @@ pub fn find_cause<V: Versions>(
 #[tactic(auto, using(crate::proofs::Consistent::are_members))]
 fn own_edges(tables: &List<TableDef>, work: &BlockInWork, ran: &Ran) -> Edges
     requires consistent { IsConsistent tables.now work.now }
-    requires few { length work.now.outcomes.items < 1024 }
+    requires few { length work.now.outcomes.items < most_transactions }
     requires fits { RunFits tables.now ran.now }
     ensures { AreOwnEdges tables.now work.now.committed.items ran.now result }
 {
@@ -166,7 +167,7 @@ pub fn judge_edges(
     ran: &Ran,
 ) -> Result<Verdict, NoMemory>
     requires consistent { IsConsistent tables.now work.now }
-    requires few { length work.now.outcomes.items < 1024 }
+    requires few { length work.now.outcomes.items < most_transactions }
     requires fits { RunFits tables.now ran.now }
     ensures outcome { IfOk result (λ verdict. outcome_of verdict
         ≡ or_committed (danger_outcome (danger exact tables.now work.now.committed.items ran.now.reads ran.now.writes))) }

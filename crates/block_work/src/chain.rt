@@ -12,6 +12,7 @@ ghost use Rattle.proc_check.specs.Sizes.{IsSmall};
 ghost use Rattle.proc_syntax.specs.Declaring.{tables_of};
 ghost use Rattle.rel_base.specs.Tables.{writes_between};
 ghost use Rattle.rel_base.specs.declared.schema.TableDef.{TableDef};
+ghost use Rattle.proc_syntax.specs.Limits.{most_steps, most_transactions};
 
 use crate::block::BlockInWork;
 use crate::causes::{find_cause, judge_edges};
@@ -50,8 +51,8 @@ fn time_in(blocks: &[BlockResult], height: u64) -> i64
 
 // How many writes committed transactions made.
 fn count_writes(committed: &[Committed]) -> usize
-    requires few { length committed.now ≤ 1024 }
-    requires few_writes { All (λ done. length done.writes ≤ 100000) committed.now }
+    requires few { length committed.now ≤ most_transactions }
+    requires few_writes { All (λ done. length done.writes ≤ most_steps) committed.now }
     ensures { result ≡ length (placed_of committed.now) }
 {
     let mut count = 0;
@@ -69,7 +70,7 @@ fn add_result<V: Versions>(
     work: &BlockInWork,
 ) -> Result<(), NoMemory>
     requires small { All IsSmall (V.tables versions.old) }
-    requires few { length work.now.outcomes.items ≤ 1024 }
+    requires few { length work.now.outcomes.items ≤ most_transactions }
     requires consistent { IsConsistent (V.tables versions.old) work.now }
     ensures tables { V.tables versions.new ≡ V.tables versions.old }
     ensures history { V.history versions.new ≡ V.history versions.old }
@@ -85,7 +86,7 @@ fn add_result<V: Versions>(
 
 // Applies the writes of committed transactions of the block of a number, for which there is room.
 fn apply_all<V: Versions>(versions: &mut V, number: u64, committed: Vec<Committed>)
-    requires order { StandInOrder (V.tables versions.old) 0 committed.items 1024 }
+    requires order { StandInOrder (V.tables versions.old) 0 committed.items most_transactions }
     requires below { All (λ stamped. stamped.0 < number) (V.history versions.old) }
     requires room { length (placed_of committed.items) ≤ V.spare versions.old }
     ensures tables { V.tables versions.new ≡ V.tables versions.old }
@@ -156,7 +157,7 @@ impl<V: Versions> Chain<V> {
     pub fn judge(&self, work: &BlockInWork, ran: &Ran, height: u64) -> Result<Verdict, NoMemory>
         requires store { StoreFits self.now.app.value.app (V.tables self.now.versions) (V.history self.now.versions) self.now.blocks }
         requires number { 0 < work.now.number }
-        requires few { length work.now.outcomes.items < 1024 }
+        requires few { length work.now.outcomes.items < most_transactions }
         requires consistent { IsConsistent (tables_of self.now.app.value.app) work.now }
         requires fits { RunFits (tables_of self.now.app.value.app) ran.now }
         ensures outcome { IfOk result (λ verdict. outcome_of verdict ≡ or_committed (by_run self.now.app.value.app.exact (tables_of self.now.app.value.app)
@@ -180,7 +181,7 @@ impl<V: Versions> Chain<V> {
     pub fn seal(&mut self, work: BlockInWork) -> Result<(), (BlockInWork, NoMemory)>
         requires store { StoreFits self.old.app.value.app (V.tables self.old.versions) (V.history self.old.versions) self.old.blocks }
         requires next { work.number ≡ length self.old.blocks + 1 }
-        requires few { length work.outcomes.items ≤ 1024 }
+        requires few { length work.outcomes.items ≤ most_transactions }
         requires consistent { IsConsistent (tables_of self.old.app.value.app) work }
         ensures app { self.new.app.value ≡ self.old.app.value }
         ensures store { StoreFits self.new.app.value.app (V.tables self.new.versions) (V.history self.new.versions) self.new.blocks }

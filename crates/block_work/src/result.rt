@@ -9,6 +9,7 @@ ghost use Rattle.node_model.specs.Fold.{block_result};
 ghost use Rattle.node_model.specs.History.{placed_of};
 ghost use Rattle.rel_base.specs.declared.schema.TableDef.{TableDef};
 ghost use Rattle.rw_graph.specs.Graph.{positions_of};
+ghost use Rattle.proc_syntax.specs.Limits.{most_transactions};
 
 use crate::block::BlockInWork;
 use block_digest::digest_of;
@@ -85,7 +86,7 @@ pub fn result_of(
     work: &BlockInWork,
 ) -> Result<BlockResult, NoMemory>
     requires limits { IsWithinLimits work.now.outcomes.items work.now.committed.items }
-    requires few { length (positions_of work.now.edges) ≤ 1024 }
+    requires few { length (positions_of work.now.edges) ≤ most_transactions }
     ensures { IfOk result (λ made. (tables : List TableDef) → KeepsEdges tables work.now.committed.items work.now.edges → made ≡ block_result tables previous.now (sealed_of work.now)) }
 {
     let order = order(alloc, &work.edges)?;

@@ -8,11 +8,12 @@ use Rattle.tx_text.specs.Lines.{tx_of}
 use Rattle.tx_text.specs.Parts.{is_long}
 use Rattle.chain_file.specs.declared.step.StepFault.{StepFault}
 use Rattle.chain_file.specs.declared.step.StepFault.TheVariants as stop
+use Rattle.proc_syntax.specs.Limits.{most_transactions}
 
 -- a line that is no end: the transaction that it has, at most the 1,024th
 abbrev pub next_tx : ℕ → Option Tx → Result (Option Tx) ChainKind
 next_tx before None = Err kind.BadLine
-next_tx before (Some tx) = cond (nat_lt before 1024) (Ok (Some tx)) (Err kind.TooManyTx)
+next_tx before (Some tx) = cond (nat_lt before most_transactions) (Ok (Some tx)) (Err kind.TooManyTx)
 
 -- what a line says in a block that has so many transactions before it: one more, or nothing where it ends the block
 abbrev pub told_within : ℕ → List ℕ → Result (Option Tx) ChainKind

@@ -14,6 +14,7 @@ use Rattle.chain_file.specs.Blocks.{block_of}
 use Rattle.chain_file.specs.Steps.{most_time}
 use Rattle.chain_file.specs.Chain.{Position, Walked, ended_blocks, hash_digits, with_blocks}
 use Rattle.chain_file.specs.Following.{KeepsChain, Knows, StandsAt}
+use Rattle.proc_syntax.specs.Limits.{most_transactions}
 
 -- the transactions of the block that has begun
 abbrev pub txs_in : Section → List Tx
@@ -51,5 +52,5 @@ Resumes kept (more.Stopped found) meant = meant ≡ ([], Err found)
 -- the transactions before and those of the piece are few enough for a block, for which there is a place before, and its time is an i64
 abbrev pub Fits : List Tx → More → Type 0
 Fits kept (more.Goes g held) = g.before ≡ length kept
-Fits kept (more.Ends number time txs blocks s) = (length (kept ++ txs) ≤ 1024) × (0 < length blocks) × (time ≤ most_time)
+Fits kept (more.Ends number time txs blocks s) = (length (kept ++ txs) ≤ most_transactions) × (0 < length blocks) × (time ≤ most_time)
 Fits kept (more.Stopped found) = Unit {0}

@@ -23,6 +23,7 @@ use Rattle.chain_file.specs.declared.step.StepFault.{StepFault}
 use Rattle.chain_file.specs.declared.step.StepFault.TheVariants as stop
 use Rattle.chain_file.specs.Blocks.{block_of}
 use Rattle.chain_file.specs.Headers.{form_said}
+use Rattle.proc_syntax.specs.Limits.{most_blocks, most_transactions}
 
 -- a line that ends no block
 abbrev pub goes_on : Section → Taken
@@ -81,7 +82,7 @@ has_form f number hash time = is_number number && has_hash f.kind hash && has_ti
 
 -- the number of the block that follows so many, of which there are at most 1,000,000
 abbrev pub is_next : ℕ → List ℕ → Bool
-is_next count text = nat_lt count 1000000 && bytes_eq text (decimal (count + 1))
+is_next count text = nat_lt count most_blocks && bytes_eq text (decimal (count + 1))
 
 -- the hash of a chain has these digits
 abbrev pub has_digits : FileKind → List ℕ → List ℕ → Bool
@@ -140,7 +141,7 @@ end_block f count time txs = ends f (count + 1) time (block_of (count + 1) time 
 -- and another line is a transaction, at most the 1,024th
 abbrev pub add_tx : FileForm → ℕ → ℕ → List Tx → Option Tx → Result Taken ChainKind
 add_tx f count time txs None = Err kind.BadLine
-add_tx f count time txs (Some tx) = cond (nat_lt (length txs) 1024) (Ok (goes_on (place.Within f count time (txs ++ (tx ∷ []))))) (Err kind.TooManyTx)
+add_tx f count time txs (Some tx) = cond (nat_lt (length txs) most_transactions) (Ok (goes_on (place.Within f count time (txs ++ (tx ∷ []))))) (Err kind.TooManyTx)
 
 -- a line in a block
 abbrev pub within : FileForm → ℕ → ℕ → List Tx → List ℕ → Result Taken ChainKind
@@ -160,7 +161,7 @@ step at digits line = cond (is_long line) (Err kind.LineTooLong) (line_step at d
 abbrev pub HasRoomInChain : Section → Type 0
 HasRoomInChain place.Start = Unit {0}
 HasRoomInChain (place.Between f count time) = Unit {0}
-HasRoomInChain (place.Within f count time txs) = (count < 1000000) × (time ≤ most_time)
+HasRoomInChain (place.Within f count time txs) = (count < most_blocks) × (time ≤ most_time)
 
 -- what the code answers, against what is meant: the same, unless memory ran out
 abbrev pub GivesStep : Result Taken StepFault → Result Taken ChainKind → Type 0

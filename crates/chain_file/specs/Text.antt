@@ -14,6 +14,7 @@ use Rattle.chain_file.specs.declared.form.FileForm.{FileForm}
 use Rattle.chain_file.specs.Headers.{draft_form, header_text}
 use Rattle.chain_file.specs.Chain.{chain, hash_digits, no_digits}
 use Rattle.chain_file.specs.Numbered.{NumberedFrom, TimesFit}
+use Rattle.proc_syntax.specs.Limits.{most_blocks}
 
 -- the line of a transaction
 abbrev pub tx_line : Tx → List ℕ
@@ -59,7 +60,7 @@ draft_text v blocks = file_text (draft_form v) blocks
 pub record CanStand (v : ChainVersion) (blocks : List Block) : Type 0 where
   pub numbered : NumberedFrom 1 blocks
   pub times : TimesFit v blocks
-  pub few : length blocks ≤ 1000000
+  pub few : length blocks ≤ most_blocks
   pub lines : AllByRecursion (λ block. AllByRecursion HasLine block.txs) blocks
 
 -- they are read back from their text, with no fault

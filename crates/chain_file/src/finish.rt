@@ -9,6 +9,7 @@ ghost use Rattle.chain_file.specs.Steps.{most_time};
 ghost use Rattle.chain_file.specs.Chain.{Walked, ended_blocks};
 ghost use Rattle.chain_file.specs.Following.{Knows, Reads};
 ghost use Rattle.chain_file.specs.Resumed.{Fits, Resumes, going_at, txs_in};
+ghost use Rattle.proc_syntax.specs.Limits.{most_transactions};
 
 use crate::block::block_of;
 use crate::going::Going;
@@ -88,7 +89,7 @@ fn keep_going(
 
 /// Puts a block of these transactions into the first place.
 fn put_block(blocks: &mut List<Block>, number: u64, time: u64, txs: List<Tx>)
-    requires few { length txs ≤ 1024 }
+    requires few { length txs ≤ most_transactions }
     requires place { 0 < length blocks.old }
     requires time { time ≤ most_time }
     ensures { (blank : Block) (following : List Block) → blocks.old ≡ blank ∷ following → blocks.new ≡ ended_blocks (block_of number time txs) ++ following }

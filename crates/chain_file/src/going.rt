@@ -4,6 +4,7 @@ ghost use Rattle.std.specs.Prelude.{◌≡◌, ◌+◌, ◌<◌, ◌∷◌, ◌+
 ghost use Rattle.tx_text.specs.Parts.{line_text};
 ghost use Rattle.chain_file.specs.Following.{Knows};
 ghost use Rattle.chain_file.specs.Near.{is_within_near};
+ghost use Rattle.proc_syntax.specs.Limits.{most_transactions};
 
 use crate::form::FileForm;
 use crate::hash::Hashes;
@@ -40,7 +41,7 @@ impl Going {
     /// Goes on after a line more, which has this transaction.
     #[tactic(auto, using(crate::proofs::Near::going_low, crate::proofs::Near::going_more))]
     pub fn add_tx(&mut self, tx: Tx, text: &[u8]) -> Result<(), NoMemory>
-        requires { self.old.before + length self.old.txs < 1024 }
+        requires { self.old.before + length self.old.txs < most_transactions }
         ensures place { OnOk result ((self.new.form ≡ self.old.form) × (self.new.count ≡ self.old.count) × (self.new.time ≡ self.old.time) × (self.new.before ≡ self.old.before)) }
         ensures line { OnOk result (self.new.line ≡ self.old.line + 1) }
         ensures txs { OnOk result (self.new.txs ≡ self.old.txs ++ tx ∷ []) }

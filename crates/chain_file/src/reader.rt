@@ -3,7 +3,7 @@
 ghost use Rattle.std.specs.Prelude.{◌≡◌, ◌≤◌, ◌++◌, ◌∷◌, ℕ, List, [], Some, None, Result, Ok, Err, IfOk, IfSome, OnOk, OnErr, IfErr, length};
 ghost use Rattle.std.specs.List.{flat_map};
 ghost use Rattle.std.specs.Prelude.{Option};
-ghost use Rattle.tx_text.specs.Parts.{parts_of};
+ghost use Rattle.tx_text.specs.Parts.{parts_of, most_line_bytes};
 ghost use Rattle.chain_file.specs.Chain.{Position, chain, ended_blocks, fault_at_end, is_between, open_length, walk, walked};
 ghost use Rattle.chain_file.specs.Headers.{file_form, form_after, version_of};
 ghost use Rattle.chain_file.specs.Following.{Answers, EndsAs, WasFed, KeepsChain, Reads, StandsAt, fault_met};
@@ -225,7 +225,7 @@ impl Reader {
     #[tactic(auto, using(crate::proofs::Held::open_held, crate::proofs::Held::stopped_held))]
     pub fn held(&self) -> usize
         ensures held { (bytes : List ℕ) → WasFed self.now bytes → result ≡ open_length (walked bytes).1 }
-        ensures most { (bytes : List ℕ) → WasFed self.now bytes → result ≤ 4096 }
+        ensures most { (bytes : List ℕ) → WasFed self.now bytes → result ≤ most_line_bytes }
         ensures stopped { (found : ChainFault) → fault_met self.now.state ≡ Some found → result ≡ 0 }
     {
         match &self.state {

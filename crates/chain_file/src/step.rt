@@ -6,6 +6,7 @@ ghost use Rattle.chain_file.specs.Steps.{GivesStep, add_tx, begin, end_block, fi
 ghost use Rattle.std.specs.Char.{is_ascii_digit};
 ghost use Rattle.std.specs.List.{list_all};
 ghost use Rattle.tx_text.specs.Lines.{tx_of};
+ghost use Rattle.proc_syntax.specs.Limits.{most_blocks, most_transactions};
 
 use crate::block::{MOST_TIME, block_of};
 use crate::form::{ChainVersion, FileForm, FileKind, form_said};
@@ -255,7 +256,7 @@ fn begin(
 
 /// The end of a block.
 fn end_block(form: FileForm, count: u64, time: u64, txs: List<Tx>) -> Result<Taken, StepFault>
-    requires { (count < 1000000) × (time ≤ most_time) }
+    requires { (count < most_blocks) × (time ≤ most_time) }
     ensures { GivesStep result (end_block form count time txs) }
 {
     let count = count + 1;
@@ -271,7 +272,7 @@ fn end_block(form: FileForm, count: u64, time: u64, txs: List<Tx>) -> Result<Tak
 /// A line that is no end, in a block that has so many transactions before it.
 fn added_tx(alloc: Global, before: usize, line: &[u8]) -> Result<Option<Tx>, StepFault>
     ensures told { GivesTold result (next_tx before (tx_of line.now)) }
-    ensures few { IfOk result (λ tx. before < 1024) }
+    ensures few { IfOk result (λ tx. before < most_transactions) }
 {
     let tx = match read_tx(alloc, line) {
         Ok(tx) => tx,
@@ -287,7 +288,7 @@ fn added_tx(alloc: Global, before: usize, line: &[u8]) -> Result<Option<Tx>, Ste
 /// What a line says in a block that has so many transactions before it: one more, or nothing where it ends the block.
 pub fn told_within(alloc: Global, before: usize, line: &[u8]) -> Result<Option<Tx>, StepFault>
     ensures told { GivesTold result (told_within before line.now) }
-    ensures few { IfOk result (λ told. IfSome told (λ tx. before < 1024)) }
+    ensures few { IfOk result (λ told. IfSome told (λ tx. before < most_transactions)) }
 {
     if line.len() > MOST_LINE_BYTES {
         return Err(StepFault::Kind(ChainKind::LineTooLong));
@@ -338,7 +339,7 @@ fn within(
     txs: List<Tx>,
     line: &[u8],
 ) -> Result<Taken, StepFault>
-    requires { (count < 1000000) × (time ≤ most_time) }
+    requires { (count < most_blocks) × (time ≤ most_time) }
     ensures { GivesStep result (within form count time txs line.now) }
 {
     if line == b"end".as_slice() {

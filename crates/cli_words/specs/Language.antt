@@ -18,6 +18,7 @@ use Rattle.cli_words.specs.declared.options.Use.{Use}
 use Rattle.cli_words.specs.declared.options.Use.TheVariants.{No, May, Must}
 use Rattle.cli_words.specs.declared.settings.Settings.{Settings}
 use Rattle.cli_words.specs.declared.settings.Settings.TheVariants.{Run, Simulate, Provenance, Seal, Load, Order, Checkpoint, Compare, Prove, Verify, Query}
+use Rattle.proc_syntax.specs.Limits.{most_clients, most_executors, most_nodes, most_peers, most_transactions}
 
 -- the words of a `&[&str]`
 abbrev pub texts : List (Bor (List ℕ)) → List (List ℕ)
@@ -191,7 +192,7 @@ settings_of (word ∷ words) = settled (command_of word) words
 -- the numbers lie in their ranges: a run has 1 to 8 nodes, and each node at most 16 executors; an order has 1 to 8 clients, and 1 to 1,024
 -- transactions a block; a comparison has 1 to 8 peers
 abbrev pub AreWithin : Settings → Type 0
-AreWithin (Run app blocks arrivals nodes executors flags) = (1 ≤ nodes) × (nodes ≤ 8) × (executors ≤ 16)
-AreWithin (Order clients count most) = (1 ≤ count) × (count ≤ 8) × (1 ≤ most) × (most ≤ 1024)
-AreWithin (Compare files count) = (1 ≤ count) × (count ≤ 8)
+AreWithin (Run app blocks arrivals nodes executors flags) = (1 ≤ nodes) × (nodes ≤ most_nodes) × (executors ≤ most_executors)
+AreWithin (Order clients count most) = (1 ≤ count) × (count ≤ most_clients) × (1 ≤ most) × (most ≤ most_transactions)
+AreWithin (Compare files count) = (1 ≤ count) × (count ≤ most_peers)
 AreWithin _ = Unit {0}

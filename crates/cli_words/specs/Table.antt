@@ -9,6 +9,7 @@ use Rattle.cli_words.specs.declared.options.Takes.{Takes}
 use Rattle.cli_words.specs.declared.options.Takes.TheVariants.{Nothing, Text, Number, Hash}
 use Rattle.cli_words.specs.declared.options.Use.{Use}
 use Rattle.cli_words.specs.declared.options.Use.TheVariants.{No, May, Must}
+use Rattle.proc_syntax.specs.Limits.{most_clients, most_executors, most_nodes, most_transactions}
 
 -- ---- commands
 
@@ -55,8 +56,8 @@ rule_of option.Arrivals = rule (codes "--arrivals") Text [] (Run ∷ Simulate �
 rule_of option.Query = rule (codes "--query") Text (Provenance ∷ []) []
 rule_of option.Number = rule (codes "--number") (Number 0 (2 ^ 64 - 1)) (Load ∷ []) []
 rule_of option.Clients = rule (codes "--clients") Text (Order ∷ []) []
-rule_of option.Count = rule (codes "--count") (Number 1 8) (Order ∷ Compare ∷ []) []
-rule_of option.Most = rule (codes "--most") (Number 1 1024) (Order ∷ []) []
+rule_of option.Count = rule (codes "--count") (Number 1 most_clients) (Order ∷ Compare ∷ []) []
+rule_of option.Most = rule (codes "--most") (Number 1 most_transactions) (Order ∷ []) []
 rule_of option.Files = rule (codes "--files") Text (Compare ∷ []) []
 rule_of option.Block = rule (codes "--block") (Number 0 (2 ^ 64 - 1)) (Prove ∷ []) []
 rule_of option.Write = rule (codes "--write") (Number 0 (2 ^ 64 - 1)) (Prove ∷ []) []
@@ -64,8 +65,8 @@ rule_of option.Proof = rule (codes "--proof") Text (Verify ∷ []) []
 rule_of option.Head = rule (codes "--head") Hash (Verify ∷ []) []
 rule_of option.Height = rule (codes "--height") (Number 0 (2 ^ 64 - 1)) (Query ∷ []) []
 rule_of option.Text = rule (codes "--text") Text (Query ∷ []) []
-rule_of option.Nodes = rule (codes "--nodes") (Number 1 8) [] (Run ∷ [])
-rule_of option.Executors = rule (codes "--executors") (Number 0 16) [] (Run ∷ [])
+rule_of option.Nodes = rule (codes "--nodes") (Number 1 most_nodes) [] (Run ∷ [])
+rule_of option.Executors = rule (codes "--executors") (Number 0 most_executors) [] (Run ∷ [])
 rule_of option.Orders = rule (codes "--orders") Nothing [] (Run ∷ Simulate ∷ [])
 rule_of option.Digests = rule (codes "--digests") Nothing [] (Run ∷ Simulate ∷ [])
 rule_of option.Heads = rule (codes "--heads") Nothing [] (Checkpoint ∷ [])

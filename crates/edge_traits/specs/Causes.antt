@@ -25,7 +25,11 @@ Leave = List ℕ → ℕ → ℕ → Type 0
 abbrev pub Keeps : Leave → Leave → Type 0
 Keeps before now = (name : List ℕ) (at size : ℕ) → before name at size → now name at size
 
--- The first bytes of a file, `most` of them, may be read to their end: at each place before it, all that are left, yet at most
--- 65,536 at once.
+-- How many bytes of a file are asked for at once.
+abbrev pub piece_bytes : ℕ
+piece_bytes = 65536
+
+-- The first bytes of a file, `most` of them, may be read to their end: at each place before it, all that are left, yet at most a
+-- piece at once.
 abbrev pub AllowsFront : Leave → List ℕ → ℕ → Type 0
-AllowsFront may_read name most = (at : ℕ) → at < most → may_read name at (min 65536 (most - at))
+AllowsFront may_read name most = (at : ℕ) → at < most → may_read name at (min piece_bytes (most - at))

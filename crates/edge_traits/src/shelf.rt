@@ -24,8 +24,8 @@ pub trait Shelf {
     /// Every shelf of this crate lets all bytes of each name be read, so whoever passes one of them has nothing to show. The
     /// leave matters to a call that is generic in its shelf. It is proved for all shelves, among them those that let nothing be
     /// read but what its own `requires` names; so it can read nothing else, and drop what it read, without the check refusing
-    /// it. Hence a `requires` on `may_read` at such a call, though written as a demand, is a promise: these bytes of these
-    /// files, in this order, and no others are asked for.
+    /// it. Hence a `requires` on `may_read` at such a call, though written as a demand, is a promise: nothing but these bytes of these
+    /// files is asked for. What may be asked for once may be asked for again, so how often it is asked for is not said.
     ghost may_read: { Self → Leave };
 
     /// Puts bytes of the file `name` from the byte `at` on (counted from 0) into the start of `buf`, and answers how many.

@@ -1,7 +1,7 @@
 //! Reading a whole file, and writing all of some bytes.
 
 ghost use Rattle.std.specs.Prelude.{ℕ, List, Option, ◌≡◌, ◌≤◌, ◌<◌, ◌+◌, ◌-◌, ◌^◌, length, take, IfOk, OnOk, OnErr, IfSome, IsErrOf};
-ghost use Rattle.edge_traits.specs.Causes.{Rose, NoneFell, Keeps, AllowsFront};
+ghost use Rattle.edge_traits.specs.Causes.{Rose, NoneFell, Keeps, AllowsFront, piece_bytes};
 ghost use Rattle.edge_traits.specs.Fetched.{TellsFailure};
 ghost use Rattle.edge_traits.specs.Sink.{appended, WroteFront};
 
@@ -38,7 +38,7 @@ const PIECE: usize = 65536;
 
 /// A buffer of 65,536 bytes on the heap, where the stack would pay for it at each call.
 pub fn make_buffer(alloc: Global) -> Result<Vec<u8>, AllocError>
-    ensures { IfOk result (λ buffer. length buffer.items ≡ 65536) }
+    ensures { IfOk result (λ buffer. length buffer.items ≡ piece_bytes) }
 {
     vec![in alloc; 0; PIECE]
 }

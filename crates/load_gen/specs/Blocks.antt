@@ -7,18 +7,19 @@ use Rattle.std.proofs.lemmas.Bool.{leb-true}
 use Rattle.std.proofs.lemmas.List.FromFn.{length-map-range_with_len}
 use Rattle.std.specs.List.{filter, range_with_len}
 use Rattle.std.specs.Prelude.{Bool, List, [], length, map, nat_le, not, pos, refl, true, ◌%◌, ◌*◌, ◌+◌, ◌-◌, ◌==◌, ◌≡◌, ◌≤◌, ◌∷◌, ℕ}
+use Rattle.proc_syntax.specs.Limits.{most_transactions}
 
 -- so many transactions, from that of a number on
 unfoldable pub txs_from : (ℕ → Tx) → ℕ → ℕ → List Tx
 txs_from tx first count = map tx (range_with_len first count)
 
 -- they fit into a block
-pub few_txs : (tx : ℕ → Tx) (first count : ℕ) → nat_le count 1024 ≡ true → length (txs_from tx first count) ≤ 1024
+pub few_txs : (tx : ℕ → Tx) (first count : ℕ) → nat_le count most_transactions ≡ true → length (txs_from tx first count) ≤ most_transactions
 unfolding txs_from
-few_txs tx first count few = subst (λ n. n ≤ 1024) (sym (length-map-range_with_len tx first count)) (leb-true count 1024 few)
+few_txs tx first count few = subst (λ n. n ≤ most_transactions) (sym (length-map-range_with_len tx first count)) (leb-true count most_transactions few)
 
 -- a block of so many transactions, of time 0
-abbrev pub block_of : ℕ → (ℕ → Tx) → ℕ → (count : ℕ) → nat_le count 1024 ≡ true → Block
+abbrev pub block_of : ℕ → (ℕ → Tx) → ℕ → (count : ℕ) → nat_le count most_transactions ≡ true → Block
 block_of number tx first count few = record { number = number; time = pos 0; txs = txs_from tx first count; few = few_txs tx first count few; not_negative = refl }
 
 -- block 1 has the 64 transactions that open accounts

@@ -3,6 +3,7 @@
 ghost use Rattle.std.specs.Prelude.{IfOk, OnOk, length, pos, ◌+◌, ◌<◌, ◌^◌, ◌≡◌, ◌≤◌};
 ghost use Rattle.load_gen.specs.Blocks.{first_block, first_of, later_block, load_blocks, txs_from};
 ghost use Rattle.load_gen.specs.Transactions.{load_tx, opening_tx};
+ghost use Rattle.proc_syntax.specs.Limits.{most_transactions};
 
 use crate::txs::{Drawn, opening_tx};
 use proc_syntax::{Block, Tx};
@@ -23,7 +24,7 @@ pub const DRAWN: u64 = (LAST_BLOCK - 1) * DRAWN_IN_BLOCK;
 
 /// A block of a number, of time 0.
 fn block_of(number: u64, txs: List<Tx>) -> Block
-    requires { length txs ≤ 1024 }
+    requires { length txs ≤ most_transactions }
     ensures number { result.number ≡ number }
     ensures time { result.time ≡ pos 0 }
     ensures txs { result.txs ≡ txs }

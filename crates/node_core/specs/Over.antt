@@ -16,6 +16,7 @@ use Rattle.std.specs.List.{list_any}
 use Rattle.std.specs.Option.{is_some, option_map}
 use Rattle.std.specs.Prelude.{List, None, Option, Some, cond, length, ◌&&◌, ◌+◌, ◌≡◌, ◌≤◌, ℕ}
 use Rattle.std.specs.Str.{bytes_eq}
+use Rattle.proc_syntax.specs.Limits.{most_transactions}
 
 -- why no block is sealed, after so many that are: none is in work, or a transaction of it is not decided, of which the first is named
 abbrev pub not_sealed : ℕ → Option DeliveredBlock → Option Sealed
@@ -25,7 +26,7 @@ not_sealed height (Some working) = option_map (λ (tx : Tx). sealed.NotAll (deci
 -- a block in work can join so many that are sealed
 pub record CanJoin (tables : List TableDef) (height : ℕ) (working : DeliveredBlock) : Type 0 where
   pub next : working.done.number ≡ height + 1
-  pub few : length working.done.outcomes.items ≤ 1024
+  pub few : length working.done.outcomes.items ≤ most_transactions
   pub consistent : IsConsistent tables working.done
 
 -- a job that waits or is done is dropped

@@ -17,6 +17,7 @@ ghost use Rattle.proc_syntax.specs.Declaring.{tables_of};
 ghost use Rattle.proc_syntax.specs.declared.call.Tx.{Tx};
 ghost use Rattle.proc_syntax.specs.declared.run.Ran.{Ran};
 ghost use Rattle.rel_base.specs.declared.schema.TableDef.{TableDef};
+ghost use Rattle.proc_syntax.specs.Limits.{most_transactions};
 
 use crate::answers::Decided;
 use crate::claiming::due_tx;
@@ -34,7 +35,7 @@ use std::alloc::Global;
 
 // The position of the first undecided transaction of a block in work, from 1.
 fn next_pos(working: &DeliveredBlock) -> u32
-    requires few { length working.now.done.outcomes.items ≤ 1024 }
+    requires few { length working.now.done.outcomes.items ≤ most_transactions }
     ensures { result ≡ length working.now.done.outcomes.items + 1 }
 {
     working.done.outcomes.len() as u32 + 1
@@ -47,7 +48,7 @@ fn make_ready(
     ids: &mut IdIndex,
     working: &mut DeliveredBlock,
 ) -> Result<Id, NoMemory>
-    requires few { length working.old.done.outcomes.items < 1024 }
+    requires few { length working.old.done.outcomes.items < most_transactions }
     requires due { IsSome (due (shown_work working.old)) }
     ensures block { working.new.block ≡ working.old.block }
     ensures same { IsSameWork working.old.done working.new.done }
@@ -81,7 +82,7 @@ fn abort_due(
     working: &mut DeliveredBlock,
     cause: Outcome,
 ) -> Result<(), NoMemory>
-    requires few { length working.old.done.outcomes.items < 1024 }
+    requires few { length working.old.done.outcomes.items < most_transactions }
     requires due { IsSome (due (shown_work working.old)) }
     requires cause { IsCause cause }
     ensures decided { OnOk result ((tx : Tx) → due (shown_work working.old) ≡ Some tx → (ran : Ran)
@@ -98,7 +99,7 @@ fn abort_due(
 
 // Adds what was decided of a transaction by its run. Takes no memory.
 fn add_decided(work: &mut BlockInWork, id: Id, ran: Ran, verdict: Verdict)
-    requires few { length work.old.outcomes.items < 1024 }
+    requires few { length work.old.outcomes.items < most_transactions }
     requires room { HasRoomForOne work.old }
     requires sound { (tables : List TableDef) × CanBeAdded tables work.old ran verdict }
     ensures number { work.new.number ≡ work.old.number }
@@ -122,7 +123,7 @@ fn judge_job<V: Versions>(
     requires done { IsDone (tables_of chain.now.app.value.app) jobs.now number }
     requires store { StoreFits chain.now.app.value.app (V.tables chain.now.versions) (V.history chain.now.versions) chain.now.blocks }
     requires number { 0 < work.now.number }
-    requires few { length work.now.outcomes.items < 1024 }
+    requires few { length work.now.outcomes.items < most_transactions }
     requires consistent { IsConsistent (tables_of chain.now.app.value.app) work.now }
     ensures outcome { IfOk result (λ verdict. (done : IsDone (tables_of chain.now.app.value.app) jobs.now number)
         → outcome_of verdict ≡ outcome_by chain.now.app.value.app.exact (tables_of chain.now.app.value.app) (V.history chain.now.versions) work.now jobs.now done) }
@@ -153,7 +154,7 @@ fn decide_due<V: Versions>(
     requires done { IsDone (tables_of chain.now.app.value.app) jobs.old number }
     requires store { StoreFits chain.now.app.value.app (V.tables chain.now.versions) (V.history chain.now.versions) chain.now.blocks }
     requires number { 0 < working.old.done.number }
-    requires few { length working.old.done.outcomes.items < 1024 }
+    requires few { length working.old.done.outcomes.items < most_transactions }
     requires due { IsSome (due (shown_work working.old)) }
     requires consistent { IsConsistent (tables_of chain.now.app.value.app) working.old.done }
     ensures decided { OnOk result ((tx : Tx) → due (shown_work working.old) ≡ Some tx → (done : IsDone (tables_of chain.now.app.value.app) jobs.old number)

@@ -5,6 +5,7 @@ use Rattle.canon_code.specs.Codes.{be_code, counted, short_code}
 use Rattle.canon_code.specs.Rows.{key_code}
 use Rattle.canon_code.specs.Values.{int_code}
 use Rattle.canon_code.specs.Writes.{write_code}
+use Rattle.node_model.specs.Kinds.{danger_mark, fault_mark, kind_byte, kind_of}
 use Rattle.node_model.specs.declared.danger.Danger.TheVariants as danger
 use Rattle.node_model.specs.declared.danger.Danger.{Danger}
 use Rattle.node_model.specs.declared.outcome.Clash.{Clash}
@@ -17,48 +18,59 @@ use Rattle.proc_syntax.specs.declared.fault.Fault.TheVariants as fault
 use Rattle.proc_syntax.specs.declared.fault.Fault.{Fault}
 use Rattle.sha2.specs.Sha256.{sha256}
 use Rattle.std.specs.Int.{w32, w64}
-use Rattle.std.specs.Prelude.{List, [], cond, ◌++◌, ◌∷◌, ℕ}
+use Rattle.std.specs.Prelude.{List, [], ◌++◌, ◌∷◌, ℕ}
 
 -- a position, a table or a count, in four bytes
 abbrev pub small_code : ℕ → List ℕ
 small_code n = be_code w32 n
 
--- a late read: 5 where it is stale and 6 where it is a phantom, its number in the run, and the place and the key of the write
+-- a late read: its number in the run, and the place and the key of the write
 abbrev pub late_code : Late → List ℕ
-late_code late =
-    cond late.stale 5 6 ∷ small_code late.read ++ be_code w64 late.place.block ++ small_code late.place.pos ++ small_code late.table ++ key_code late.key
+late_code late = small_code late.read ++ be_code w64 late.place.block ++ small_code late.place.pos ++ small_code late.table ++ key_code late.key
 
--- why a run ended without its writes
+-- the text of a statement `fail`, which no other fault has
+abbrev pub fault_details : Fault → List ℕ
+fault_details fault.Overflow = []
+fault_details fault.ZeroDivide = []
+fault_details fault.DuplicateKey = []
+fault_details fault.NoRow = []
+fault_details fault.TextTooLong = []
+fault_details fault.Steps = []
+fault_details (fault.Failed text) = short_code text
+
+-- why a run ended without its writes: its byte, and its text
 abbrev pub fault_code : Fault → List ℕ
-fault_code fault.Overflow = 1 ∷ []
-fault_code fault.ZeroDivide = 2 ∷ []
-fault_code fault.DuplicateKey = 3 ∷ []
-fault_code fault.NoRow = 4 ∷ []
-fault_code fault.TextTooLong = 5 ∷ []
-fault_code fault.Steps = 6 ∷ []
-fault_code (fault.Failed text) = 7 ∷ short_code text
+fault_code why = (fault_mark why).1 ∷ fault_details why
 
 -- a key that was written before in the block, and the position that wrote it
 abbrev pub clash_code : Clash → List ℕ
 clash_code clash = small_code clash.with ++ small_code clash.table ++ key_code clash.key
 
--- a danger: its form, and its positions in the order in which they are found, of a cycle after their count
-abbrev pub danger_code : Danger → List ℕ
-danger_code (danger.One z x) = 1 ∷ small_code z ++ small_code x
-danger_code (danger.Two y z) = 2 ∷ small_code y ++ small_code z
-danger_code (danger.Cycle path) = 3 ∷ counted small_code small_code path
+-- the positions of a danger in the order in which they are found, of a cycle after their count
+abbrev pub danger_details : Danger → List ℕ
+danger_details (danger.One z x) = small_code z ++ small_code x
+danger_details (danger.Two y z) = small_code y ++ small_code z
+danger_details (danger.Cycle path) = counted small_code small_code path
 
--- an outcome: a byte for what became of the transaction, and the cause
+-- a danger: the byte of its form, and its positions
+abbrev pub danger_code : Danger → List ℕ
+danger_code found = (danger_mark found).1 ∷ danger_details found
+
+-- what an outcome names
+abbrev pub outcome_details : Outcome → List ℕ
+outcome_details outcome.Committed = []
+outcome_details outcome.DuplicateId = []
+outcome_details outcome.FutureHeight = []
+outcome_details outcome.UnknownProcedure = []
+outcome_details outcome.BadArguments = []
+outcome_details (outcome.Late late) = late_code late
+outcome_details (outcome.Fault why) = fault_code why
+outcome_details (outcome.WriteConflict clash) = clash_code clash
+outcome_details (outcome.Danger found) = danger_code found
+
+-- an outcome: the byte of its kind, and what it names
 abbrev pub outcome_code : Outcome → List ℕ
-outcome_code outcome.Committed = 0 ∷ []
-outcome_code outcome.DuplicateId = 1 ∷ []
-outcome_code outcome.FutureHeight = 2 ∷ []
-outcome_code outcome.UnknownProcedure = 3 ∷ []
-outcome_code outcome.BadArguments = 4 ∷ []
-outcome_code (outcome.Late late) = late_code late
-outcome_code (outcome.Fault fault) = 7 ∷ fault_code fault
-outcome_code (outcome.WriteConflict clash) = 8 ∷ clash_code clash
-outcome_code (outcome.Danger danger) = 9 ∷ danger_code danger
+outcome_code outcome = kind_byte (kind_of outcome) ∷ outcome_details outcome
 
 -- a transaction: its id after its length, and its outcome
 abbrev pub told_code : Told → List ℕ

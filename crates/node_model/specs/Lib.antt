@@ -4,6 +4,7 @@ pub mod Edges
 pub mod Paths
 pub mod Danger
 pub mod Order
+pub mod Kinds
 pub mod BlockCode
 pub mod Fold
 pub mod World

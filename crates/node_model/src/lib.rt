@@ -3,12 +3,14 @@
 
 pub mod danger;
 pub mod journal;
+pub mod kind;
 pub mod outcome;
 pub mod result;
 pub mod version;
 
 pub use danger::Danger;
 pub use journal::{Entry, Event, Pick};
+pub use kind::{OutcomeKind, fault_mark};
 pub use outcome::{Clash, Late, Outcome};
 pub use result::{BlockResult, Committed, NO_DIGEST, NodeResult, TableRows, Told};
 pub use version::Version;

@@ -10,10 +10,11 @@ use Rattle.chain_file.specs.Numbered.{NumberedFrom}
 use Rattle.order_queue.specs.Blocks.{FilledBy, joined}
 use Rattle.order_queue.specs.Drafts.{draft_text}
 use Rattle.order_queue.specs.Merge.{IsMerge}
+use Rattle.proc_syntax.specs.Limits.{most_submitted}
 
 -- what a client may submit: at most 1,000,000 transactions, each with a line
 pub record IsSubmission (txs : List Tx) : Type 0 where
-  pub few : length txs ≤ 1000000
+  pub few : length txs ≤ most_submitted
   pub lines : AllByRecursion HasLine txs
 
 -- so are the transactions of each client file that is read: it has the grammar of an arrival file

@@ -4,6 +4,7 @@ ghost use Rattle.std.specs.List.{count_by, sum_by};
 ghost use Rattle.chain_file.specs.Numbered.{HaveNoTimes, NumberedFrom};
 ghost use Rattle.order_queue.specs.Blocks.{FilledBy, joined};
 ghost use Rattle.order_queue.specs.Merge.{IsMerge};
+ghost use Rattle.proc_syntax.specs.Limits.{most_transactions};
 
 use crate::bins::Filling;
 use crate::remaining::Remaining;
@@ -18,7 +19,7 @@ pub fn deal(
     from: &[u32],
     most: u32,
 ) -> Result<List<Block>, NoMemory>
-    requires most { (1 ≤ most) × (most ≤ 1024) }
+    requires most { (1 ≤ most) × (most ≤ most_transactions) }
     requires counts { (k : ℕ) → k < length remaining → count_by (λ client. client == k + 1) from.now ≡ length (slice_index_or remaining k []) }
     requires clients { All (λ client. (1 ≤ client) × (client ≤ length remaining)) from.now }
     ensures merge { IfOk result (λ blocks. IsMerge remaining from.now (joined blocks)) }

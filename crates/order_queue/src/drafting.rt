@@ -7,6 +7,7 @@ ghost use Rattle.chain_file.specs.Chain.{chain};
 ghost use Rattle.chain_file.specs.Numbered.{HaveNoTimes, NumberedFrom};
 ghost use Rattle.chain_file.specs.Text.{tx_line};
 ghost use Rattle.order_queue.specs.Drafts.{draft_block, draft_text};
+ghost use Rattle.proc_syntax.specs.Limits.{most_blocks};
 
 use literals::push_number;
 use proc_syntax::{Block, Tx};
@@ -59,7 +60,7 @@ fn push_blocks(out: &mut Vec<u8>, blocks: &[Block]) -> Result<(), NoMemory>
 pub fn draft(alloc: Global, blocks: &List<Block>) -> Result<List<u8>, NoMemory>
     requires numbered { NumberedFrom 1 blocks.now }
     requires times { HaveNoTimes blocks.now }
-    requires few { length blocks.now ≤ 1000000 }
+    requires few { length blocks.now ≤ most_blocks }
     requires lines { AllByRecursion (λ block. AllByRecursion HasLine block.txs) blocks.now }
     ensures text { IfOk result (λ text. text ≡ draft_text blocks.now) }
     ensures again { IfOk result (λ text. chain text ≡ (blocks.now, None)) }

@@ -4,6 +4,7 @@ ghost use Rattle.proc_syntax.specs.declared.call.Block.{Block};
 ghost use Rattle.chain_file.specs.Numbered.{HaveNoTimes, NumberedFrom};
 ghost use Rattle.order_queue.specs.Blocks.{FilledBy, joined};
 ghost use Rattle.order_queue.specs.Filled.{IsFilling, all_of};
+ghost use Rattle.proc_syntax.specs.Limits.{most_transactions};
 
 use crate::bins::Filling;
 use proc_syntax::{Block, Tx};
@@ -25,7 +26,7 @@ impl Filling {
 
     // Closes the open block.
     fn close(&mut self, alloc: Global) -> Result<(), NoMemory>
-        requires { length self.old.next ≤ 1024 }
+        requires { length self.old.next ≤ most_transactions }
         ensures next { OnOk result (self.new.next ≡ []) }
         ensures full { OnOk result ((block : Block) × (self.new.full.items ≡ self.old.full.items ++ block ∷ []) × (block.number ≡ length self.old.full.items + 1) × (block.time ≡ pos 0) × (block.txs ≡ self.old.next)) }
     {
@@ -40,7 +41,7 @@ impl Filling {
 
     /// Adds a transaction.
     pub fn add(&mut self, alloc: Global, tx: Tx, most: u32) -> Result<(), NoMemory>
-        requires most { (1 ≤ most) × (most ≤ 1024) }
+        requires most { (1 ≤ most) × (most ≤ most_transactions) }
         requires filling { IsFilling most self.old }
         ensures filling { OnOk result (IsFilling most self.new) }
         ensures all { OnOk result (all_of self.new ≡ all_of self.old ++ tx ∷ []) }
@@ -55,7 +56,7 @@ impl Filling {
 
     /// The blocks of all that was added.
     pub fn finish(mut self, alloc: Global, most: u32) -> Result<List<Block>, NoMemory>
-        requires most { (1 ≤ most) × (most ≤ 1024) }
+        requires most { (1 ≤ most) × (most ≤ most_transactions) }
         requires filling { IsFilling most self }
         ensures numbered { IfOk result (λ blocks. NumberedFrom 1 blocks) }
         ensures times { IfOk result HaveNoTimes }

@@ -7,6 +7,7 @@ ghost use Rattle.chain_file.specs.Numbered.{HaveNoTimes, NumberedFrom};
 ghost use Rattle.order_queue.specs.Blocks.{FilledBy, joined};
 ghost use Rattle.order_queue.specs.Merge.{IsMerge};
 ghost use Rattle.order_queue.specs.Orders.{IsSubmission, IsOrdered};
+ghost use Rattle.proc_syntax.specs.Limits.{most_blocks, most_clients, most_submitted, most_transactions};
 
 use crate::dealing::deal;
 use crate::drafting::draft;
@@ -38,8 +39,8 @@ pub fn blocks_needed(total: u64, most: u32) -> u64
 
 /// How many transactions the clients have together.
 pub fn total_of(clients: &[List<Tx>]) -> u64
-    requires clients { length clients.now ≤ 8 }
-    requires few { All (λ txs. length txs ≤ 1000000) clients.now }
+    requires clients { length clients.now ≤ most_clients }
+    requires few { All (λ txs. length txs ≤ most_submitted) clients.now }
     ensures sum { result ≡ sum_by length clients.now }
 {
     let mut total = 0u64;
@@ -51,7 +52,7 @@ pub fn total_of(clients: &[List<Tx>]) -> u64
 
 // How many transactions each client has.
 fn counts_of(alloc: Global, clients: &[List<Tx>]) -> Result<Vec<u32>, NoMemory>
-    requires few { All (λ txs. length txs ≤ 1000000) clients.now }
+    requires few { All (λ txs. length txs ≤ most_submitted) clients.now }
     ensures counts { IfOk result (λ counts. counts.items ≡ map length clients.now) }
 {
     let mut counts = Vec::with_capacity(alloc, clients.len())?;
@@ -71,10 +72,10 @@ pub fn order_all<R: Threads + Wait + Sync, P: Pace>(
     most: u32,
     pace: &P,
 ) -> Result<Ordered, NoMemory>
-    requires clients { (1 ≤ length clients) × (length clients ≤ 8) }
-    requires few { All (λ txs. length txs ≤ 1000000) clients }
-    requires most { (1 ≤ most) × (most ≤ 1024) }
-    requires blocks { div_ceil (sum_by length clients) most ≤ 1000000 }
+    requires clients { (1 ≤ length clients) × (length clients ≤ most_clients) }
+    requires few { All (λ txs. length txs ≤ most_submitted) clients }
+    requires most { (1 ≤ most) × (most ≤ most_transactions) }
+    requires blocks { div_ceil (sum_by length clients) most ≤ most_blocks }
     ensures merge { IfOk result (λ ordered. IsMerge clients ordered.from (joined ordered.blocks)) }
     ensures numbered { IfOk result (λ ordered. NumberedFrom 1 ordered.blocks) }
     ensures times { IfOk result (λ ordered. HaveNoTimes ordered.blocks) }
@@ -99,10 +100,10 @@ pub fn ordered_draft<R: Threads + Wait + Sync, P: Pace>(
     most: u32,
     pace: &P,
 ) -> Result<List<u8>, NoMemory>
-    requires clients { (1 ≤ length clients) × (length clients ≤ 8) }
+    requires clients { (1 ≤ length clients) × (length clients ≤ most_clients) }
     requires submissions { All IsSubmission clients }
-    requires most { (1 ≤ most) × (most ≤ 1024) }
-    requires blocks { div_ceil (sum_by length clients) most ≤ 1000000 }
+    requires most { (1 ≤ most) × (most ≤ most_transactions) }
+    requires blocks { div_ceil (sum_by length clients) most ≤ most_blocks }
     ensures ordered { IfOk result (λ bytes. IsOrdered clients most bytes) }
 {
     let ordered = order_all(rt, alloc, clients, most, pace)?;

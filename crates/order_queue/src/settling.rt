@@ -3,6 +3,7 @@ ghost use Rattle.std.specs.Prelude.{◌≡◌, ◌∷◌, ◌+◌, ◌<◌, ◌�
 ghost use Rattle.crossbeam_queue.specs.Passes.{view, IsPassOf};
 ghost use Rattle.order_queue.specs.Standing.{IsCallerOf, HasAll};
 ghost use Rattle.order_queue.specs.Works.{AreWorks, WorksFor, known_of};
+ghost use Rattle.proc_syntax.specs.Limits.{most_clients};
 
 use crate::caller::Caller;
 use crate::pace::Pace;
@@ -50,7 +51,7 @@ fn settle_all<R: Threads + Wait, P: Pace>(
 )
     requires caller { IsCallerOf shared.now.queue caller.old × ((view caller.old.pass).known ≡ []) }
     requires works { AreWorks shared.now.queue.table.shared.table_id counts.now works.items × (vec_len works ≡ length counts.now) }
-    requires few { length counts.now ≤ 8 }
+    requires few { length counts.now ≤ most_clients }
     ensures caller { IsCallerOf shared.now.queue caller.new }
     ensures made { (view caller.new.pass).made ≡ (view caller.old.pass).made }
     ensures known { (view caller.new.pass).known ≡ known_of counts.now (length counts.now) }
@@ -74,7 +75,7 @@ pub fn take_all<R: Threads + Wait, P: Pace>(
 )
     requires caller { IsCallerOf shared.now.queue caller.old × ((view caller.old.pass).known ≡ []) × ((view caller.old.pass).made ≡ length counts.now) }
     requires works { AreWorks shared.now.queue.table.shared.table_id counts.now works.items × (vec_len works ≡ length counts.now) }
-    requires few { length counts.now ≤ 8 }
+    requires few { length counts.now ≤ most_clients }
     ensures all { HasAll caller.new (length counts.now) (known_of counts.now (length counts.now)) }
 {
     gather(rt, shared, caller, counts.len() as u64);

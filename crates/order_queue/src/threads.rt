@@ -4,6 +4,7 @@ ghost use Rattle.std.specs.List.{count_by};
 ghost use Rattle.crossbeam_queue.specs.Passes.{view, IsPassOf};
 ghost use Rattle.order_queue.specs.Standing.{HasAll, IsCaller, IsCallerOf, IsClient, IsClientOf};
 ghost use Rattle.order_queue.specs.Works.{AreWorks, WorksFor, known_of};
+ghost use Rattle.proc_syntax.specs.Limits.{most_clients};
 
 use crate::caller::Caller;
 use crate::pace::Pace;
@@ -33,7 +34,7 @@ fn flags_for(alloc: Global, clients: usize) -> Result<Vec<AtomicBool>, NoMemory>
 
 // How many transactions the clients have together.
 fn sum_of(counts: &[u32]) -> usize
-    requires few { length counts.now ≤ 8 }
+    requires few { length counts.now ≤ most_clients }
 {
     let mut total = 0usize;
     for count in counts {
@@ -44,7 +45,7 @@ fn sum_of(counts: &[u32]) -> usize
 
 // A queue, and a caller who has taken nothing from it and has room for all clients' transactions.
 fn begin(alloc: Global, counts: &[u32]) -> Result<(Shared, Caller), NoMemory>
-    requires few { length counts.now ≤ 8 }
+    requires few { length counts.now ≤ most_clients }
     ensures caller { IfOk result (λ begun. IsCallerOf begun.0.queue begun.1) }
     ensures new { IfOk result (λ begun. ((view begun.1.pass).known ≡ []) × ((view begun.1.pass).made ≡ 0)) }
 {
@@ -71,7 +72,7 @@ fn run_clients<R: Threads + Wait + Sync, P: Pace>(
 ) -> Caller
     requires caller { IsCallerOf shared.now.queue caller × ((view caller.pass).known ≡ []) × ((view caller.pass).made ≡ 0) }
     requires room { (works.items ≡ []) × (length counts.now ≤ vec_capacity works) }
-    requires few { (length stops.now ≡ length counts.now) × (length counts.now ≤ 8) }
+    requires few { (length stops.now ≡ length counts.now) × (length counts.now ≤ most_clients) }
     ensures all { HasAll result (length counts.now) (known_of counts.now (length counts.now)) }
 {
     thread::scope(
@@ -80,7 +81,7 @@ fn run_clients<R: Threads + Wait + Sync, P: Pace>(
         move |scope| -> Caller
             requires caller { IsCallerOf shared.now.queue caller × ((view caller.pass).known ≡ []) × ((view caller.pass).made ≡ 0) }
             requires room { (works.items ≡ []) × (length counts.now ≤ vec_capacity works) }
-            requires few { (length stops.now ≡ length counts.now) × (length counts.now ≤ 8) }
+            requires few { (length stops.now ≡ length counts.now) × (length counts.now ≤ most_clients) }
             ensures { HasAll result (length counts.entry.now) (known_of counts.entry.now (length counts.entry.now)) }
         {
             let mut caller = caller;
@@ -124,7 +125,7 @@ pub fn collect<R: Threads + Wait + Sync, P: Pace>(
     counts: &[u32],
     pace: &P,
 ) -> Result<Vec<u32>, NoMemory>
-    requires few { length counts.now ≤ 8 }
+    requires few { length counts.now ≤ most_clients }
     ensures counts { IfOk result (λ from. (k : ℕ) → k < length counts.now → count_by (λ client. client == k + 1) from.items ≡ slice_index counts.now k) }
     ensures clients { IfOk result (λ from. All (λ client. (1 ≤ client) × (client ≤ length counts.now)) from.items) }
 {

@@ -2,6 +2,7 @@
 
 ghost use Rattle.std.specs.Prelude.{◌≡◌, ◌≤◌, All, IfOk, length};
 ghost use Rattle.order_queue.specs.Orders.{IsSubmission};
+ghost use Rattle.proc_syntax.specs.Limits.{most_transactions};
 
 use order_queue::{Pace, blocks_needed, ordered_draft, total_of};
 use proc_syntax::Tx;
@@ -47,7 +48,7 @@ pub fn draft_of<R: Threads + Wait + Sync, P: Pace>(
     most: u32,
     pace: &P,
 ) -> Result<List<u8>, Fail>
-    requires most { (1 ≤ most) × (most ≤ 1024) }
+    requires most { (1 ≤ most) × (most ≤ most_transactions) }
 {
     if files.is_empty() || files.len() > 8 {
         return Err("too few clients or too many".into());

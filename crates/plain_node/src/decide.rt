@@ -14,6 +14,7 @@ ghost use Rattle.proc_syntax.specs.Declaring.{tables_of};
 ghost use Rattle.proc_syntax.specs.Run.{run};
 ghost use Rattle.rel_base.specs.Tables.{tables_at};
 ghost use Rattle.rel_base.specs.declared.schema.TableDef.{TableDef};
+ghost use Rattle.proc_syntax.specs.Limits.{most_transactions};
 
 use crate::moment::Moment;
 use block_work::{BlockInWork, Chain, Verdict, early_cause};
@@ -71,7 +72,7 @@ fn decide_run<V: Versions>(
 ) -> Result<TxDecision, NoMemory>
     requires store { StoreFits chain.now.app.value.app (V.tables chain.now.versions) (V.history chain.now.versions) chain.now.blocks }
     requires number { 0 < work.now.number }
-    requires few { length work.now.outcomes.items < 1024 }
+    requires few { length work.now.outcomes.items < most_transactions }
     requires consistent { IsConsistent (tables_of chain.now.app.value.app) work.now }
     ensures work { IfOk result (λ decided. (sealed : List SealedBlock) → HoldsChain (tables_of chain.now.app.value.app) sealed (V.history chain.now.versions) chain.now.blocks
         → with_decided (work_of work.now) tx.now.id decided ≡ work_with (work_of work.now) tx.now.id (run_at chain.now.app.value.app sealed tx.now)
@@ -95,7 +96,7 @@ pub fn decide<V: Versions>(
 ) -> Result<TxDecision, NoMemory>
     requires store { StoreFits chain.now.app.value.app (V.tables chain.now.versions) (V.history chain.now.versions) chain.now.blocks }
     requires number { 0 < work.now.number }
-    requires few { length work.now.outcomes.items < 1024 }
+    requires few { length work.now.outcomes.items < most_transactions }
     requires consistent { IsConsistent (tables_of chain.now.app.value.app) work.now }
     ensures work { IfOk result (λ decided. (sealed : List SealedBlock) → HoldsChain (tables_of chain.now.app.value.app) sealed (V.history chain.now.versions) chain.now.blocks
         → known ≡ list_any (bytes_eq tx.now.id) (ids_of sealed ++ ids_told work.now.outcomes.items)
@@ -110,7 +111,7 @@ pub fn decide<V: Versions>(
 
 /// Adds what is decided of a transaction. Takes no memory.
 pub fn add(work: &mut BlockInWork, id: Id, decided: TxDecision)
-    requires few { length work.old.outcomes.items < 1024 }
+    requires few { length work.old.outcomes.items < most_transactions }
     requires room { HasRoomForOne work.old }
     requires decision { (tables : List TableDef) × IsDecision tables work.old decided }
     ensures number { work.new.number ≡ work.old.number }

@@ -8,6 +8,7 @@ ghost use Rattle.block_work.specs.declared.ids.IdIndex.{IdIndex as Index};
 ghost use Rattle.node_model.specs.Fold.{seal, work_on, work_through};
 ghost use Rattle.node_model.specs.History.{SealedBlock};
 ghost use Rattle.proc_syntax.specs.Declaring.{tables_of};
+ghost use Rattle.proc_syntax.specs.Limits.{most_transactions};
 
 use crate::decide::{add, decide};
 use block_work::{BlockInWork, Chain, IdIndex};
@@ -26,7 +27,7 @@ fn decide_next<V: Versions>(
 ) -> Result<(), NoMemory>
     requires store { StoreFits chain.now.app.value.app (V.tables chain.now.versions) (V.history chain.now.versions) chain.now.blocks }
     requires number { 0 < work.old.number }
-    requires few { length work.old.outcomes.items < 1024 }
+    requires few { length work.old.outcomes.items < most_transactions }
     requires consistent { IsConsistent (tables_of chain.now.app.value.app) work.old }
     ensures number { work.new.number ≡ work.old.number }
     ensures time { work.new.time ≡ work.old.time }
@@ -63,12 +64,12 @@ fn decide_all<V: Versions>(
     requires store { StoreFits chain.now.app.value.app (V.tables chain.now.versions) (V.history chain.now.versions) chain.now.blocks }
     requires number { 0 < work.old.number }
     requires none { work.old.outcomes.items ≡ [] }
-    requires few { length txs.now ≤ 1024 }
+    requires few { length txs.now ≤ most_transactions }
     requires consistent { IsConsistent (tables_of chain.now.app.value.app) work.old }
     ensures number { work.new.number ≡ work.old.number }
     ensures time { work.new.time ≡ work.old.time }
     ensures consistent { IsConsistent (tables_of chain.now.app.value.app) work.new }
-    ensures few { length work.new.outcomes.items ≤ 1024 }
+    ensures few { length work.new.outcomes.items ≤ most_transactions }
     ensures added { AddsAmong ids.old ids.new work.old.number work.new.outcomes.items }
     ensures work { OnOk result ((sealed : List SealedBlock) → HoldsChain (tables_of chain.now.app.value.app) sealed (V.history chain.now.versions) chain.now.blocks
         → HasFirstPlaces ids.old sealed work.old.number []

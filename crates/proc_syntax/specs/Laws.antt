@@ -15,6 +15,7 @@ use Rattle.proc_syntax.specs.declared.tree.App.{App}
 use Rattle.proc_syntax.specs.Declaring.{tables_of}
 use Rattle.rel_base.specs.OwnWrites.{Own, merged}
 use Rattle.proc_syntax.specs.Run.{run}
+use Rattle.proc_syntax.specs.Limits.{most_steps}
 
 -- each read of a run is listed with its rows in the tables
 abbrev pub ReadsAreRows : Type 0
@@ -32,11 +33,11 @@ ReadsFit = (app : App) (tx : Tx) (time : ℤ) (tables : Tables) → All (λ made
 
 -- a run has at most 100,000 reads
 abbrev pub FewReads : Type 0
-FewReads = (app : App) (tx : Tx) (time : ℤ) (tables : Tables) → length (run app tx time tables).reads ≤ 100000
+FewReads = (app : App) (tx : Tx) (time : ℤ) (tables : Tables) → length (run app tx time tables).reads ≤ most_steps
 
 -- and at most 100,000 writes
 abbrev pub FewWrites : Type 0
-FewWrites = (app : App) (tx : Tx) (time : ℤ) (tables : Tables) → length (run app tx time tables).writes ≤ 100000
+FewWrites = (app : App) (tx : Tx) (time : ℤ) (tables : Tables) → length (run app tx time tables).writes ≤ most_steps
 
 -- on tables whose rows fit and stand under their keys, each write of a run fits the declaration of its table
 abbrev pub WritesFit : Type 0

@@ -1,3 +1,4 @@
+pub mod Limits
 pub mod Declaring
 pub mod Values
 pub mod Scope

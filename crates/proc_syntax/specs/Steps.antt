@@ -17,6 +17,7 @@ use Rattle.proc_syntax.specs.declared.fault.Fault.TheVariants as fault
 use Rattle.proc_syntax.specs.declared.run.Stop.{Stop}
 use Rattle.proc_syntax.specs.declared.run.Stop.TheVariants as stop
 use Rattle.proc_syntax.specs.Values.{has_kind, have_kinds, flag_of}
+use Rattle.proc_syntax.specs.Limits.{most_steps}
 
 -- ---- what a run has on its way
 
@@ -37,7 +38,7 @@ then_do (Stopped state why) go = Stopped state why
 
 -- one more step, where fewer than 100,000 were made
 abbrev pub step_then : {V : Type 0} → State V → (State V → Progress V) → Progress V
-step_then state go = cond (nat_lt state.steps 100000) (go (record state { steps = state.steps + 1 })) (Stopped state (stop.Fault fault.Steps))
+step_then state go = cond (nat_lt state.steps most_steps) (go (record state { steps = state.steps + 1 })) (Stopped state (stop.Fault fault.Steps))
 
 -- goes on with a result, or stops with it
 abbrev pub with_value : {V A : Type 0} → Result A Stop → State V → (A → Progress V) → Progress V

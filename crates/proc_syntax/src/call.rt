@@ -2,6 +2,7 @@
 
 ghost use Rattle.std.specs.Prelude.{◌≡◌, ◌<◌, ◌≤◌, IfOk, IfErr, IsErr, ◌↔◌, length, pos};
 ghost use Rattle.std.specs.Prelude.{true, int_le};
+ghost use Rattle.proc_syntax.specs.Limits.{most_transactions};
 
 use rel_base::{Id, List, Name, NoMemory, Row, Twin};
 use std::alloc::Global;
@@ -46,7 +47,7 @@ pub struct Block {
     pub number: u64,
     pub time: i64,
     pub txs: List<Tx>,
-    ghost few: { length txs ≤ 1024 },
+    ghost few: { length txs ≤ most_transactions },
     ghost not_negative: { int_le (pos 0) time ≡ true },
 }
 
@@ -56,7 +57,7 @@ impl Block {
         requires { int_le (pos 0) time ≡ true }
         ensures ok { IfOk result (λ block. (block.number ≡ number) × (block.time ≡ time) × (block.txs ≡ txs)) }
         ensures err { IfErr result (λ back. back ≡ txs) }
-        ensures too_many { IsErr result ↔ (1024 < length txs) }
+        ensures too_many { IsErr result ↔ (most_transactions < length txs) }
     {
         if txs.len() > MOST_TRANSACTIONS {
             return Err(txs);

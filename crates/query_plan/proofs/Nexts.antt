@@ -1,5 +1,5 @@
 -- Tallies that are brought to one tuple more place by place.
-use Rattle.std.proofs.Common.{◌≡◌, ◌+◌, ℕ, zero, suc, List, [], ◌∷◌, ◌++◌, length, Some, None, refl, sym, ap, ◌∙◌, arith, slice_get, slice_set}
+use Rattle.std.proofs.Common.{◌≡◌, ◌+◌, ℕ, zero, suc, List, [], ◌∷◌, Some, None, refl, sym, ap, ◌∙◌, arith, slice_get, slice_set}
 use Rattle.rel_base.specs.declared.access.Seen.{Seen}
 use Rattle.query_plan.specs.Tallies.{next_at, next_tallies, next_tally}
 use Rattle.query_plan.specs.declared.tally.Tally.{Tally}

@@ -1,5 +1,5 @@
 -- A tuple of a group that is there already.
-use Rattle.std.proofs.Common.{◌≡◌, ◌∙◌, List, Option, Some, Result, Ok, Err, ap, map, sym}
+use Rattle.std.proofs.Common.{◌≡◌, ◌∙◌, List, Option, Some, Result, Ok, Err, ap, sym}
 use Rattle.std.specs.BTreeMap.{BTreeMap, IsOrdered, get_by, insert_entry, is_at}
 use Rattle.std.specs.Map.{lookup, set_value}
 use Rattle.std.specs.Prelude.{OnOk}
@@ -9,7 +9,6 @@ use Rattle.rel_base.specs.declared.memory.NoMemory.{NoMemory}
 use Rattle.rel_base.specs.declared.value.Value.{Value}
 use Rattle.query_plan.proofs.Written.{set_is_insert}
 use Rattle.query_plan.specs.Tallies.{next_tallies, put_tallies, with_tallies}
-use Rattle.query_plan.specs.Tuples.{at}
 use Rattle.query_plan.specs.Walk.{plain_row}
 use Rattle.query_plan.specs.declared.select.Col.{Col}
 use Rattle.query_plan.specs.declared.select.Item.{Item}

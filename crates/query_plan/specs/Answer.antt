@@ -18,6 +18,7 @@ use Rattle.query_plan.specs.declared.select.Col.{Col}
 use Rattle.query_plan.specs.declared.select.Item.{Item}
 use Rattle.query_plan.specs.declared.select.Item.TheVariants.{Plain, Count, Sum, Min, Max}
 use Rattle.query_plan.specs.declared.select.Select.{Select}
+use Rattle.query_plan.specs.Limits.{most_tuples}
 
 -- ---- groups
 
@@ -145,7 +146,7 @@ ordered order (Some rows) = Ok (in_order order rows)
 
 -- the answer to a query over tables
 abbrev pub answer_over : Tables → Select → Result (List (List Value)) AskFault
-answer_over tables select = cond (nat_lt 1000000 (length (tuples_of tables select))) (Err fault.TooMany) (ordered select.order (rows_of select (tuples_of tables select)))
+answer_over tables select = cond (nat_lt most_tuples (length (tuples_of tables select))) (Err fault.TooMany) (ordered select.order (rows_of select (tuples_of tables select)))
 
 -- the answer to a query over the tables at a height, where blocks are sealed up to another
 abbrev pub answer_of : Tables → Select → (sealed height : ℕ) → Result (List (List Value)) AskFault

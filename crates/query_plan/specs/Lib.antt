@@ -1,3 +1,4 @@
+pub mod Limits
 pub mod Tuples
 pub mod Cells
 pub mod Walk

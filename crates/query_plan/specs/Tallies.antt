@@ -18,6 +18,7 @@ use Rattle.query_plan.specs.declared.tally.Tally.TheVariants as tally
 use Rattle.query_plan.specs.declared.select.Col.{Col}
 use Rattle.query_plan.specs.declared.select.Item.{Item}
 use Rattle.query_plan.specs.declared.select.Item.TheVariants.{Plain, Count, Sum, Min, Max}
+use Rattle.query_plan.specs.Limits.{most_tuples}
 
 abbrev pub lesser : Value → Value → Value
 lesser least v = cond (is_lt (value_cmp v least)) v least
@@ -77,14 +78,14 @@ passing comparisons rows = filter (holds_all comparisons) (map (λ row. row ∷ 
 
 -- tuples were put and counted, and are not too many; or there would be
 abbrev pub Puts : Result ℕ WalkFault → List Col → List Item → List (List Value × List Tally) → List (List Value × List Tally) → ℕ → List (List Seen) → Type 0
-Puts (Ok number) columns items old new count tuples = (new ≡ put_all columns items old tuples) × (number ≡ count + length tuples) × (number ≤ 1000000)
+Puts (Ok number) columns items old new count tuples = (new ≡ put_all columns items old tuples) × (number ≡ count + length tuples) × (number ≤ most_tuples)
 Puts (Err fault.NoMemory) columns items old new count tuples = Unit {0}
-Puts (Err fault.TooMany) columns items old new count tuples = 1000000 < count + length tuples
+Puts (Err fault.TooMany) columns items old new count tuples = most_tuples < count + length tuples
 
 abbrev pub AreGrouped : Result (BTreeMap (List Value) (List Tally)) WalkFault → List Col → List Item → List (List Seen) → Type 0
-AreGrouped (Ok groups) columns items tuples = (groups.entries ≡ put_all columns items [] tuples) × (length tuples ≤ 1000000)
+AreGrouped (Ok groups) columns items tuples = (groups.entries ≡ put_all columns items [] tuples) × (length tuples ≤ most_tuples)
 AreGrouped (Err fault.NoMemory) columns items tuples = Unit {0}
-AreGrouped (Err fault.TooMany) columns items tuples = 1000000 < length tuples
+AreGrouped (Err fault.TooMany) columns items tuples = most_tuples < length tuples
 
 -- the value of a tally, where it is one
 abbrev pub value_of : Tally → Option Value

@@ -18,6 +18,7 @@ use Rattle.query_plan.specs.declared.fault.WalkFault.TheVariants as fault
 use Rattle.query_plan.specs.declared.select.Col.{Col}
 use Rattle.query_plan.specs.Tuples.{at, choices, holds, holds_all, table_rows}
 use Rattle.query_plan.specs.declared.select.Comparison.{Comparison}
+use Rattle.query_plan.specs.Limits.{most_tuples}
 
 -- the tuples that begin with some rows and go on with a row of each of some sources
 abbrev pub extended : Tables → List Comparison → List Seen → List ℕ → List (List Seen)
@@ -41,15 +42,15 @@ plain_row columns tuple = map (at tuple) columns
 
 -- rows were added, and there are not too many; or there would be
 abbrev pub Walks : Result (Unit {0}) WalkFault → List (List Value) → List (List Value) → List (List Value) → Type 0
-Walks (Ok _) old new added = (new ≡ old ++ added) × (length new ≤ 1000000)
+Walks (Ok _) old new added = (new ≡ old ++ added) × (length new ≤ most_tuples)
 Walks (Err fault.NoMemory) old new added = Unit {0}
-Walks (Err fault.TooMany) old new added = 1000000 < length (old ++ added)
+Walks (Err fault.TooMany) old new added = most_tuples < length (old ++ added)
 
 -- these are all rows, and there are not too many; or there would be
 abbrev pub Gathers : Result (List (List Value)) WalkFault → List (List Value) → Type 0
-Gathers (Ok rows) all = (rows ≡ all) × (length all ≤ 1000000)
+Gathers (Ok rows) all = (rows ≡ all) × (length all ≤ most_tuples)
 Gathers (Err fault.NoMemory) all = Unit {0}
-Gathers (Err fault.TooMany) all = 1000000 < length all
+Gathers (Err fault.TooMany) all = most_tuples < length all
 
 -- whether a read of declared tables covers a row
 abbrev pub covers_by : Option TableDef → Read → List Value → Bool

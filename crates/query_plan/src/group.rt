@@ -7,6 +7,7 @@ ghost use Rattle.query_plan.specs.Cells.{IsEarly};
 ghost use Rattle.query_plan.specs.Tallies.{AreGrouped, Puts, passing, put_tallies, value_of};
 ghost use Rattle.query_plan.specs.Tuples.{holds_all};
 ghost use Rattle.query_plan.specs.Walk.{plain_row};
+ghost use Rattle.query_plan.specs.Limits.{most_tuples};
 
 use crate::cell::{at, cell_copy};
 use crate::compare::holds;
@@ -74,7 +75,7 @@ fn put_counted(
     tuple: &[Seen],
 ) -> Result<u32, WalkFault>
     requires early { All IsEarly tuple.now }
-    requires few { count ≤ 1000000 }
+    requires few { count ≤ most_tuples }
     ensures { Puts result columns.now items.now groups.old.entries groups.new.entries count (tuple.now ∷ []) }
 {
     if count == 1_000_000 {
@@ -93,7 +94,7 @@ fn put_row(
     seen: Seen,
 ) -> Result<u32, WalkFault>
     requires early { IsEarly seen }
-    requires few { count ≤ 1000000 }
+    requires few { count ≤ most_tuples }
     ensures { Puts result grouping.now.columns.now grouping.now.items.now groups.old.entries groups.new.entries count (passing grouping.now.comparisons.now (seen ∷ [])) }
 {
     let tuple = slice::from_ref(&seen);

@@ -8,6 +8,7 @@ ghost use Rattle.query_plan.specs.Fits.{StepFits};
 ghost use Rattle.query_plan.specs.Walk.{CanAsk, Gathers, MayBegin, Walks, going_by, going_on, holds_at_last, passes, plain_row, tables_of};
 ghost use Rattle.query_plan.specs.Ready.{is_ready, is_side_ready};
 ghost use Rattle.rel_base.specs.Tables.{tables_at};
+ghost use Rattle.query_plan.specs.Limits.{most_tuples};
 
 use crate::access::{Step, read_of};
 use crate::cell::{at, cell_copy};
@@ -82,7 +83,7 @@ fn keep(
     rows: &mut List<Row>,
 ) -> Result<(), WalkFault>
     requires early { All IsEarly tuple.now }
-    requires few { length rows.old ≤ 1000000 }
+    requires few { length rows.old ≤ most_tuples }
     ensures { Walks result rows.old rows.new (plain_row columns.now tuple.now ∷ []) }
 {
     if rows.len() == MOST {
@@ -172,7 +173,7 @@ pub fn walk<V: Versions>(
     requires tables { V.tables asked.now.versions.now ≡ asked.now.defs.now }
     requires can { CanAsk asked.now.defs.now (tables_at asked.now.height (V.history asked.now.versions.now)) asked.now.comparisons.now asked.now.steps.now }
     requires prefix { MayBegin asked.now.comparisons.now asked.now.steps.now prefix.old }
-    requires few { length rows.old ≤ 1000000 }
+    requires few { length rows.old ≤ most_tuples }
     ensures rows { Walks result rows.old rows.new (going_on (tables_at asked.now.height (V.history asked.now.versions.now)) asked.now.comparisons.now asked.now.columns.now (tables_of asked.now.steps.now) prefix.old) }
     ensures prefix { OnOk result (prefix.new ≡ prefix.old) }
 {

@@ -5,7 +5,7 @@ use Rattle.proc_parse.specs.declared.token.Word.TheVariants as word
 use Rattle.proc_parse.specs.Expressions.{is_name}
 use Rattle.proc_parse.specs.Reading.{Reader}
 use Rattle.proc_parse.specs.Words.{is_sign}
-use Rattle.query_text.specs.Grammar.{aggregate, by_list, col, columns, comparison, conditions, field, given_side, head_of, item, item_by, items, literal_side, minus, minus_side, named, number, plain_item, relation, select_list, select_upto, selected_of, side, source}
+use Rattle.query_text.specs.Grammar.{aggregate, by_list, col, columns, comparison, conditions, field, head_of, item, item_by, items, literal_side, minus, minus_side, named, number, relation, select_list, select_upto, selected_of, side, source}
 use Rattle.query_text.specs.Keywords.{is_keyword}
 use Rattle.query_text.specs.Lists.{list_upto}
 use Rattle.query_text.specs.declared.items.ItemHead.{ItemHead}
@@ -13,7 +13,6 @@ use Rattle.query_text.specs.declared.items.ItemHead.TheVariants as head
 use Rattle.query_text.specs.declared.keyword.Keyword.{Keyword}
 use Rattle.query_text.specs.declared.keyword.Keyword.TheVariants as keyword
 use Rattle.query_text.specs.declared.lists.Separator.TheVariants as separator
-use Rattle.query_text.specs.declared.tree.ComparisonText.{ComparisonText}
 use Rattle.query_text.specs.declared.tree.SourceText.{SourceText}
 use Rattle.query_text.proofs.Steady.{IsSteady, steady_before, steady_behind, steady_done, steady_first, steady_keyword, steady_one, steady_sign, steady_then, steady_upto, steady_word}
 

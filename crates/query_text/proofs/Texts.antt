@@ -4,10 +4,10 @@ use Rattle.proc_parse.specs.declared.token.Token.{Token}
 use Rattle.proc_parse.specs.declared.token.Lexeme.TheVariants as lexeme
 use Rattle.proc_parse.specs.Faults.{position_of}
 use Rattle.proc_parse.specs.Grammar.{is_end}
-use Rattle.proc_parse.specs.Reading.{Read, Reader, on_read, done, if_past}
+use Rattle.proc_parse.specs.Reading.{Read, on_read, done, if_past}
 use Rattle.proc_parse.specs.Tokens.{tokens_of}
 use Rattle.proc_parse.proofs.Halts.{SomeLeft, has_last, left_end, left_then, text_last}
-use Rattle.proc_parse.proofs.Local.{IsLocal, bad_stays, left, local_behind, local_done, local_expect, local_then}
+use Rattle.proc_parse.proofs.Local.{IsLocal, bad_stays, left, local_done, local_expect, local_then}
 use Rattle.proc_parse.proofs.Viable.{Accepts, Case, MayContinue, any}
 use Rattle.proc_parse.proofs.ViableRules.{token}
 use Rattle.query_text.specs.Faults.{IsAfterViable, IsRefused, IsViable}

@@ -1,5 +1,5 @@
 -- What a query that was read has: few sources, and one where it has items.
-use Rattle.std.proofs.Common.{◌≡◌, ◌≤◌, ◌+◌, ◌⊎◌, inl, inr, ℕ, zero, suc, List, [], ◌∷◌, ◌++◌, length, length-append, Bool, cond, Option, Some, None, Ok, Err, refl, ap, subst, sym, ◌∙◌, arith}
+use Rattle.std.proofs.Common.{◌≡◌, ◌≤◌, ◌+◌, ℕ, zero, suc, List, [], ◌∷◌, ◌++◌, length, length-append, Option, Some, None, Ok, Err, refl, subst, sym, ◌∙◌, arith}
 use Rattle.proc_parse.specs.declared.token.Token.{Token}
 use Rattle.proc_parse.specs.declared.token.Sign.TheVariants as sign
 use Rattle.proc_parse.specs.declared.token.Word.TheVariants as word
@@ -11,7 +11,6 @@ use Rattle.query_text.specs.Lists.{list_upto, separates, upto_from}
 use Rattle.query_text.specs.declared.keyword.Keyword.TheVariants as keyword
 use Rattle.query_text.specs.declared.lists.Separator.{Separator}
 use Rattle.query_text.specs.declared.lists.Separator.TheVariants as separator
-use Rattle.query_text.specs.declared.tree.ColText.{ColText}
 use Rattle.query_text.specs.declared.tree.SelectText.{SelectText}
 use Rattle.query_text.specs.declared.tree.SelectedText.{SelectedText}
 use Rattle.query_text.specs.declared.tree.SelectedText.TheVariants as selected

@@ -1,8 +1,8 @@
 -- What a list of at most so many elements has read where it stops goes on to one that may have an element more.
-use Rattle.std.proofs.Common.{◌≡◌, ℕ, zero, suc, List, [], ◌∷◌, ◌++◌, Bool, true, false, Option, Some, None, refl}
+use Rattle.std.proofs.Common.{◌≡◌, ℕ, zero, suc, List, [], ◌∷◌, ◌++◌, Bool, true, false, Some, None}
 use Rattle.proc_parse.specs.declared.token.Token.{Token}
 use Rattle.proc_parse.specs.declared.token.Lexeme.{Lexeme}
-use Rattle.proc_parse.specs.Reading.{Reader, ◌>>=◌, behind, done, refuse}
+use Rattle.proc_parse.specs.Reading.{Reader, behind, done}
 use Rattle.proc_parse.proofs.Viable.{Phrase, Whole, phrase_done, phrase_then, viable_refuse, whole_done, whole_maybe}
 use Rattle.proc_parse.proofs.ViableForms.{phrase_stay, whole_behind}
 use Rattle.query_text.specs.Lists.{list_upto, separates, upto_from}

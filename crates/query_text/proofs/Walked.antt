@@ -1,16 +1,14 @@
 -- A query that the walk makes may be asked of its tables.
-use Rattle.std.proofs.Common.{◌≡◌, ◌<◌, ◌≤◌, ◌+◌, ℕ, zero, suc, List, [], ◌∷◌, ◌++◌, map, length, Bool, true, false, cond, not, ◌&&◌, ◌||◌, nat_lt, All, Option, Some, None, Result, Ok, Err, slice_get, refl, ap, subst, sym, ◌∙◌, arith}
+use Rattle.std.proofs.Common.{◌≡◌, ◌<◌, ◌+◌, ℕ, zero, suc, List, [], ◌∷◌, ◌++◌, map, length, Bool, true, false, cond, not, ◌||◌, nat_lt, All, Option, Some, None, Ok, Err, slice_get, refl, ap, subst, sym, ◌∙◌, arith}
 use Rattle.std.specs.List.{list_all, list_any, position_from}
-use Rattle.std.specs.Option.{option_map}
 use Rattle.std.specs.Prelude.{IfOk, IsSome}
 use Rattle.std.specs.Str.{bytes_eq}
 use Rattle.std.proofs.lemmas.Bool.{and_from, lt-ltb}
 use Rattle.std.proofs.lemmas.List.Elements.{All-cons, All-nil}
-use Rattle.proc_parse.specs.Reading.{Read}
 use Rattle.proc_parse.specs.declared.lexer.Position.{Position}
 use Rattle.rel_base.specs.declared.schema.TableDef.{TableDef}
 use Rattle.query_plan.proofs.Plainly.{none_aggregate}
-use Rattle.query_plan.specs.Answer.{is_grouped, is_some_col}
+use Rattle.query_plan.specs.Answer.{is_some_col}
 use Rattle.query_plan.specs.Answer as plan
 use Rattle.query_plan.specs.Fits.{IsSelectOver}
 use Rattle.query_plan.specs.Ready.{is_ready, is_side_ready}
@@ -27,7 +25,6 @@ use Rattle.query_text.proofs.Trees.{IsTree, OneWhere}
 use Rattle.query_text.specs.Walk.{Met, Scope, allowed, col_kind, each, is_named, known, same_kind, side_kind, side_place, table_of, twice, ◌>>=◌, walk, walk_col, walk_comparison, walk_field, walk_number, walk_rest, walk_selected, walk_side, walk_source, walk_sources, wrong}
 use Rattle.query_text.specs.declared.tree.ColText.{ColText}
 use Rattle.query_text.specs.declared.tree.ComparisonText.{ComparisonText}
-use Rattle.query_text.specs.declared.tree.NumberText.{NumberText}
 use Rattle.query_text.specs.declared.tree.SelectText.{SelectText}
 use Rattle.query_text.specs.declared.tree.SelectedText.{SelectedText}
 use Rattle.query_text.specs.declared.tree.SelectedText.TheVariants as selected

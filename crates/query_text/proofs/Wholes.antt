@@ -1,5 +1,5 @@
 -- What each rule of queries has read where it stops goes on to a phrase.
-use Rattle.std.proofs.Common.{◌≡◌, ℕ, List, [], ◌∷◌, Bool, true, false, Option, Some, None, Ok, Err, ◌≤◌, pos, refl, ap, subst, sym, ◌∙◌, arith, length}
+use Rattle.std.proofs.Common.{◌≡◌, List, [], ◌∷◌, Bool, true, false, Option, Some, None, Ok, Err, ◌≤◌, pos, refl, subst, sym, arith, length}
 use denote.Enum.Bare.{same_true}
 use Rattle.rel_base.specs.declared.value.Value.TheVariants as value
 use Rattle.proc_parse.specs.contracts.token.Sign as a_sign
@@ -13,13 +13,13 @@ use Rattle.proc_parse.specs.declared.token.Word.TheVariants as word
 use Rattle.proc_parse.specs.Expressions.{is_name}
 use Rattle.proc_parse.specs.Phrases.{ended, the_sign, the_word}
 use Rattle.proc_parse.specs.Reading.{IsShorter, Read, Reader, Shortens, ◌>>=◌, ◌>>◌, before, done, on_read}
-use Rattle.proc_parse.specs.Shorter.{IsWithin, NeverGrows, keeps_behind, keeps_done, keeps_of, keeps_then, shortens_before, shortens_one, shortens_sign, shortens_then}
+use Rattle.proc_parse.specs.Shorter.{IsWithin, NeverGrows, keeps_behind, keeps_done, keeps_of, shortens_before, shortens_one, shortens_sign, shortens_then}
 use Rattle.proc_parse.specs.Words.{is_sign, is_word}
 use Rattle.proc_parse.proofs.Viable.{Phrase, Viable, Whole, any, whole_any, whole_before, whole_done, whole_maybe, whole_then}
 use Rattle.proc_parse.proofs.ViableForms.{never_empty, viable_first, whole_ahead, whole_behind, whole_expect, whole_one}
 use Rattle.proc_parse.proofs.ViableRules.{token}
 use Rattle.query_plan.specs.declared.select.Relation.TheVariants as relation
-use Rattle.query_text.specs.Grammar.{aggregate, by_list, col, columns, comparison, conditions, field, given_side, head_of, item, item_by, items, literal_side, minus, minus_side, named, number, plain_item, select_list, select_upto, selected_of, side, source, the_keyword}
+use Rattle.query_text.specs.Grammar.{by_list, col, columns, comparison, conditions, field, head_of, item, item_by, items, literal_side, minus, minus_side, named, number, select_list, select_upto, selected_of, side, source, the_keyword}
 use Rattle.query_text.specs.Keywords.{is_keyword, is_own, keyword_in, keywords, spelling}
 use Rattle.query_text.specs.Lists.{list_upto, separates}
 use Rattle.query_text.specs.Shorter.{shortens_col, shortens_comparison, shortens_item, shortens_keyword, shortens_minus, shortens_number, shortens_upto}
@@ -28,12 +28,10 @@ use Rattle.query_text.specs.declared.items.ItemHead.{ItemHead}
 use Rattle.query_text.specs.declared.items.ItemHead.TheVariants as head
 use Rattle.query_text.specs.declared.keyword.Keyword.{Keyword}
 use Rattle.query_text.specs.declared.keyword.Keyword.TheVariants as keyword
-use Rattle.query_text.specs.declared.lists.Separator.{Separator}
 use Rattle.query_text.specs.declared.lists.Separator.TheVariants as separator
 use Rattle.query_text.specs.declared.tree.ColText.{ColText}
 use Rattle.query_text.specs.declared.tree.ComparisonText.{ComparisonText}
 use Rattle.query_text.specs.declared.tree.FieldText.TheVariants as field_text
-use Rattle.query_text.specs.declared.tree.ItemText.{ItemText}
 use Rattle.query_text.specs.declared.tree.ItemText.TheVariants as item_text
 use Rattle.query_text.specs.declared.tree.NameText.{NameText}
 use Rattle.query_text.specs.declared.tree.NumberText.{NumberText}

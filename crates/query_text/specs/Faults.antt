@@ -4,7 +4,7 @@ use Rattle.proc_parse.specs.declared.token.Token.{Token}
 use Rattle.proc_parse.specs.Tokens.{tokens_of}
 use Rattle.query_plan.specs.declared.fault.AskFault.{AskFault}
 use Rattle.query_plan.specs.declared.fault.AskFault.TheVariants as fault
-use Rattle.query_text.specs.Grammar.{query, query_upto}
+use Rattle.query_text.specs.Grammar.{most_text_bytes, query, query_upto}
 use Rattle.query_text.specs.declared.tree.SelectText.{SelectText}
 
 -- a token of these stands at the place, and whatever follows it, the grammar stops at it: no continuation of what stands before it allows it
@@ -40,7 +40,7 @@ IfSyntax (Err (fault.Syntax line col)) p = p line col
 IfSyntax result p = Unit {0}
 
 abbrev pub RefusedIn : List ℕ → ℕ → ℕ → Type 0
-RefusedIn text line col = length text ≤ 4096 → IsRefused (tokens_of text) line col
+RefusedIn text line col = length text ≤ most_text_bytes → IsRefused (tokens_of text) line col
 
 abbrev pub ViableIn : List ℕ → ℕ → ℕ → Type 0
-ViableIn text line col = length text ≤ 4096 → IsAfterViable (tokens_of text) line col
+ViableIn text line col = length text ≤ most_text_bytes → IsAfterViable (tokens_of text) line col

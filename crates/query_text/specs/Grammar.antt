@@ -38,6 +38,10 @@ use Rattle.query_text.specs.declared.tree.SideText.{SideText}
 use Rattle.query_text.specs.declared.tree.SideText.TheVariants as side_text
 use Rattle.query_text.specs.declared.tree.SourceText.{SourceText}
 
+-- the most bytes of a text
+abbrev pub most_text_bytes : ℕ
+most_text_bytes = 4096
+
 abbrev pub place_of : Token → Position
 place_of token = record { line = token.line; col = token.col }
 

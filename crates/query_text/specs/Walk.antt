@@ -24,7 +24,7 @@ use Rattle.query_plan.specs.declared.select.Item.TheVariants as item
 use Rattle.query_plan.specs.declared.select.Select.{Select}
 use Rattle.query_plan.specs.declared.select.Side.{Side}
 use Rattle.query_plan.specs.declared.select.Side.TheVariants as side
-use Rattle.query_text.specs.Grammar.{query}
+use Rattle.query_text.specs.Grammar.{most_text_bytes, query}
 use Rattle.query_text.specs.declared.scope.Sources.{Sources}
 use Rattle.query_text.specs.declared.tree.ColText.{ColText}
 use Rattle.query_text.specs.declared.tree.ComparisonText.{ComparisonText}
@@ -224,4 +224,4 @@ walk_read tables (Err rest) = Err (syntax (position_of rest))
 
 -- the query that a text is over declared tables, or the first fault of the text
 abbrev pub select_of : List TableDef → List ℕ → Met Select
-select_of tables text = cond (nat_lt 4096 (length text)) (Err (fault.Syntax 0 0)) (walk_read tables (query (tokens_of text)))
+select_of tables text = cond (nat_lt most_text_bytes (length text)) (Err (fault.Syntax 0 0)) (walk_read tables (query (tokens_of text)))

@@ -1,8 +1,11 @@
 -- The text of an outcome: `committed`, or `aborted` and the cause.
-use Rattle.std.specs.Prelude.{ℕ, Bool, true, false, List, [], ◌++◌, Some, None, Option, flat_map, slice_get, codes, decimal}
+use Rattle.std.specs.Prelude.{ℕ, List, [], ◌++◌, Some, None, Option, cond, flat_map, slice_get, codes, decimal}
 use Rattle.literals.specs.Text.{text_literal}
+use Rattle.node_model.specs.Kinds.{danger_mark, fault_mark, is_same, kind_of, kind_word}
 use Rattle.node_model.specs.declared.danger.Danger.{Danger}
 use Rattle.node_model.specs.declared.danger.Danger.TheVariants as danger
+use Rattle.node_model.specs.declared.kind.OutcomeKind.TheVariants.{Committed}
+use Rattle.node_model.specs.declared.kind.OutcomeKind.{OutcomeKind}
 use Rattle.node_model.specs.declared.outcome.Clash.{Clash}
 use Rattle.node_model.specs.declared.outcome.Late.{Late}
 use Rattle.node_model.specs.declared.outcome.Outcome.{Outcome}
@@ -34,20 +37,14 @@ key_text tables table key = table_name tables table ++ values_text key
 abbrev pub write_text : List TableDef → ℕ → ℕ → List Value → List ℕ
 write_text tables pos table key = decimal pos ++ codes " " ++ key_text tables table key
 
--- whether a late read lost a row that it saw, or missed one that it would have seen
-abbrev pub late_word : Bool → List ℕ
-late_word true = codes "stale"
-late_word false = codes "phantom"
-
 -- a late read: its number in the run, and the block of the write that hit it and that write
 abbrev pub late_text : List TableDef → Late → List ℕ
 late_text tables late =
-    late_word late.stale ++ codes " " ++ decimal late.read ++ codes " by " ++ decimal late.place.block ++ codes " "
-    ++ write_text tables late.place.pos late.table late.key
+    codes " " ++ decimal late.read ++ codes " by " ++ decimal late.place.block ++ codes " " ++ write_text tables late.place.pos late.table late.key
 
 -- a key that was written before in the block, and the position that wrote it
 abbrev pub clash_text : List TableDef → Clash → List ℕ
-clash_text tables clash = codes "write-conflict with " ++ write_text tables clash.with clash.table clash.key
+clash_text tables clash = codes " with " ++ write_text tables clash.with clash.table clash.key
 
 -- two positions, each after a space
 abbrev pub positions_text : ℕ → ℕ → List ℕ
@@ -57,30 +54,46 @@ positions_text first second = codes " " ++ decimal first ++ codes " " ++ decimal
 abbrev pub path_text : List ℕ → List ℕ
 path_text path = flat_map (λ pos. codes " " ++ decimal pos) path
 
--- a danger: its form, and its positions in the order in which they are found, of a cycle those on its path
+-- the positions of a danger in the order in which they are found, of a cycle those on its path
+abbrev pub danger_positions : Danger → List ℕ
+danger_positions (danger.One z x) = positions_text z x
+danger_positions (danger.Two y z) = positions_text y z
+danger_positions (danger.Cycle path) = path_text path
+
+-- a danger after a space: the word of its form, and its positions
 abbrev pub danger_text : Danger → List ℕ
-danger_text (danger.One z x) = codes "danger one" ++ positions_text z x
-danger_text (danger.Two y z) = codes "danger two" ++ positions_text y z
-danger_text (danger.Cycle path) = codes "danger cycle" ++ path_text path
+danger_text found = codes " " ++ (danger_mark found).0 ++ danger_positions found
 
--- why a run ended without its writes
+-- the text of a statement `fail`, which no other fault has, after a space
+abbrev pub fault_reason : Fault → List ℕ
+fault_reason fault.Overflow = []
+fault_reason fault.ZeroDivide = []
+fault_reason fault.DuplicateKey = []
+fault_reason fault.NoRow = []
+fault_reason fault.TextTooLong = []
+fault_reason fault.Steps = []
+fault_reason (fault.Failed text) = codes " " ++ text_literal text
+
+-- why a run ended without its writes, after a space: its word, and its text
 abbrev pub fault_text : Fault → List ℕ
-fault_text fault.Overflow = codes "overflow"
-fault_text fault.ZeroDivide = codes "zero-divide"
-fault_text fault.DuplicateKey = codes "duplicate-key"
-fault_text fault.NoRow = codes "no-row"
-fault_text fault.TextTooLong = codes "text-too-long"
-fault_text fault.Steps = codes "steps"
-fault_text (fault.Failed text) = codes "failed " ++ text_literal text
+fault_text why = codes " " ++ (fault_mark why).0 ++ fault_reason why
 
--- an outcome
+-- what an outcome names
+abbrev pub details_text : List TableDef → Outcome → List ℕ
+details_text tables outcome.Committed = []
+details_text tables outcome.DuplicateId = []
+details_text tables outcome.FutureHeight = []
+details_text tables outcome.UnknownProcedure = []
+details_text tables outcome.BadArguments = []
+details_text tables (outcome.Late late) = late_text tables late
+details_text tables (outcome.Fault why) = fault_text why
+details_text tables (outcome.WriteConflict clash) = clash_text tables clash
+details_text tables (outcome.Danger found) = danger_text found
+
+-- the word of a kind, after `aborted` unless it is `committed`
+abbrev pub verdict_text : OutcomeKind → List ℕ
+verdict_text kind = cond (is_same kind Committed) [] (codes "aborted ") ++ kind_word kind
+
+-- an outcome: its verdict, and what it names
 abbrev pub outcome_text : List TableDef → Outcome → List ℕ
-outcome_text tables outcome.Committed = codes "committed"
-outcome_text tables outcome.DuplicateId = codes "aborted duplicate-id"
-outcome_text tables outcome.FutureHeight = codes "aborted future-height"
-outcome_text tables outcome.UnknownProcedure = codes "aborted unknown-procedure"
-outcome_text tables outcome.BadArguments = codes "aborted bad-arguments"
-outcome_text tables (outcome.Late late) = codes "aborted " ++ late_text tables late
-outcome_text tables (outcome.Fault fault) = codes "aborted fault " ++ fault_text fault
-outcome_text tables (outcome.WriteConflict clash) = codes "aborted " ++ clash_text tables clash
-outcome_text tables (outcome.Danger found) = codes "aborted " ++ danger_text found
+outcome_text tables outcome = verdict_text (kind_of outcome) ++ details_text tables outcome

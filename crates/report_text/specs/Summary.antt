@@ -1,48 +1,16 @@
 -- The summary of a load: how many of its transactions came to what.
-use Rattle.std.specs.Prelude.{Bool, List, None, Option, Some, [], bytes_eq, codes, cond, decimal, flat_map, length, map, slice_get, ◌++◌, ◌-◌, ◌∷◌, ℕ}
+use Rattle.std.specs.Prelude.{List, None, Option, Some, [], codes, decimal, flat_map, length, map, slice_get, ◌++◌, ◌-◌, ◌∷◌, ℕ}
 use Rattle.std.specs.List.{count_by}
-use Rattle.node_model.specs.declared.outcome.Outcome.TheVariants as outcome
-use Rattle.node_model.specs.declared.outcome.Outcome.{Outcome}
+use Rattle.node_model.specs.Kinds.{is_same, kind_of, kind_word}
+use Rattle.node_model.specs.declared.kind.OutcomeKind.TheVariants.{BadArguments, Committed, Danger, DuplicateId, Fault, FutureHeight, Phantom, Stale, UnknownProcedure, WriteConflict}
+use Rattle.node_model.specs.declared.kind.OutcomeKind.{OutcomeKind}
 use Rattle.node_model.specs.declared.result.BlockResult.{BlockResult}
 use Rattle.report_text.specs.Report.{digest_line, line}
-use Rattle.report_text.specs.declared.counts.OutcomeKind.TheVariants.{BadArguments, Committed, Danger, DuplicateId, Fault, FutureHeight, Phantom, Stale, UnknownProcedure, WriteConflict}
-use Rattle.report_text.specs.declared.counts.OutcomeKind.{OutcomeKind}
-
-abbrev pub kind_word : OutcomeKind → List ℕ
-kind_word Committed = codes "committed"
-kind_word DuplicateId = codes "duplicate-id"
-kind_word FutureHeight = codes "future-height"
-kind_word UnknownProcedure = codes "unknown-procedure"
-kind_word BadArguments = codes "bad-arguments"
-kind_word Stale = codes "stale"
-kind_word Phantom = codes "phantom"
-kind_word Fault = codes "fault"
-kind_word WriteConflict = codes "write-conflict"
-kind_word Danger = codes "danger"
 
 -- all kinds, in the order of a summary
 abbrev pub kinds : List OutcomeKind
 kinds =
     Committed ∷ DuplicateId ∷ FutureHeight ∷ UnknownProcedure ∷ BadArguments ∷ Stale ∷ Phantom ∷ Fault ∷ WriteConflict ∷ Danger ∷ []
-
--- two kinds are one: they have one word
-abbrev pub is_same : OutcomeKind → OutcomeKind → Bool
-is_same kind other = bytes_eq (kind_word kind) (kind_word other)
-
-abbrev pub late_kind : Bool → OutcomeKind
-late_kind stale = cond stale Stale Phantom
-
--- the kind of an outcome
-abbrev pub kind_of : Outcome → OutcomeKind
-kind_of outcome.Committed = Committed
-kind_of outcome.DuplicateId = DuplicateId
-kind_of outcome.FutureHeight = FutureHeight
-kind_of outcome.UnknownProcedure = UnknownProcedure
-kind_of outcome.BadArguments = BadArguments
-kind_of (outcome.Late late) = late_kind late.stale
-kind_of (outcome.Fault fault) = Fault
-kind_of (outcome.WriteConflict clash) = WriteConflict
-kind_of (outcome.Danger found) = Danger
 
 -- the kinds of all outcomes of blocks, in their order
 abbrev pub kinds_in : List BlockResult → List OutcomeKind

@@ -3,28 +3,14 @@
 ghost use Rattle.std.specs.Prelude.{◌≡◌, ◌++◌, OnOk, IfOk, codes, flat_map, map};
 ghost use Rattle.std.specs.List.{count_by};
 ghost use Rattle.std.specs.Option.{option_copied};
-ghost use Rattle.report_text.specs.Summary.{count_line, counts_text, is_same, kind_of, kind_word, kinds_in, last_digest_line, late_kind, number_line, summary_text};
+ghost use Rattle.node_model.specs.Kinds.{is_same, kind_of};
+ghost use Rattle.report_text.specs.Summary.{count_line, counts_text, kinds_in, last_digest_line, number_line, summary_text};
 
 use crate::block::push_digest_line;
 use crate::text::Text;
-use node_model::{BlockResult, Outcome, Told};
+use node_model::{BlockResult, OutcomeKind, Told};
 use rel_base::{List, NoMemory};
 use std::alloc::Global;
-
-/// What became of a transaction, without what it names.
-#[derive(Clone, Copy, Debug, PartialEq, Eq)]
-pub enum OutcomeKind {
-    Committed,
-    DuplicateId,
-    FutureHeight,
-    UnknownProcedure,
-    BadArguments,
-    Stale,
-    Phantom,
-    Fault,
-    WriteConflict,
-    Danger,
-}
 
 /// All kinds, in the order of a summary.
 const KINDS: [OutcomeKind; 10] = [
@@ -40,67 +26,12 @@ const KINDS: [OutcomeKind; 10] = [
     OutcomeKind::Danger,
 ];
 
-impl OutcomeKind {
-    /// Its word.
-    fn word(self) -> &'static str
-        ensures { result.now ≡ kind_word self }
-    {
-        match self {
-            OutcomeKind::Committed => "committed",
-            OutcomeKind::DuplicateId => "duplicate-id",
-            OutcomeKind::FutureHeight => "future-height",
-            OutcomeKind::UnknownProcedure => "unknown-procedure",
-            OutcomeKind::BadArguments => "bad-arguments",
-            OutcomeKind::Stale => "stale",
-            OutcomeKind::Phantom => "phantom",
-            OutcomeKind::Fault => "fault",
-            OutcomeKind::WriteConflict => "write-conflict",
-            OutcomeKind::Danger => "danger",
-        }
-    }
-
-    /// Whether this is the kind.
-    fn is(self, other: OutcomeKind) -> bool
-        ensures { result ≡ is_same self other }
-    {
-        self.word() == other.word()
-    }
-}
-
-/// The kind of a late read.
-fn late_kind(stale: bool) -> OutcomeKind
-    ensures { result ≡ late_kind stale }
-{
-    if stale {
-        OutcomeKind::Stale
-    } else {
-        OutcomeKind::Phantom
-    }
-}
-
-/// The kind of an outcome.
-fn kind_of(outcome: &Outcome) -> OutcomeKind
-    ensures { result ≡ kind_of outcome.now }
-{
-    match outcome {
-        Outcome::Committed => OutcomeKind::Committed,
-        Outcome::DuplicateId => OutcomeKind::DuplicateId,
-        Outcome::FutureHeight => OutcomeKind::FutureHeight,
-        Outcome::UnknownProcedure => OutcomeKind::UnknownProcedure,
-        Outcome::BadArguments => OutcomeKind::BadArguments,
-        Outcome::Late(late) => late_kind(late.stale),
-        Outcome::Fault(_) => OutcomeKind::Fault,
-        Outcome::WriteConflict(_) => OutcomeKind::WriteConflict,
-        Outcome::Danger(_) => OutcomeKind::Danger,
-    }
-}
-
 /// Adds the kinds of outcomes to others.
 fn add_kinds(kinds: &mut Vec<OutcomeKind>, outcomes: &[Told]) -> Result<(), NoMemory>
     ensures { OnOk result (kinds.new.items ≡ kinds.old.items ++ map (λ told. kind_of told.outcome) outcomes.now) }
 {
     for told in outcomes {
-        kinds.push(kind_of(&told.outcome))?;
+        kinds.push(told.outcome.kind())?;
     }
     Ok(())
 }

@@ -1,11 +1,13 @@
 //! The texts of outcomes.
 
-ghost use Rattle.std.specs.Prelude.{◌≡◌, ◌++◌, OnOk};
-ghost use Rattle.report_text.specs.Outcome.{name_of, table_name, key_text, write_text, late_word, late_text, clash_text, fault_text, path_text, positions_text, danger_text, outcome_text};
+ghost use Rattle.std.specs.Prelude.{◌≡◌, ◌++◌, OnOk, [], codes, cond};
+ghost use Rattle.node_model.specs.Kinds.{is_same};
+ghost use Rattle.node_model.specs.declared.kind.OutcomeKind.TheVariants.{Committed};
+ghost use Rattle.report_text.specs.Outcome.{clash_text, danger_positions, danger_text, details_text, fault_reason, fault_text, key_text, late_text, name_of, outcome_text, path_text, positions_text, table_name, verdict_text, write_text};
 
 use crate::text::Text;
 use crate::value::push_values;
-use node_model::{Clash, Danger, Late, Outcome};
+use node_model::{Clash, Danger, Late, Outcome, OutcomeKind, fault_mark};
 use proc_syntax::Fault;
 use rel_base::{Key, List, NoMemory, TableDef};
 
@@ -49,18 +51,10 @@ fn push_write(
     push_key(out, tables, table, key)
 }
 
-/// The word for a late read.
-fn late_word(stale: bool) -> &'static str
-    ensures { result.now ≡ late_word stale }
-{
-    if stale { "stale" } else { "phantom" }
-}
-
 /// A late read, and the write that hit it.
 fn push_late(out: &mut Text, tables: &[TableDef], late: &Late) -> Result<(), NoMemory>
     ensures { OnOk result (out.new ≡ out.old ++ late_text tables.now late.now) }
 {
-    out.push(late_word(late.stale))?;
     out.push(" ")?;
     out.push_number(u64::from(late.read))?;
     out.push(" by ")?;
@@ -73,26 +67,31 @@ fn push_late(out: &mut Text, tables: &[TableDef], late: &Late) -> Result<(), NoM
 fn push_clash(out: &mut Text, tables: &[TableDef], clash: &Clash) -> Result<(), NoMemory>
     ensures { OnOk result (out.new ≡ out.old ++ clash_text tables.now clash.now) }
 {
-    out.push("write-conflict with ")?;
+    out.push(" with ")?;
     push_write(out, tables, clash.with, clash.table, &clash.key)
 }
 
-/// Why a run ended without its writes.
+/// The text of a statement `fail`, which no other fault has, after a space.
+fn push_reason(out: &mut Text, fault: &Fault) -> Result<(), NoMemory>
+    ensures { OnOk result (out.new ≡ out.old ++ fault_reason fault.now) }
+{
+    match fault {
+        Fault::Failed(text) => {
+            out.push(" ")?;
+            out.push_quoted(text)
+        }
+        _ => Ok(()),
+    }
+}
+
+/// Why a run ended without its writes, after a space.
 fn push_fault(out: &mut Text, fault: &Fault) -> Result<(), NoMemory>
     ensures { OnOk result (out.new ≡ out.old ++ fault_text fault.now) }
 {
-    match fault {
-        Fault::Overflow => out.push("overflow"),
-        Fault::ZeroDivide => out.push("zero-divide"),
-        Fault::DuplicateKey => out.push("duplicate-key"),
-        Fault::NoRow => out.push("no-row"),
-        Fault::TextTooLong => out.push("text-too-long"),
-        Fault::Steps => out.push("steps"),
-        Fault::Failed(text) => {
-            out.push("failed ")?;
-            out.push_quoted(text)
-        }
-    }
+    let (word, _) = fault_mark(fault);
+    out.push(" ")?;
+    out.push(word)?;
+    push_reason(out, fault)
 }
 
 /// Two positions, each after a space.
@@ -123,51 +122,63 @@ fn push_cycle(out: &mut Text, path: &List<u32>) -> Result<(), NoMemory>
     push_path(out, path.as_slice())
 }
 
-/// A danger: its form, and its positions in the order in which they are found, of a cycle those on its path.
+/// The positions of a danger in the order in which they are found, of a cycle those on its path.
+fn push_danger_positions(out: &mut Text, danger: &Danger) -> Result<(), NoMemory>
+    ensures { OnOk result (out.new ≡ out.old ++ danger_positions danger.now) }
+{
+    match danger {
+        Danger::One { z, x } => push_positions(out, *z, *x),
+        Danger::Two { y, z } => push_positions(out, *y, *z),
+        Danger::Cycle { path } => push_cycle(out, path),
+    }
+}
+
+/// A danger after a space.
 fn push_danger(out: &mut Text, danger: &Danger) -> Result<(), NoMemory>
     ensures { OnOk result (out.new ≡ out.old ++ danger_text danger.now) }
 {
-    match danger {
-        Danger::One { z, x } => {
-            out.push("danger one")?;
-            push_positions(out, *z, *x)
-        }
-        Danger::Two { y, z } => {
-            out.push("danger two")?;
-            push_positions(out, *y, *z)
-        }
-        Danger::Cycle { path } => {
-            out.push("danger cycle")?;
-            push_cycle(out, path)
-        }
+    let (word, _) = danger.mark();
+    out.push(" ")?;
+    out.push(word)?;
+    push_danger_positions(out, danger)
+}
+
+/// What an outcome names.
+fn push_details(out: &mut Text, tables: &[TableDef], outcome: &Outcome) -> Result<(), NoMemory>
+    ensures { OnOk result (out.new ≡ out.old ++ details_text tables.now outcome.now) }
+{
+    match outcome {
+        Outcome::Late(late) => push_late(out, tables, late),
+        Outcome::Fault(fault) => push_fault(out, fault),
+        Outcome::WriteConflict(clash) => push_clash(out, tables, clash),
+        Outcome::Danger(danger) => push_danger(out, danger),
+        _ => Ok(()),
     }
+}
+
+/// The word `aborted`, unless a transaction committed.
+fn aborted_word(kind: OutcomeKind) -> &'static str
+    ensures { result.now ≡ cond (is_same kind Committed) [] (codes "aborted ") }
+{
+    if kind.is(OutcomeKind::Committed) {
+        ""
+    } else {
+        "aborted "
+    }
+}
+
+/// The word of a kind, after `aborted` unless it is `committed`.
+fn push_verdict(out: &mut Text, kind: OutcomeKind) -> Result<(), NoMemory>
+    ensures { OnOk result (out.new ≡ out.old ++ verdict_text kind) }
+{
+    out.push(aborted_word(kind))?;
+    out.push(kind.word())
 }
 
 /// An outcome.
 pub fn push_outcome(out: &mut Text, tables: &[TableDef], outcome: &Outcome) -> Result<(), NoMemory>
     ensures { OnOk result (out.new ≡ out.old ++ outcome_text tables.now outcome.now) }
 {
-    match outcome {
-        Outcome::Committed => out.push("committed"),
-        Outcome::DuplicateId => out.push("aborted duplicate-id"),
-        Outcome::FutureHeight => out.push("aborted future-height"),
-        Outcome::UnknownProcedure => out.push("aborted unknown-procedure"),
-        Outcome::BadArguments => out.push("aborted bad-arguments"),
-        Outcome::Late(late) => {
-            out.push("aborted ")?;
-            push_late(out, tables, late)
-        }
-        Outcome::Fault(fault) => {
-            out.push("aborted fault ")?;
-            push_fault(out, fault)
-        }
-        Outcome::WriteConflict(clash) => {
-            out.push("aborted ")?;
-            push_clash(out, tables, clash)
-        }
-        Outcome::Danger(danger) => {
-            out.push("aborted ")?;
-            push_danger(out, danger)
-        }
-    }
+    push_verdict(out, outcome.kind())?;
+    push_details(out, tables, outcome)
 }

@@ -8,6 +8,7 @@ ghost use Rattle.rw_graph.specs.Held.{holds};
 ghost use Rattle.rw_graph.specs.Levels.{first_way};
 ghost use Rattle.rw_graph.specs.Sets.{AreAmong, IsLeastFrom};
 ghost use Rattle.rw_graph.specs.Table.{IsTable, any_below};
+ghost use Rattle.proc_syntax.specs.Limits.{most_transactions};
 
 use crate::bits::Bits;
 use crate::edge_set::EdgeSet;
@@ -37,7 +38,7 @@ fn add_into(set: &EdgeSet, pos: u32, sources: &mut Bits)
 // Puts in the positions with an edge to the least of a level, from a position on. Tells from where to go on, where those with edges to the
 // positions before were put in already.
 fn add_sources(set: &EdgeSet, level: &Bits, from: u32, sources: &mut Bits) -> u32
-    requires upto { from ≤ 1024 }
+    requires upto { from ≤ most_transactions }
     requires so_far { (pos : ℕ) → holds sources.old pos ≡ any_below (λ to. has_edge set.now pos to && holds level.now to) from }
     ensures so_far { (pos : ℕ) → holds sources.new pos ≡ any_below (λ to. has_edge set.now pos to && holds level.now to) result }
     ensures further { from < result }

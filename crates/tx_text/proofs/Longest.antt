@@ -1,14 +1,12 @@
 -- Bytes of a listing without a fault are not more than the lines that it may have.
 use Rattle.std.proofs.Common.{◌≡◌, ◌≤◌, ◌<◌, ◌+◌, ◌*◌, ℕ, List, [], ◌∷◌, ◌++◌, Bool, true, false, cond, Option, Some, None, length, refl, sym, ◌∙◌, ap, subst, length-append, arith}
 use Rattle.std.specs.Prelude.{◌==◌, nat_le, Result, Ok, Err, IsOk}
-use Rattle.std.specs.Result.{IsErr}
 use Rattle.std.specs.List.{join_with_byte}
 use Rattle.std.specs.Option.{option_map}
 use Rattle.std.proofs.lemmas.Bool.{eqb-true, leb-true, ltb-false}
 use Rattle.std.proofs.lemmas.List.Splits.{join_with_byte-slice_split}
 use Rattle.tx_text.specs.Parts.{is_long, parts_of}
-use Rattle.tx_text.specs.Listing.{Form, Far, no_item, one_item, items_at, with_items, onward, walk, walked, whole, listed, longest_listing}
-use Rattle.tx_text.proofs.Listed.{fault_lasts}
+use Rattle.tx_text.specs.Listing.{Form, Far, no_item, one_item, items_at, with_items, onward, walk, walked, longest_listing}
 
 module _ {A : Type 0} (form : Form A) where
   -- a line that is taken is short, and is not after the last
@@ -79,16 +77,3 @@ module _ {A : Type 0} (form : Form A) where
   -- without a fault the bytes are few
   pub walked_bounded : (bytes : List ℕ) → IsOk (walked form bytes) → length bytes ≤ longest_listing
   walked_bounded bytes ok = few_ok (length bytes) (walked form bytes) (walked_few bytes) ok
-
-  -- and where they are many they have a fault, which stays whatever follows
-  abbrev IsJudged : List ℕ → List ℕ → Type 0
-  IsJudged bytes more = IsErr (listed form bytes) × (listed form (bytes ++ more) ≡ listed form bytes)
-
-  judged : (bytes more : List ℕ) (far : Result (Far A) ℕ) → longest_listing < length bytes → IsFew (length bytes) far → walked form bytes ≡ far → IsJudged bytes more
-  judged bytes more (Err line) many few e =
-      let found : listed form bytes ≡ Err line = ap whole e in
-      (subst (λ (read : Result (List A) ℕ). IsErr read) (sym found) refl, fault_lasts form bytes more line e ∙ sym found)
-  judged bytes more (Ok far) many few e = absurd (omega (arith, many, few))
-
-  pub listed_judged : (bytes more : List ℕ) → longest_listing < length bytes → IsJudged bytes more
-  listed_judged bytes more many = judged bytes more (walked form bytes) many (walked_few bytes) refl

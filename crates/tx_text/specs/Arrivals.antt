@@ -3,7 +3,7 @@ use Rattle.std.specs.Prelude.{◌≡◌, ◌≤◌, ℕ, List, ◌++◌, length,
 use Rattle.std.specs.List.{AllByRecursion}
 use Rattle.proc_syntax.specs.declared.call.Tx.{Tx}
 use Rattle.tx_text.specs.Lines.{HasLine, tx_of, tx_text}
-use Rattle.tx_text.specs.Listing.{Far, Form, listed, listing, longest_listing, walked}
+use Rattle.tx_text.specs.Listing.{Far, Form, listed, listing, longest_listing, most_items, walked}
 
 abbrev pub arrivals_form : Form Tx
 arrivals_form = record { header = codes "arrivals 1"; item = tx_of }
@@ -26,7 +26,7 @@ ArrivalsHaveOneText = (bytes : List ℕ) (txs : List Tx) → arrivals bytes ≡ 
 
 -- and transactions are read back from it, at most 1,000,000
 abbrev pub ArrivalsComeBack : Type 0
-ArrivalsComeBack = (txs : List Tx) → length txs ≤ 1000000 → AllByRecursion HasLine txs → arrivals (arrivals_text txs) ≡ Ok txs
+ArrivalsComeBack = (txs : List Tx) → length txs ≤ most_items → AllByRecursion HasLine txs → arrivals (arrivals_text txs) ≡ Ok txs
 
 -- bytes that have no fault but that they end too early are at most so many
 abbrev pub ArrivalsAreBounded : Type 0

@@ -4,6 +4,7 @@ use Rattle.rel_base.specs.declared.value.Value.{Value}
 use Rattle.proc_syntax.specs.declared.call.Tx.{Tx}
 use Rattle.tx_text.specs.Values.{IsValue, value_of, value_text}
 use Rattle.tx_text.specs.Lines.{IsTx, tx_of, tx_text}
+use Rattle.tx_text.specs.Parts.{most_line_bytes}
 
 -- a value has one spelling
 abbrev pub ValuesHaveOneSpelling : Type 0
@@ -19,4 +20,4 @@ TransactionsHaveOneLine = (line : List ℕ) (tx : Tx) → tx_of line ≡ Some tx
 
 -- and is read back from it, where it is not too long
 abbrev pub TransactionsComeBack : Type 0
-TransactionsComeBack = (tx : Tx) → IsTx tx → length (tx_text tx) ≤ 4096 → tx_of (tx_text tx) ≡ Some tx
+TransactionsComeBack = (tx : Tx) → IsTx tx → length (tx_text tx) ≤ most_line_bytes → tx_of (tx_text tx) ≡ Some tx

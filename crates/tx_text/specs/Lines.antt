@@ -8,6 +8,7 @@ use Rattle.proc_syntax.specs.declared.call.Tx.{Tx}
 use Rattle.literals.specs.Number.{u64_at}
 use Rattle.tx_text.specs.Fields.{is_space, after, id_at, name_at}
 use Rattle.tx_text.specs.Values.{value_at, value_text, IsValue}
+use Rattle.tx_text.specs.Parts.{most_line_bytes}
 
 -- the argument at the start of the bytes, after a space
 abbrev pub arg_at : List ℕ → Option (Value × List ℕ)
@@ -43,7 +44,7 @@ tx_form bytes = option_and_then (λ rest. option_and_then (λ id. option_and_the
 
 -- the transaction that a line spells: a line has at most 4,096 bytes
 abbrev pub tx_of : List ℕ → Option Tx
-tx_of line = cond (nat_le (length line) 4096) (tx_form line) None
+tx_of line = cond (nat_le (length line) most_line_bytes) (tx_form line) None
 
 -- an argument as it is written
 abbrev pub arg_text : Value → List ℕ
@@ -71,4 +72,4 @@ pub record IsTx (tx : Tx) : Type 0 where
 -- a transaction that has a line
 pub record HasLine (tx : Tx) : Type 0 where
   pub sound : IsTx tx
-  pub short : length (tx_text tx) ≤ 4096
+  pub short : length (tx_text tx) ≤ most_line_bytes

@@ -10,6 +10,14 @@ pub record Form (A : Type 0) : Type 0 where
   pub header : List ℕ
   pub item : List ℕ → Option A
 
+-- the most items
+abbrev pub most_items : ℕ
+most_items = 1000000
+
+-- the most lines: the header, and a line for each item
+abbrev pub most_lines : ℕ
+most_lines = 1000001
+
 -- how far bytes go: the number of the line in which they end, from 1, the items of the lines before it, and what it has so far
 pub record Far (A : Type 0) : Type 0 where
   pub line : ℕ
@@ -22,7 +30,7 @@ no_item form line = cond (bytes_eq line form.header) (Some []) None
 
 -- each other one is an item, at most the 1,000,000th
 abbrev pub one_item : {A : Type 0} → Form A → ℕ → List ℕ → Option (List A)
-one_item form number line = cond (nat_le number 1000001) (option_map (λ item. item ∷ []) (form.item line)) None
+one_item form number line = cond (nat_le number most_lines) (option_map (λ item. item ∷ []) (form.item line)) None
 
 -- the items of a line of this number, where it may stand there
 abbrev pub items_at : {A : Type 0} → Form A → ℕ → List ℕ → Option (List A)

@@ -20,9 +20,13 @@ onto bytes (part ∷ parts) = (bytes ++ part) ∷ parts
 abbrev pub line_text : List ℕ → List ℕ
 line_text line = line ++ (10 ∷ [])
 
--- a line has at most 4,096 bytes
+-- the most bytes of a line, its newline left out
+abbrev pub most_line_bytes : ℕ
+most_line_bytes = 4096
+
+-- a line has no more
 abbrev pub is_long : List ℕ → Bool
-is_long line = nat_lt 4096 (length line)
+is_long line = nat_lt most_line_bytes (length line)
 
 -- the first part, and the bytes of the others; or the only part
 abbrev pub SplitsLine : Option (Bor (List ℕ) × Bor (List ℕ)) → List ℕ → Type 0

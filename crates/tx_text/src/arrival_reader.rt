@@ -2,7 +2,7 @@
 
 ghost use Rattle.std.specs.Prelude.{◌≡◌, ◌≤◌, ◌++◌, ℕ, List, [], Some, Ok, Err, IfErr, OnOk, OnErr, IsOk};
 ghost use Rattle.std.specs.List.{flat_map};
-ghost use Rattle.tx_text.specs.Parts.{onto, parts_of};
+ghost use Rattle.tx_text.specs.Parts.{onto, parts_of, most_line_bytes};
 ghost use Rattle.tx_text.specs.Listing.{ending, walk};
 ghost use Rattle.tx_text.specs.Arrivals.{arrivals, arrivals_form, arrived};
 ghost use Rattle.tx_text.specs.Feeding.{Answers, EndsAs, WasFed, FollowsOn, Gives, GivesPiece, HoldsOn, fault_met, open_length};
@@ -86,7 +86,7 @@ impl ArrivalReader {
     /// How many bytes stand after the last newline, which the reader keeps: at most 4,096, and none after a fault.
     pub fn held(&self) -> usize
         ensures held { (bytes : List ℕ) → WasFed self.now bytes → result ≡ open_length (arrived bytes) }
-        ensures most { (bytes : List ℕ) → WasFed self.now bytes → result ≤ 4096 }
+        ensures most { (bytes : List ℕ) → WasFed self.now bytes → result ≤ most_line_bytes }
         ensures stopped { (line : ℕ) → fault_met self.now ≡ Some line → result ≡ 0 }
     {
         match &self.state {

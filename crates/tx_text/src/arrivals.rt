@@ -3,7 +3,7 @@
 ghost use Rattle.std.specs.Prelude.{◌≡◌, ◌≤◌, ◌∷◌, ◌++◌, OnOk};
 ghost use Rattle.std.specs.Option.{option_to_list};
 ghost use Rattle.tx_text.specs.Parts.{onto, parts_of};
-ghost use Rattle.tx_text.specs.Listing.{ending, items_at, no_item, one_item, walk, with_items};
+ghost use Rattle.tx_text.specs.Listing.{ending, items_at, no_item, one_item, walk, with_items, most_lines};
 ghost use Rattle.tx_text.specs.Arrivals.{arrivals_form};
 ghost use Rattle.tx_text.specs.Taking.{GivesFar, GivesLine};
 
@@ -59,7 +59,7 @@ fn take_header(text: &[u8]) -> Result<Option<Tx>, ArrivalFault>
 /// A line after the first.
 fn take_tx(alloc: Global, line: u64, text: &[u8]) -> Result<Option<Tx>, ArrivalFault>
     ensures taken { GivesLine result line (one_item arrivals_form line text.now) }
-    ensures low { OnOk result (line ≤ 1000001) }
+    ensures low { OnOk result (line ≤ most_lines) }
 {
     if line > MOST_ARRIVALS + 1 {
         return Err(ArrivalFault::Bad { line });
@@ -74,7 +74,7 @@ fn take_tx(alloc: Global, line: u64, text: &[u8]) -> Result<Option<Tx>, ArrivalF
 /// The transaction of a line, if it gives one.
 fn take_line(alloc: Global, line: u64, text: &[u8]) -> Result<Option<Tx>, ArrivalFault>
     ensures taken { GivesLine result line (items_at arrivals_form line text.now) }
-    ensures low { OnOk result (line ≤ 1000001) }
+    ensures low { OnOk result (line ≤ most_lines) }
 {
     if text.len() > MOST_LINE_BYTES {
         return Err(ArrivalFault::Bad { line });

@@ -8,6 +8,7 @@ ghost use Rattle.literals.specs.Reads.{Reads, Gives};
 ghost use Rattle.tx_text.specs.Fields.{is_space, after};
 ghost use Rattle.tx_text.specs.Values.{value_at, value_text, IsValue};
 ghost use Rattle.tx_text.specs.Lines.{arg_at, args_within, args_of, call_of, height_and_call, tx_form, tx_of, arg_text, head_text, call_text, tx_text, IsTx};
+ghost use Rattle.tx_text.specs.Parts.{most_line_bytes};
 
 use crate::field::{read_id, read_name, skip};
 use crate::value::{push_value, read_u64, value_in_front};
@@ -175,7 +176,7 @@ pub fn push_tx(out: &mut Vec<u8>, tx: &Tx) -> Result<(), NoMemory>
 pub fn write_tx(alloc: Global, tx: &Tx) -> Result<List<u8>, NoMemory>
     ensures text { IfOk result (λ line. line ≡ tx_text tx.now) }
     // What is written is read back, where the line is not too long.
-    ensures again { IfOk result (λ line. length line ≤ 4096 → tx_of line ≡ Some tx.now) }
+    ensures again { IfOk result (λ line. length line ≤ most_line_bytes → tx_of line ≡ Some tx.now) }
 {
     let mut out = Vec::new(alloc);
     push_fields(&mut out, tx)?;

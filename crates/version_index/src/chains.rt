@@ -9,11 +9,9 @@ ghost use Rattle.version_index.specs.Chains.{AreApart, IsNoted, IsPlaced, IsSame
 
 use crate::guesses::{Guesses, hold_guess};
 use crate::lists::{hold_room, list_at, one_number, push_at};
-use crate::steps::Steps;
 use rel_base::{Key, NoMemory, Twin};
 use std::alloc::Global;
 use std::collections::BTreeMap;
-use std::sync::ledger::Ledger;
 
 /// The writes on each key of a table. Each key that was ever written has a slot, numbered from 0 in the order of the first writes.
 #[derive(Drop)]
@@ -193,16 +191,6 @@ impl Chains {
             None => &[],
             Some(slot) => list_at(self.numbers.as_slice(), slot),
         }
-    }
-
-    /// One look at a number of the writes on the key of a slot, in one step.
-    pub fn probe<L: Ledger>(&self, slot: Option<usize>, at: usize, steps: &mut Steps<L>) -> usize
-        requires { at < length (numbers_at (lists_of self.now) slot) }
-        ensures number { slice_get (numbers_at (lists_of self.now) slot) at ≡ Some result }
-        ensures step { steps.new ≡ steps.old + 1 }
-    {
-        steps.tick();
-        self.numbers(slot)[at]
     }
 
     /// Notes the first write on a key. Where memory is wanting, all stays as it was.

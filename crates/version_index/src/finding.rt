@@ -1,45 +1,42 @@
 //! The version of a key that is visible at a height, in few steps.
-//!
-//! A step is one look at a number of a write on the key, with its entry, or at one entry of the tail.
 
-ghost use Rattle.std.specs.Prelude.{◌≡◌, ◌≤◌, ◌<◌, ◌+◌, ◌*◌, ◌-◌, ◌^◌, ℕ, All, Some, None, cond, false, is_some, length, take, true};
+ghost use Rattle.std.specs.Prelude.{◌≡◌, ◌≤◌, ◌<◌, ◌+◌, ◌*◌, ◌-◌, ◌^◌, ℕ, All, false, length, take, true};
 ghost use Rattle.row_sets.specs.Log.{history_of};
 ghost use Rattle.version_index.specs.Chain.{IsLast, IsLastFrom, is_seen};
 ghost use Rattle.version_index.specs.Chains.{lists_of, numbers_at, slot_of};
 ghost use Rattle.version_index.specs.Found.{IsVersion, count_on, is_low, tail_in};
+ghost use Rattle.version_index.specs.Kept.{store_history, store_tables, store_tail};
 ghost use Rattle.version_index.specs.Numbers.{passes_at};
 ghost use Rattle.version_index.specs.View.{IsView, history_in};
 
-use crate::chains::Chains;
+use crate::look_up::LookUp;
 use crate::steps::Steps;
-use crate::view::TableView;
+use crate::store::IndexVersions;
 use rel_base::Key;
-use row_sets::entry::{LogEntry, entry_at, is_on_key};
 use std::sync::ledger::Ledger;
 
 /// How many of the writes on the key of a slot are in no block above a height. They are the first ones, so each look halves what is
 /// left.
 fn count_low<L: Ledger>(
-    entries: &[LogEntry],
-    chains: &Chains,
+    look_up: &LookUp<'_>,
     slot: Option<usize>,
     height: u64,
     steps: &mut Steps<L>,
 ) -> usize
-    requires within { All (λ number. number < length entries.now) (numbers_at (lists_of chains.now) slot) }
-    requires falling { (i j : ℕ) → i ≤ j → passes_at (is_low (history_of entries.now) height) (numbers_at (lists_of chains.now) slot) j ≡ true → passes_at (is_low (history_of entries.now) height) (numbers_at (lists_of chains.now) slot) i ≡ true }
-    ensures within { result ≤ length (numbers_at (lists_of chains.now) slot) }
-    ensures low { (i : ℕ) → i < result → passes_at (is_low (history_of entries.now) height) (numbers_at (lists_of chains.now) slot) i ≡ true }
-    ensures high { (i : ℕ) → result ≤ i → passes_at (is_low (history_of entries.now) height) (numbers_at (lists_of chains.now) slot) i ≡ false }
+    requires within { All (λ number. number < length look_up.now.view.entries.now) (numbers_at (lists_of look_up.now.view.index.now.chains) slot) }
+    requires falling { (i j : ℕ) → i ≤ j → passes_at (is_low (history_of look_up.now.view.entries.now) height) (numbers_at (lists_of look_up.now.view.index.now.chains) slot) j ≡ true → passes_at (is_low (history_of look_up.now.view.entries.now) height) (numbers_at (lists_of look_up.now.view.index.now.chains) slot) i ≡ true }
+    ensures within { result ≤ length (numbers_at (lists_of look_up.now.view.index.now.chains) slot) }
+    ensures low { (i : ℕ) → i < result → passes_at (is_low (history_of look_up.now.view.entries.now) height) (numbers_at (lists_of look_up.now.view.index.now.chains) slot) i ≡ true }
+    ensures high { (i : ℕ) → result ≤ i → passes_at (is_low (history_of look_up.now.view.entries.now) height) (numbers_at (lists_of look_up.now.view.index.now.chains) slot) i ≡ false }
     ensures on { steps.old ≤ steps.new }
-    ensures cost { 2 ^ (steps.new - steps.old) ≤ 2 * length (numbers_at (lists_of chains.now) slot) + 1 }
+    ensures cost { 2 ^ (steps.new - steps.old) ≤ 2 * length (numbers_at (lists_of look_up.now.view.index.now.chains) slot) + 1 }
 {
     let mut low = 0;
-    let mut high = chains.numbers(slot).len();
+    let mut high = look_up.count(slot);
     while low < high {
         let middle = low + (high - low) / 2;
-        let number = chains.probe(slot, middle, steps);
-        if entry_at(entries, number).block <= height {
+        let probed = look_up.probe(slot, middle, steps);
+        if probed.entry.block <= height {
             low = middle + 1;
         } else {
             high = middle;
@@ -50,57 +47,39 @@ fn count_low<L: Ledger>(
 
 /// The number of the last of the noted writes on a key, whose slot is given, in a block up to a height.
 fn seen_noted<L: Ledger>(
-    view: &TableView<'_>,
+    look_up: &LookUp<'_>,
     key: &Key,
     slot: Option<usize>,
     height: u64,
     steps: &mut Steps<L>,
 ) -> Option<usize>
-    requires view { IsView view.now }
-    requires slot { slot ≡ slot_of view.now.index.now.chains key.now }
-    ensures last { IsLast (is_seen (view.now.table, key.now) height) (take view.now.noted (history_in view.now)) result }
+    requires view { IsView look_up.now.view }
+    requires slot { slot ≡ slot_of look_up.now.view.index.now.chains key.now }
+    ensures last { IsLast (is_seen (look_up.now.view.table, key.now) height) (take look_up.now.view.noted (history_in look_up.now.view)) result }
     ensures on { steps.old ≤ steps.new }
-    ensures cost { 2 ^ (steps.new - steps.old) ≤ 4 * count_on view.now.table (history_in view.now) + 2 }
+    ensures cost { 2 ^ (steps.new - steps.old) ≤ 4 * count_on look_up.now.view.table (history_in look_up.now.view) + 2 }
 {
-    let chains = &view.index.chains;
-    let count = count_low(view.entries, chains, slot, height, steps);
+    let count = count_low(look_up, slot, height, steps);
     if count == 0 {
         return None;
     }
-    Some(chains.probe(slot, count - 1, steps))
-}
-
-/// Whether the write of a number is on a key, in a block up to a height. It is one step.
-fn is_seen_at<L: Ledger>(
-    view: &TableView<'_>,
-    key: &Key,
-    height: u64,
-    number: usize,
-    steps: &mut Steps<L>,
-) -> bool
-    requires { number < length view.now.entries.now }
-    ensures seen { result ≡ passes_at (is_seen (view.now.table, key.now) height) (history_in view.now) number }
-    ensures step { steps.new ≡ steps.old + 1 }
-{
-    steps.tick();
-    let entry = entry_at(view.entries, number);
-    is_on_key(entry, view.table, key) && entry.block <= height
+    Some(look_up.probe(slot, count - 1, steps).number)
 }
 
 /// The number of the last write on a key in the tail, in a block up to a height.
 fn seen_in_tail<L: Ledger>(
-    view: &TableView<'_>,
+    look_up: &LookUp<'_>,
     key: &Key,
     height: u64,
     steps: &mut Steps<L>,
 ) -> Option<usize>
-    ensures last { IsLastFrom (is_seen (view.now.table, key.now) height) view.now.noted (history_in view.now) result }
+    ensures last { IsLastFrom (is_seen (look_up.now.view.table, key.now) height) look_up.now.view.noted (history_in look_up.now.view) result }
     ensures on { steps.old ≤ steps.new }
-    ensures cost { steps.new ≤ steps.old + tail_in view.now }
+    ensures cost { steps.new ≤ steps.old + tail_in look_up.now.view }
 {
-    let mut end = view.entries.len();
-    while end > view.noted {
-        if is_seen_at(view, key, height, end - 1, steps) {
+    let mut end = look_up.end();
+    while end > look_up.noted() {
+        if look_up.is_seen_at(key, height, end - 1, steps) {
             return Some(end - 1);
         }
         end -= 1;
@@ -110,49 +89,64 @@ fn seen_in_tail<L: Ledger>(
 
 /// The number of the last write on a key, whose slot is given, in a block up to a height. The tail is looked through first.
 pub fn last_seen<L: Ledger>(
-    view: &TableView<'_>,
+    look_up: &LookUp<'_>,
     key: &Key,
     slot: Option<usize>,
     height: u64,
     steps: &mut Steps<L>,
 ) -> Option<usize>
-    requires view { IsView view.now }
-    requires slot { slot ≡ slot_of view.now.index.now.chains key.now }
-    ensures last { IsLast (is_seen (view.now.table, key.now) height) (history_in view.now) result }
+    requires view { IsView look_up.now.view }
+    requires slot { slot ≡ slot_of look_up.now.view.index.now.chains key.now }
+    ensures last { IsLast (is_seen (look_up.now.view.table, key.now) height) (history_in look_up.now.view) result }
     ensures on { steps.old ≤ steps.new }
-    ensures cost { 2 ^ (steps.new - steps.old - tail_in view.now) ≤ 4 * count_on view.now.table (history_in view.now) + 2 }
+    ensures cost { 2 ^ (steps.new - steps.old - tail_in look_up.now.view) ≤ 4 * count_on look_up.now.view.table (history_in look_up.now.view) + 2 }
 {
-    match seen_in_tail(view, key, height, steps) {
-        None => seen_noted(view, key, slot, height, steps),
+    match seen_in_tail(look_up, key, height, steps) {
+        None => seen_noted(look_up, key, slot, height, steps),
         Some(number) => Some(number),
     }
 }
 
-/// The number of a write, where it left a row.
-fn if_row(entry: &LogEntry, number: usize) -> Option<usize>
-    ensures { result ≡ cond (is_some entry.now.placed.write.after) (Some number) None }
-{
-    match &entry.placed.write.after {
-        None => None,
-        Some(_) => Some(number),
-    }
-}
-
 /// The number of the write that left the row of a key that is visible at a height.
-pub fn find_version<L: Ledger>(
-    view: &TableView<'_>,
+fn find_version<L: Ledger>(
+    look_up: &LookUp<'_>,
     key: &Key,
     height: u64,
     steps: &mut Steps<L>,
 ) -> Option<usize>
-    requires { IsView view.now }
-    ensures version { IsVersion (view.now.table, key.now) height (history_in view.now) result }
+    requires { IsView look_up.now.view }
+    ensures version { IsVersion (look_up.now.view.table, key.now) height (history_in look_up.now.view) result }
     ensures on { steps.old ≤ steps.new }
-    ensures cost { 2 ^ (steps.new - steps.old - tail_in view.now) ≤ 4 * count_on view.now.table (history_in view.now) + 2 }
+    ensures cost { 2 ^ (steps.new - steps.old - tail_in look_up.now.view) ≤ 4 * count_on look_up.now.view.table (history_in look_up.now.view) + 2 }
 {
-    let slot = view.index.chains.slot(key);
-    match last_seen(view, key, slot, height, steps) {
+    let slot = look_up.slot(key);
+    match last_seen(look_up, key, slot, height, steps) {
         None => None,
-        Some(number) => if_row(entry_at(view.entries, number), number),
+        Some(number) => look_up.version_of(number),
+    }
+}
+
+impl IndexVersions {
+    /// The number of the version of a key that is visible at a height: of the last write on the key in a block up to the height, where
+    /// it left a row. Numbers count the writes of the history from 0.
+    ///
+    /// A step is one look at a number of a write on the key, with its entry in the log, or at one entry of the tail. Where `n` writes of
+    /// the history are on the table and the tail is empty, as it is after `reserve`, the `k` steps of a call have `2 ^ k <= 4 n + 2`.
+    /// Each write of the tail may cost one step more. The list of the numbers is looked up by the key in the two `BTreeMap`s of the keys
+    /// first: that is one look-up of the standard library in each, and no step.
+    pub fn find<L: Ledger>(
+        &self,
+        table: u32,
+        key: &Key,
+        height: u64,
+        steps: &mut Steps<L>,
+    ) -> Option<usize>
+        requires declared { table < length (store_tables self.now) }
+        ensures version { IsVersion (table, key.now) height (store_history self.now) result }
+        ensures on { steps.old ≤ steps.new }
+        ensures cost { 2 ^ (steps.new - steps.old - store_tail self.now) ≤ 4 * count_on table (store_history self.now) + 2 }
+        ensures noted { store_tail self.now ≡ 0 → 2 ^ (steps.new - steps.old) ≤ 4 * count_on table (store_history self.now) + 2 }
+    {
+        find_version(&self.look_up(table), key, height, steps)
     }
 }

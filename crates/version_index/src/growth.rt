@@ -38,6 +38,7 @@ pub fn note_tail(
     requires tables { All (λ entry. entry.placed.write.table < length indexes.old.items) entries.now }
     requires old { AreNoted indexes.old.items (history_of entries.now) noted.old }
     ensures within { noted.new ≤ length entries.now }
+    ensures grows { noted.old ≤ noted.new }
     ensures new { AreNoted indexes.new.items (history_of entries.now) noted.new }
     ensures columns { columns_in indexes.new.items ≡ columns_in indexes.old.items }
     ensures whole { OnOk result (noted.new ≡ length entries.now) }

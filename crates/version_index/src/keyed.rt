@@ -7,6 +7,7 @@ ghost use Rattle.version_index.specs.Chains.{slot_of};
 ghost use Rattle.version_index.specs.View.{IsBack, IsView, history_in, noted_below};
 
 use crate::finding::last_seen;
+use crate::look_up::LookUp;
 use crate::steps::Steps;
 use crate::view::TableView;
 use rel_base::Key;
@@ -95,7 +96,7 @@ fn last_uncounted<L: Ledger>(
     ensures { IsLast (is_seen (view.now.table, key.now) height) (history_in view.now) result }
 {
     let mut steps = Steps::<L>::new(blank);
-    last_seen(view, key, slot, height, &mut steps)
+    last_seen(&LookUp::new(*view), key, slot, height, &mut steps)
 }
 
 /// The number of the last write on a key in a block up to a height.

@@ -17,6 +17,7 @@ pub mod keyed;
 pub mod lifespans;
 pub mod lists;
 pub mod living;
+pub mod look_up;
 pub mod reading;
 pub mod rows;
 pub mod span;

@@ -1,18 +1,18 @@
 //! The store of committed versions.
 
-ghost use Rattle.std.specs.Prelude.{◌≡◌, ◌<◌, ◌≤◌, ◌+◌, ◌*◌, ◌-◌, ◌^◌, ◌++◌, [], All, IfOk, IsTrue, OnErr, OnOk, Some, length, map, slice_get};
+ghost use Rattle.std.specs.Prelude.{◌≡◌, ◌<◌, ◌≤◌, ◌+◌, ◌++◌, [], All, IfOk, IsTrue, OnErr, OnOk, Some, length, map, slice_get};
 ghost use Rattle.rel_base.specs.Among.{WriteFitsIn};
 ghost use Rattle.row_sets.specs.Versions.{IsBefore, are_rising, stamped_at};
-ghost use Rattle.version_index.specs.Found.{IsVersion, count_on};
+ghost use Rattle.version_index.specs.Found.{tail_in};
 ghost use Rattle.version_index.specs.Index.{IsEmptyIndex, columns_in, index_columns};
 ghost use Rattle.version_index.specs.Kept.{store_history, store_spare, store_tables, store_tail};
+ghost use Rattle.version_index.specs.View.{IsView, history_in};
 
-use crate::finding::find_version;
 use crate::growth::note_tail;
 use crate::index::TableIndex;
 use crate::lifespans::{all_back, chain_back, oldest_first};
+use crate::look_up::LookUp;
 use crate::reading::{late_at, rows_at};
-use crate::steps::Steps;
 use crate::view::{ReadAtHeight, TableView};
 use rel_base::{Key, List, NoMemory, Place, Read, Seen, TableDef, Twin, Write};
 use row_sets::entry::{LogEntry, push_all};
@@ -20,7 +20,6 @@ use row_sets::hits::{Watch, def_of};
 use row_sets::{HitRef, Lifespan, Versions};
 use std::alloc::Global;
 use std::marker::Model;
-use std::sync::ledger::Ledger;
 
 /// A store of committed versions with indexes. It keeps the committed writes in one log. For each table it keeps the numbers of the
 /// writes on each key, and for each column by which spans are read the keys that have a row with each value, and the numbers of the
@@ -94,33 +93,20 @@ fn view_of<'a>(
 }
 
 impl IndexVersions {
-    /// The number of the version of a key that is visible at a height: of the last write on the key in a block up to the height, where
-    /// it left a row. Numbers count the writes of the history from 0.
-    ///
-    /// A step is one look at a number of a write on the key, with its entry in the log, or at one entry of the tail. Where `n` writes of
-    /// the history are on the table and the tail is empty, as it is after `reserve`, the `k` steps of a call have `2 ^ k <= 4 n + 2`.
-    /// Each write of the tail may cost one step more. The list of the numbers is looked up by the key in the two `BTreeMap`s of the keys
-    /// first: that is one look-up of the standard library in each, and no step.
-    pub fn find<L: Ledger>(
-        &self,
-        table: u32,
-        key: &Key,
-        height: u64,
-        steps: &mut Steps<L>,
-    ) -> Option<usize>
+    /// The log and the index of a table, for a look-up whose looks are counted.
+    pub fn look_up(&self, table: u32) -> LookUp<'_>
         requires declared { table < length (store_tables self.now) }
-        ensures version { IsVersion (table, key.now) height (store_history self.now) result }
-        ensures on { steps.old ≤ steps.new }
-        ensures cost { 2 ^ (steps.new - steps.old - store_tail self.now) ≤ 4 * count_on table (store_history self.now) + 2 }
-        ensures noted { store_tail self.now ≡ 0 → 2 ^ (steps.new - steps.old) ≤ 4 * count_on table (store_history self.now) + 2 }
+        ensures view { IsView result.view }
+        ensures table { result.view.table ≡ table }
+        ensures history { history_in result.view ≡ store_history self.now }
+        ensures tail { tail_in result.view ≡ store_tail self.now }
     {
-        let view = view_of(
+        LookUp::new(view_of(
             self.log.as_slice(),
             self.indexes.as_slice(),
             self.noted,
             table,
-        );
-        find_version(&view, key, height, steps)
+        ))
     }
 }
 
@@ -183,6 +169,9 @@ impl Versions for IndexVersions {
         ensures room { OnOk result (writes ≤ store_spare self.new) }
         ensures kept { OnErr result (store_spare self.new ≡ store_spare self.old) }
         ensures noted { OnOk result (store_tail self.new ≡ 0) }
+
+        // Also where memory runs out, the tail is no longer than it was: what was noted stays noted.
+        ensures tail { store_tail self.new ≤ store_tail self.old }
     {
         note_tail(
             self.alloc,

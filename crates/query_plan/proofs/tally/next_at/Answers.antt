@@ -2,7 +2,7 @@ use Rattle.std.proofs.Common.{◌≡◌, ◌∙◌, Option, Some, None, ap, slic
 use Rattle.std.proofs.lemmas.Option.{slice_get_within}
 use Rattle.std.specs.Option.{option_copied, unwrap_or}
 use Rattle.query_plan.proofs.Nexts.{next_none, next_put, next_same}
-use Rattle.query_plan.specs.Tallies.{next_at, next_tally}
+use Rattle.query_plan.specs.Tallies.{next_tally}
 use Rattle.query_plan.specs.declared.tally.Tally.{Tally}
 use Rattle.query_plan.proofs.tally.next_at.Goals as goal
 

@@ -1,4 +1,4 @@
-use Rattle.std.proofs.Common.{◌≡◌, ◌∙◌, Err, Ok, sym, ap, subst}
+use Rattle.std.proofs.Common.{◌≡◌, ◌∙◌, Err, sym, ap, subst}
 use Rattle.proc_parse.specs.Tokens.{tokens_of}
 use Rattle.query_plan.specs.declared.fault.AskFault.{AskFault}
 use Rattle.query_plan.specs.declared.select.Select.{Select}

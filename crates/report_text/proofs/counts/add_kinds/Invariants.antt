@@ -1,5 +1,5 @@
 use Rattle.std.proofs.Common.{◌≡◌, ◌++◌, map, drop}
-use Rattle.report_text.specs.Summary.{kind_of}
+use Rattle.node_model.specs.Kinds.{kind_of}
 use Rattle.report_text.proofs.counts.add_kinds.Given as goal
 
 -- what was added and what is left make the whole

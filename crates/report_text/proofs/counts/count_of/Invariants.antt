@@ -1,6 +1,6 @@
 use Rattle.std.proofs.Common.{◌≡◌, ◌+◌, ◌≤◌, drop}
 use Rattle.std.specs.List.{count_by}
-use Rattle.report_text.specs.Summary.{is_same}
+use Rattle.node_model.specs.Kinds.{is_same}
 use Rattle.report_text.proofs.counts.count_of.Given as goal
 
 -- what was counted and what is left are all

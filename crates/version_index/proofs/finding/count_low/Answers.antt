@@ -10,20 +10,20 @@ use Rattle.version_index.proofs.Lows.{low_at, not_behind}
 use Rattle.version_index.proofs.finding.count_low.Goals as goal
 
 -- the middle one is low, and so are those before it
-pub loop-low-preserved-then-entry_at-height : goal.loop-low-preserved-then-entry_at-height
-loop-low-preserved-then-entry_at-height g c =
+pub loop-low-preserved-then-probed-height : goal.loop-low-preserved-then-probed-height
+loop-low-preserved-then-probed-height g c =
     let inv = c.loop-low.invariant in
     let below = c.loop-low-test.true in
     let low = c.loop-low.low in
     let high = c.loop-low.high in
     let middle = low + (high - low) / 2 in
-    let numbers : List ℕ = numbers_at (lists_of c.args.chains.now) c.args.slot in
-    let entry = c.entry_at.result.now in
-    let is : passes_at (is_low (history_of c.args.entries.now) c.args.height) numbers middle ≡ true =
-    low_at c.args.entries.now c.args.height c.probe-number.result middle numbers entry c.probe-number.ensures.number c.entry_at.ensures ∙ le_true entry.block c.args.height c.if-entry_at-height.true in
+    let numbers : List ℕ = numbers_at (lists_of c.args.look_up.now.view.index.now.chains) c.args.slot in
+    let entry = c.probe-probed.result.entry.now in
+    let is : passes_at (is_low (history_of c.args.look_up.now.view.entries.now) c.args.height) numbers middle ≡ true =
+    low_at c.args.look_up.now.view.entries.now c.args.height c.probe-probed.result.number middle numbers entry c.probe-probed.ensures.number c.probe-probed.ensures.entry ∙ le_true entry.block c.args.height c.if-probed-height.true in
     let from = inv.4 in
-    let next = c.probe-number.ensures.step in
-    let paid = step_over c.loop-low.steps c.probe-number.new.steps c.args.steps.now (high - low) (high - (middle + 1)) (length numbers) from next inv.5 (omega (arith, below)) (omega (arith, below)) in (
+    let next = c.probe-probed.ensures.step in
+    let paid = step_over c.loop-low.steps c.probe-probed.new.steps c.args.steps.now (high - low) (high - (middle + 1)) (length numbers) from next inv.5 (omega (arith, below)) (omega (arith, below)) in (
       omega (arith, below),
       inv.1,
       λ i up. c.requires.falling i middle (omega (arith, up)) is,
@@ -41,15 +41,15 @@ loop-low-preserved g c =
     let low = c.loop-low.low in
     let high = c.loop-low.high in
     let middle = low + (high - low) / 2 in
-    let numbers : List ℕ = numbers_at (lists_of c.args.chains.now) c.args.slot in
-    let test : ℕ → Bool = passes_at (is_low (history_of c.args.entries.now) c.args.height) numbers in
-    let entry = c.entry_at.result.now in
+    let numbers : List ℕ = numbers_at (lists_of c.args.look_up.now.view.index.now.chains) c.args.slot in
+    let test : ℕ → Bool = passes_at (is_low (history_of c.args.look_up.now.view.entries.now) c.args.height) numbers in
+    let entry = c.probe-probed.result.entry.now in
     let fails : test middle ≡ false =
-    low_at c.args.entries.now c.args.height c.probe-number.result middle numbers entry c.probe-number.ensures.number c.entry_at.ensures ∙ le_false entry.block c.args.height c.if-entry_at-height.false in
+    low_at c.args.look_up.now.view.entries.now c.args.height c.probe-probed.result.number middle numbers entry c.probe-probed.ensures.number c.probe-probed.ensures.entry ∙ le_false entry.block c.args.height c.if-probed-height.false in
     let within = inv.1 in
     let from = inv.4 in
-    let next = c.probe-number.ensures.step in
-    let paid = step_over c.loop-low.steps c.probe-number.new.steps c.args.steps.now (high - low) (middle - low) (length numbers) from next inv.5 (omega (arith, below)) (omega (arith, below)) in (
+    let next = c.probe-probed.ensures.step in
+    let paid = step_over c.loop-low.steps c.probe-probed.new.steps c.args.steps.now (high - low) (middle - low) (length numbers) from next inv.5 (omega (arith, below)) (omega (arith, below)) in (
       omega (arith, below),
       omega (arith, below, within),
       inv.2,
@@ -61,6 +61,3 @@ loop-low-preserved g c =
 
 pub loop-low-init : goal.loop-low-init
 loop-low-init c = grind (arith, elements)
-
-pub entry_at-requires : goal.entry_at-requires
-entry_at-requires c = grind (arith, elements)

@@ -9,11 +9,11 @@ use Rattle.version_index.proofs.finding.last_seen.Goals as goal
 -- none of the tail is seen
 pub returns-in-None-clause-last : goal.returns-in-None-clause-last
 returns-in-None-clause-last g c =
-    let view = c.args.view.now in
+    let view = c.args.look_up.now.view in
     last_of_noted (is_seen (view.table, c.args.key.now) c.args.height) view.noted (history_of view.entries.now) c.seen_noted.result c.seen_noted.ensures.last c.in-None.ensures.last
 
 pub returns-in-None-clause-cost : goal.returns-in-None-clause-cost
 returns-in-None-clause-cost g c =
-    let view = c.args.view.now in
+    let view = c.args.look_up.now.view in
     with_others c.args.steps.now c.seen_in_tail.new.steps c.seen_noted.new.steps (tail_in view) (4 * count_on view.table (history_of view.entries.now) + 2) c.seen_in_tail.ensures.on c.seen_noted.ensures.on
     c.seen_in_tail.ensures.cost c.seen_noted.ensures.cost

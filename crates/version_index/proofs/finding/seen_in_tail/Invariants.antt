@@ -8,8 +8,8 @@ use Rattle.version_index.proofs.finding.seen_in_tail.Given as goal
 -- none from the end on is seen, and each of those took one step
 abbrev pub invariant-loop-end : goal.invariant-loop-end
 invariant-loop-end g l =
-    (l.end ≤ length l.view.entries.now) × ((j : ℕ) → l.end ≤ j → passes_at (is_seen (l.view.table, l.key) l.height) (history_in l.view) j ≡ false)
-    × (l.fn.steps ≤ l.steps) × (l.steps + (l.end - l.view.noted) ≤ l.fn.steps + tail_in l.view)
+    (l.end ≤ length l.look_up.view.entries.now) × ((j : ℕ) → l.end ≤ j → passes_at (is_seen (l.look_up.view.table, l.key) l.height) (history_in l.look_up.view) j ≡ false)
+    × (l.fn.steps ≤ l.steps) × (l.steps + (l.end - l.look_up.view.noted) ≤ l.fn.steps + tail_in l.look_up.view)
 
 abbrev pub decreases-loop-end : goal.decreases-loop-end
 decreases-loop-end g l = l.end

@@ -12,14 +12,21 @@ use Rattle.version_index.proofs.finding.seen_noted.Goals as goal
 
 pub count_low-count-requires-clause-within : goal.count_low-count-requires-clause-within
 count_low-count-requires-clause-within g c =
-    let view = c.args.view.now in
+    let view = c.args.look_up.now.view in
+    let on : ℕ → Bool = passes_at (is_on (view.table, c.args.key.now)) (history_of view.entries.now) in
+    let are : numbers_at (lists_of view.index.now.chains) c.args.slot ≡ passing on view.noted = ap (numbers_at (lists_of view.index.now.chains)) c.requires.slot ∙ c.requires.view.index.chains.numbers c.args.key.now in
+    subst (All (λ (number : ℕ). number < length view.entries.now)) (sym are) (passing_below on view.noted (length view.entries.now) c.requires.view.within)
+
+pub probe-requires-clause-within : goal.probe-requires-clause-within
+probe-requires-clause-within g c =
+    let view = c.args.look_up.now.view in
     let on : ℕ → Bool = passes_at (is_on (view.table, c.args.key.now)) (history_of view.entries.now) in
     let are : numbers_at (lists_of view.index.now.chains) c.args.slot ≡ passing on view.noted = ap (numbers_at (lists_of view.index.now.chains)) c.requires.slot ∙ c.requires.view.index.chains.numbers c.args.key.now in
     subst (All (λ (number : ℕ). number < length view.entries.now)) (sym are) (passing_below on view.noted (length view.entries.now) c.requires.view.within)
 
 pub count_low-count-requires-clause-falling : goal.count_low-count-requires-clause-falling
 count_low-count-requires-clause-falling g c =
-    let view = c.args.view.now in
+    let view = c.args.look_up.now.view in
     let history = history_of view.entries.now in
     let on : ℕ → Bool = passes_at (is_on (view.table, c.args.key.now)) history in
     let low : ℕ → Bool = is_low history c.args.height in
@@ -29,7 +36,7 @@ count_low-count-requires-clause-falling g c =
 -- none of the noted writes is low
 pub returns-then-count-eq0-clause-last : goal.returns-then-count-eq0-clause-last
 returns-then-count-eq0-clause-last g c =
-    let view = c.args.view.now in
+    let view = c.args.look_up.now.view in
     let ref : ℕ × List Value = (view.table, c.args.key.now) in
     let history = history_of view.entries.now in
     let numbers : List ℕ = numbers_at (lists_of view.index.now.chains) c.args.slot in
@@ -38,7 +45,7 @@ returns-then-count-eq0-clause-last g c =
 
 pub returns-then-count-eq0-clause-cost : goal.returns-then-count-eq0-clause-cost
 returns-then-count-eq0-clause-cost g c =
-    let view = c.args.view.now in
+    let view = c.args.look_up.now.view in
     let ref : ℕ × List Value = (view.table, c.args.key.now) in
     let history = history_of view.entries.now in
     let are : numbers_at (lists_of view.index.now.chains) c.args.slot ≡ passing (passes_at (is_on ref) history) view.noted = ap (numbers_at (lists_of view.index.now.chains)) c.requires.slot ∙ c.requires.view.index.chains.numbers c.args.key.now in
@@ -49,7 +56,7 @@ returns-then-count-eq0-clause-cost g c =
 -- the last of those that are low
 pub returns-clause-last : goal.returns-clause-last
 returns-clause-last g c =
-    let view = c.args.view.now in
+    let view = c.args.look_up.now.view in
     let ref : ℕ × List Value = (view.table, c.args.key.now) in
     let history = history_of view.entries.now in
     let numbers : List ℕ = numbers_at (lists_of view.index.now.chains) c.args.slot in
@@ -57,12 +64,12 @@ returns-clause-last g c =
     let count = c.count_low-count.result in
     let some = c.if-count-eq0.false in
     let more : count ≡ suc (count - 1) = omega (arith, some) in
-    last_by_count ref c.args.height history view.noted numbers count are c.count_low-count.ensures.low c.count_low-count.ensures.high c.probe.result (take (count - 1) numbers)
-    (ap (λ n. take n numbers) more ∙ take_next numbers (count - 1) c.probe.result c.probe.ensures.number)
+    last_by_count ref c.args.height history view.noted numbers count are c.count_low-count.ensures.low c.count_low-count.ensures.high c.probe.result.number (take (count - 1) numbers)
+    (ap (λ n. take n numbers) more ∙ take_next numbers (count - 1) c.probe.result.number c.probe.ensures.number)
 
 pub returns-clause-cost : goal.returns-clause-cost
 returns-clause-cost g c =
-    let view = c.args.view.now in
+    let view = c.args.look_up.now.view in
     let ref : ℕ × List Value = (view.table, c.args.key.now) in
     let history = history_of view.entries.now in
     let numbers : List ℕ = numbers_at (lists_of view.index.now.chains) c.args.slot in

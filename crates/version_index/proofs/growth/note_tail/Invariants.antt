@@ -7,6 +7,7 @@ use Rattle.version_index.proofs.growth.note_tail.Given as goal
 abbrev pub invariant-loop-noted : goal.invariant-loop-noted
 invariant-loop-noted l =
     (l.noted ≤ length l.entries) × (columns_in l.indexes.items ≡ columns_in l.initial.indexes.items) × AreNoted l.indexes.items (history_of l.entries) l.noted
+    × (l.initial.noted ≤ l.noted)
 
 abbrev pub decreases-loop-noted : goal.decreases-loop-noted
 decreases-loop-noted l = length l.entries - l.noted

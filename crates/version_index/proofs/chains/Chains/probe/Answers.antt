@@ -1,6 +1,0 @@
-use Rattle.std.proofs.Common.{arith}
-use Rattle.std.proofs.lemmas.Grind.{elements}
-use Rattle.version_index.proofs.chains.Chains.probe.Goals as goal
-
-pub returns-clause-number : goal.returns-clause-number
-returns-clause-number c = grind (arith, elements)
