@@ -1,15 +1,17 @@
 -- Marks that are set, and room for more of them.
-use Rattle.std.proofs.Common.{inl, inr, ◌⊎◌, ap, false, length, refl, replicate, subst, suc, sym, true, zero, Bool, List, Some, [], ◌∷◌, ◌++◌, ◌%◌, ◌*◌, ◌+◌, ◌/◌, ◌<◌, ◌∙◌, ◌≡◌, ◌||◌, ℕ, ⊎_elim, slice_get, slice_index, slice_set}
+use Rattle.std.proofs.Common.{inl, inr, ◌⊎◌, ap, false, length, refl, replicate, subst, suc, sym, true, zero, Bool, IfSome, List, None, Option, Some, [], ◌∷◌, ◌++◌, ◌%◌, ◌*◌, ◌+◌, ◌/◌, ◌<◌, ◌∙◌, ◌≡◌, ◌||◌, ℕ, ⊎_elim, slice_get, slice_index, slice_set}
 use Rattle.std.specs.Bool.{nat_eq}
 use Rattle.std.specs.List.{list_any}
 use Rattle.std.proofs.lemmas.Bool.{eq-eqb}
 use Rattle.std.proofs.lemmas.Bool.Decides.{eqb_tells}
 use Rattle.std.proofs.lemmas.List.{get_or-set_other, get_or-set_same}
 use Rattle.std.proofs.lemmas.Option.{none-some, same_Some}
-use Rattle.conflict_rules.specs.Marking.{HasMarks, is_marked}
+use Rattle.conflict_rules.specs.Marking.{AreReadsMarked, HasMarks, HasReadMarks, has_read_at, has_value_in, is_marked, is_value_marked}
 use Rattle.node_model.specs.declared.result.Committed.{Committed}
 use Rattle.rw_graph.specs.Sets.{is_one}
-use Rattle.rel_base.proofs.Bits.{or_true}
+use Rattle.rel_base.proofs.Bits.{either, or_left, or_right, or_true}
+use Rattle.rel_base.specs.declared.access.Made.{Made}
+use Rattle.rel_base.specs.declared.access.Write.{Write}
 
 -- ---- room
 
@@ -40,9 +42,9 @@ module _ (words : List ℕ) (index word : ℕ) (at : ℕ) (within : index < leng
       (eqb_tells i index)
 
   pub mark_kept : KeepsMarks words (slice_set words index word)
-  mark_kept place number one = bit_stays (1088 * (number / 64) + place) (number % 64) one
+  mark_kept place number one = bit_stays (1345 * (number / 64) + place) (number % 64) one
 
-  pub mark_own : (place number : ℕ) → index ≡ 1088 * (number / 64) + place → at ≡ number % 64 → is_marked (slice_set words index word) place number ≡ true
+  pub mark_own : (place number : ℕ) → index ≡ 1345 * (number / 64) + place → at ≡ number % 64 → is_marked (slice_set words index word) place number ≡ true
   mark_own place number here bit =
       ap (λ i. is_one (slice_index (slice_set words index word) i) (number % 64)) (sym here)
       ∙ ap (λ w. is_one w (number % 64)) (get_or-set_same words index word 0 within) ∙ is (number % 64)
@@ -68,8 +70,33 @@ module _ {X : Type 0} (has : X → ℕ → Bool) (all : List X) (number : ℕ) w
 
 -- ---- one transaction more
 
-pub has_marks_in : (has : Committed → ℕ → Bool) (committed : List Committed) (words words' : List ℕ) → KeepsMarks words words' → HasMarks has committed words → HasMarks has committed words'
-has_marks_in has committed words words' keeps marks number place done at is = keeps place number (marks number place done at is)
+pub has_marks_in : (has : Committed → ℕ → Bool) (committed : List Committed) (marked marked' : ℕ → ℕ → Bool) → ((place number : ℕ) → marked place number ≡ true → marked' place number ≡ true)
+    → HasMarks has marked committed → HasMarks has marked' committed
+has_marks_in has committed marked marked' keeps marks number place done at is = keeps place number (marks number place done at is)
+
+-- values that are marked, or known not to be, stay so
+pub values_kept : (words words' : List ℕ) → KeepsMarks words words' → (place number : ℕ) → is_value_marked words place number ≡ true → is_value_marked words' place number ≡ true
+values_kept words words' keeps place number marked = ⊎_elim
+    (λ own. or_left (is_marked words' place number) (is_marked words' 1344 number) (keeps place number own))
+    (λ none. or_right (is_marked words' place number) (is_marked words' 1344 number) (keeps 1344 number none))
+    (either (is_marked words place number) (is_marked words 1344 number) marked)
+
+-- the marked column stays once there is one
+abbrev pub StaysMarked : Option ℕ → Option ℕ → Type 0
+StaysMarked old new = IfSome old (λ column. new ≡ Some column)
+
+pub value_then : (old new : Option ℕ) → StaysMarked old new → (writes : List Write) (place : ℕ) → has_value_in new writes place ≡ true → has_value_in old writes place ≡ true
+value_then None new stays writes place has = refl
+value_then (Some column) new stays writes place has = subst (λ marked. has_value_in marked writes place ≡ true) stays has
+
+abbrev pub EitherMarks : Option ℕ → List ℕ → ℕ → List Made → Type 0
+EitherMarks column words number reads = HasReadMarks None words number reads ⊎ HasReadMarks column words number reads
+
+reads_then : (old new : Option ℕ) → StaysMarked old new → (words words' : List ℕ) → KeepsMarks words words' → (number : ℕ) (reads : List Made) → EitherMarks old words number reads → EitherMarks new words' number reads
+reads_then old new stays words words' keeps number reads (inl none) = inl (λ place has. keeps place number (none place has))
+reads_then None new stays words words' keeps number reads (inr some) = inl (λ place has. keeps place number (some place has))
+reads_then (Some column) new stays words words' keeps number reads (inr some) =
+    inr (λ place has. keeps place number (some place (subst (λ marked. has_read_at marked reads place ≡ true) stays has)))
 
 get_more : (committed : List Committed) (last done : Committed) (number : ℕ) → slice_get (committed ++ last ∷ []) number ≡ Some done
     → (slice_get committed number ≡ Some done) ⊎ ((number ≡ length committed) × (last ≡ done))
@@ -78,11 +105,18 @@ get_more [] last done (suc number) at = absurd (none-some done at)
 get_more (first ∷ rest) last done zero at = inl at
 get_more (first ∷ rest) last done (suc number) at = ⊎_elim (λ early. inl early) (λ late. inr (ap suc late.0, late.1)) (get_more rest last done number at)
 
-pub has_more : (has : Committed → ℕ → Bool) (committed : List Committed) (last : Committed) (words : List ℕ) → HasMarks has committed words
-    → ((place : ℕ) → has last place ≡ true → is_marked words place (length committed) ≡ true) → HasMarks has (committed ++ last ∷ []) words
-has_more has committed last words marks own number place done at is = ⊎_elim
+pub has_more : (has : Committed → ℕ → Bool) (committed : List Committed) (last : Committed) (marked : ℕ → ℕ → Bool) → HasMarks has marked committed
+    → ((place : ℕ) → has last place ≡ true → marked place (length committed) ≡ true) → HasMarks has marked (committed ++ last ∷ [])
+has_more has committed last marked marks own number place done at is = ⊎_elim
     (λ early. marks number place done early is)
     (λ late.
     let same : has last place ≡ true = subst (λ d. has d place ≡ true) (sym late.1) is in
-    subst (λ n. is_marked words place n ≡ true) (sym late.0) (own place same))
+    subst (λ n. marked place n ≡ true) (sym late.0) (own place same))
+    (get_more committed last done number at)
+
+pub reads_more : (old new : Option ℕ) → StaysMarked old new → (words words' : List ℕ) → KeepsMarks words words' → (committed : List Committed) (last : Committed)
+    → AreReadsMarked old words committed → HasReadMarks new words' (length committed) last.reads → AreReadsMarked new words' (committed ++ last ∷ [])
+reads_more old new stays words words' keeps committed last marks own number done at = ⊎_elim
+    (λ early. reads_then old new stays words words' keeps number done.reads (marks number done early))
+    (λ late. inr (subst (λ d. HasReadMarks new words' number d.reads) late.1 (subst (λ n. HasReadMarks new words' n last.reads) (sym late.0) own)))
     (get_more committed last done number at)

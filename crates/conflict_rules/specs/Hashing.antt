@@ -18,3 +18,7 @@ mix_value hash (Bytes bytes) = fold mix hash bytes
 -- the place of a key of a table, below 1,024: the highest ten bits of the hash of its values and the number of the table
 unfoldable pub key_place : ℕ → List Value → ℕ
 key_place table key = mix (fold mix_value 0 key) table / 2 ^ 54
+
+-- the hash of a value of a table, below 256: the highest eight bits
+unfoldable pub value_hash : ℕ → Value → ℕ
+value_hash table value = mix (mix_value 0 value) table / 2 ^ 56

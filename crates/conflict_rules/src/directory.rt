@@ -1,6 +1,6 @@
 //! The directory.
 
-ghost use Rattle.std.specs.Prelude.{ℕ, ◌≡◌, ◌<◌, ◌++◌, ◌∷◌, [], All, List, OnOk, length};
+ghost use Rattle.std.specs.Prelude.{ℕ, ◌≡◌, ◌<◌, ◌++◌, ◌∷◌, [], All, IfSome, List, OnOk, Some, length};
 ghost use Rattle.std.specs.Option.{option_map};
 ghost use Rattle.conflict_rules.specs.Marking.{HasRoomFor, IsDirectoryOf};
 ghost use Rattle.node_model.specs.Decide.{clash};
@@ -8,10 +8,12 @@ ghost use Rattle.node_model.specs.Edges.{comes_from, leads_to};
 ghost use Rattle.node_model.specs.declared.result.Committed.{Committed as Done};
 ghost use Rattle.rw_graph.specs.Fitting.{IsMember, ReadsFit, WritesFit};
 ghost use Rattle.rw_graph.specs.Held.{holds};
+ghost use Rattle.proc_syntax.specs.Limits.{most_transactions};
 
 use crate::clash::ClashRef;
 use crate::lookup::{marked_at_keys, marked_at_reads, marked_at_writes};
 use crate::marking::{grow, note_reads, note_writes};
+use crate::places::first_column;
 use crate::walk::{clash_among, into_among, out_among};
 use node_model::Committed;
 use rel_base::{List, Made, NoMemory, TableDef, Write};
@@ -26,6 +28,19 @@ use std::alloc::Global;
 pub struct Directory {
     writers: Vec<u64>,
     readers: Vec<u64>,
+    /// The column whose values are marked too: that of the first span of one value. A block without such spans has none, and pays
+    /// for none.
+    marked: Option<u32>,
+}
+
+// The marked column with the reads of one more transaction: it stays as it is once there is one.
+fn column_with(marked: Option<u32>, reads: &[Made]) -> Option<u32>
+    ensures { IfSome marked (λ column. result ≡ Some column) }
+{
+    match marked {
+        None => first_column(reads),
+        Some(column) => Some(column),
+    }
 }
 
 impl Directory {
@@ -36,6 +51,7 @@ impl Directory {
         Directory {
             writers: Vec::new(alloc),
             readers: Vec::new(alloc),
+            marked: None,
         }
     }
 
@@ -50,13 +66,14 @@ impl Directory {
 
     /// Adds the reads and the net writes of the transaction of a number, from 0, for which there is room. Takes no memory.
     pub fn add(&mut self, number: usize, reads: &List<Made>, writes: &List<Write>)
-        requires few { number < 1024 }
+        requires few { number < most_transactions }
         requires room { HasRoomFor number self.old }
         ensures { (committed : List Done) (pos : ℕ) → length committed ≡ number → IsDirectoryOf committed self.old
             → IsDirectoryOf (committed ++ record { pos = pos; reads = reads.now; writes = writes.now } ∷ []) self.new }
     {
-        note_writes(&mut self.writers, writes.as_slice(), number);
-        note_reads(&mut self.readers, reads.as_slice(), number);
+        self.marked = column_with(self.marked, reads.as_slice());
+        note_writes(&mut self.writers, self.marked, writes.as_slice(), number);
+        note_reads(&mut self.readers, self.marked, reads.as_slice(), number);
     }
 
     /// The write conflict of writes with the committed transactions: `None` exactly where none of these wrote a table and key of the
@@ -76,7 +93,7 @@ impl Directory {
         requires reads { ReadsFit tables.now reads.now }
         ensures { (pos : ℕ) → holds result pos ≡ leads_to tables.now committed.now reads.now pos }
     {
-        let found = marked_at_reads(self.writers.as_slice(), reads);
+        let found = marked_at_reads(self.writers.as_slice(), self.marked, reads);
         out_among(tables, committed, &found, reads)
     }
 
@@ -87,7 +104,7 @@ impl Directory {
         requires writes { WritesFit tables.now writes.now }
         ensures { (pos : ℕ) → holds result pos ≡ comes_from tables.now committed.now writes.now pos }
     {
-        let found = marked_at_writes(self.readers.as_slice(), writes);
+        let found = marked_at_writes(self.readers.as_slice(), self.marked, writes);
         into_among(tables, committed, &found, writes)
     }
 

@@ -1,7 +1,7 @@
 //! Hashes of keys. They need not be good, but they are functions of table and key.
 
 ghost use Rattle.std.specs.Prelude.{◌≡◌, ◌<◌, fold};
-ghost use Rattle.conflict_rules.specs.Hashing.{key_place, mix, mix_value};
+ghost use Rattle.conflict_rules.specs.Hashing.{key_place, mix, mix_value, value_hash};
 
 use rel_base::{Key, Value};
 
@@ -55,4 +55,14 @@ pub fn key_place(table: u32, key: &Key) -> u32
 {
     let hash = mix(mix_values(key.as_slice()), u64::from(table));
     (hash >> 54) as u32
+}
+
+/// The hash of a value of a table, below 256. Values of one table that are equal have one hash.
+#[tactic(auto, unfolding(crate::specs::Hashing::value_hash))]
+pub fn value_hash(table: u32, value: &Value) -> u32
+    ensures hash { result ≡ value_hash table value.now }
+    ensures within { result < 256 }
+{
+    let hash = mix(mix_value(0, value), u64::from(table));
+    (hash >> 56) as u32
 }

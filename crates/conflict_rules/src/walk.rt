@@ -8,6 +8,7 @@ ghost use Rattle.node_model.specs.Decide.{clash, first_shared};
 ghost use Rattle.node_model.specs.Edges.{comes_from, leads_to, touches};
 ghost use Rattle.rw_graph.specs.Fitting.{IsMember, ReadsFit, WritesFit};
 ghost use Rattle.rw_graph.specs.Held.{holds};
+ghost use Rattle.proc_syntax.specs.Limits.{most_transactions};
 
 use crate::clash::{ClashRef, first_shared};
 use node_model::Committed;
@@ -16,7 +17,7 @@ use rw_graph::{Bits, touches};
 
 // The first number from one on, below an end, that was found.
 fn next_found(found: &Bits, from: usize, end: usize) -> Option<usize>
-    requires { end ≤ 1024 }
+    requires { end ≤ most_transactions }
     ensures { MatchOption result (NoneFound found.now from end) (λ number. (from ≤ number) × (number < end) × NoneFound found.now from number) }
 {
     if from >= end {
@@ -33,7 +34,7 @@ fn next_found(found: &Bits, from: usize, end: usize) -> Option<usize>
 
 /// The first write conflict with a transaction that was found, where the others have none.
 pub fn clash_among(committed: &[Committed], found: &Bits, writes: &[Write]) -> Option<ClashRef>
-    requires few { length committed.now ≤ 1024 }
+    requires few { length committed.now ≤ most_transactions }
     requires only { OnlyFound found.now committed.now (λ done. first_shared done.writes writes.now ≡ None) }
     ensures { option_map (λ clash. (clash.with, clash.index)) result ≡ clash committed.now writes.now }
 {
@@ -74,7 +75,7 @@ fn meets(tables: &[TableDef], half: Half<'_>, done: &Committed) -> bool
 // The positions of the committed transactions with such an edge, where those that were not found have none.
 fn edges_among(tables: &[TableDef], committed: &[Committed], found: &Bits, half: Half<'_>) -> Bits
     requires committed { All (IsMember tables.now) committed.now }
-    requires few { length committed.now ≤ 1024 }
+    requires few { length committed.now ≤ most_transactions }
     requires half { HalfFits tables.now half }
     requires only { OnlyFound found.now committed.now (λ done. meets tables.now half done ≡ false) }
     ensures { (pos : ℕ) → holds result pos ≡ has_half_edge tables.now committed.now half.entry pos }
@@ -92,7 +93,7 @@ fn edges_among(tables: &[TableDef], committed: &[Committed], found: &Bits, half:
 /// The positions to which a transaction with some reads has an edge, where it has none to those that were not found.
 pub fn out_among(tables: &[TableDef], committed: &[Committed], found: &Bits, reads: &[Made]) -> Bits
     requires committed { All (IsMember tables.now) committed.now }
-    requires few { length committed.now ≤ 1024 }
+    requires few { length committed.now ≤ most_transactions }
     requires reads { ReadsFit tables.now reads.now }
     requires only { OnlyFound found.now committed.now (λ done. touches tables.now reads.now done.writes ≡ false) }
     ensures { (pos : ℕ) → holds result pos ≡ leads_to tables.now committed.now reads.now pos }
@@ -108,7 +109,7 @@ pub fn into_among(
     writes: &[Write],
 ) -> Bits
     requires committed { All (IsMember tables.now) committed.now }
-    requires few { length committed.now ≤ 1024 }
+    requires few { length committed.now ≤ most_transactions }
     requires writes { WritesFit tables.now writes.now }
     requires only { OnlyFound found.now committed.now (λ done. touches tables.now done.reads writes.now ≡ false) }
     ensures { (pos : ℕ) → holds result pos ≡ comes_from tables.now committed.now writes.now pos }

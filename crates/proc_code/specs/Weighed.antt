@@ -4,7 +4,8 @@ use Rattle.std.specs.Borrow.{Bor}
 use Rattle.rel_base.specs.declared.value.Value.{Value}
 use Rattle.rel_base.specs.declared.value.Value.TheVariants as value
 use Rattle.proc_syntax.specs.declared.run.Stop.{Stop}
-use Rattle.proc_syntax.specs.Values.{◌>>=◌, flag_of}
+use Rattle.proc_syntax.specs.declared.tree.Op.{Op}
+use Rattle.proc_syntax.specs.Values.{◌>>=◌, apply, flag_of}
 use Rattle.proc_eval.specs.declared.halt.Halt.{Halt}
 use Rattle.proc_eval.specs.declared.halt.Halt.TheVariants as halt
 use Rattle.proc_code.specs.declared.values.Worth.{Worth}
@@ -18,6 +19,10 @@ weight (worth.Lent v) = v.now
 -- a truth value alone
 abbrev pub truth_of : Value → Result Value Stop
 truth_of v = flag_of v >>= λ holds. Ok (value.Bool holds)
+
+-- an operator of what its sides give
+abbrev pub applied : Op → Result Value Stop → Result Value Stop → Result Value Stop
+applied o left right = left >>= λ v. apply o v right
 
 -- the value that is lent
 abbrev pub lent : Result (Bor Value) Stop → Result Value Stop

@@ -6,6 +6,7 @@ pub mod gather;
 pub mod laws;
 pub mod numbering;
 pub mod places;
+pub mod quick;
 pub mod resolving;
 pub mod slots;
 pub mod statements;

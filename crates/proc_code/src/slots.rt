@@ -53,14 +53,36 @@ fn cell_of<'a>(
     }
 }
 
+/// The value of what a variable stands for, where it stands for one.
+pub fn plain_in<'a>(slots: &'a [Option<Binding>], slot: usize) -> Option<&'a Value>
+    ensures { option_copied result ≡ option_and_then plain_of (in_slot slots.now slot) }
+{
+    match in_slot(slots, slot) {
+        Some(Binding::Plain(value)) => Some(value),
+        _ => None,
+    }
+}
+
+/// The value of the row that a variable holds, in the column of a name, where there is one.
+pub fn field_in<'a>(
+    columns: &List<List<Option<usize>>>,
+    slots: &'a [Option<Binding>],
+    slot: usize,
+    name: usize,
+) -> Option<&'a Value>
+    ensures { option_copied result ≡ option_and_then (cell_of columns.now name) (in_slot slots.now slot) }
+{
+    match in_slot(slots, slot) {
+        None => None,
+        Some(binding) => cell_of(columns, name, binding),
+    }
+}
+
 /// The value of what a variable stands for.
 pub fn plain_value<'a>(slots: &'a [Option<Binding>], slot: usize) -> Result<&'a Value, Stop>
     ensures { lent result ≡ found (option_and_then plain_of (in_slot slots.now slot)) }
 {
-    match in_slot(slots, slot) {
-        Some(Binding::Plain(value)) => Ok(value),
-        _ => Err(Stop::IllTyped),
-    }
+    plain_in(slots, slot).ok_or(Stop::IllTyped)
 }
 
 /// The value of the row that a variable holds, in the column of a name.
@@ -72,8 +94,5 @@ pub fn field_value<'a>(
 ) -> Result<&'a Value, Stop>
     ensures { lent result ≡ found (option_and_then (cell_of columns.now name) (in_slot slots.now slot)) }
 {
-    match in_slot(slots, slot) {
-        None => Err(Stop::IllTyped),
-        Some(binding) => cell_of(columns, name, binding).ok_or(Stop::IllTyped),
-    }
+    field_in(columns, slots, slot, name).ok_or(Stop::IllTyped)
 }

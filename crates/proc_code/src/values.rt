@@ -6,6 +6,7 @@ ghost use Rattle.proc_eval.specs.Gives.{Gives};
 ghost use Rattle.proc_code.specs.Coded.{worth_of, worths_of, end_worth, set_worth, sets_worth};
 ghost use Rattle.proc_code.specs.Weighed.{Weighs, truth_of, weight};
 
+use crate::quick::{quick_number, quick_test};
 use crate::slots::{Environment, field_value, plain_value};
 use crate::tree::{Setting, Term};
 use proc_eval::Halt;
@@ -155,6 +156,12 @@ pub fn eval(
 ) -> Result<Value, Halt>
     ensures { Gives result (worth_of columns.now term.now environment.now) }
 {
+    if let Some(number) = quick_number(columns, environment, term) {
+        return Ok(Value::Int(number));
+    }
+    if let Some(holds) = quick_test(columns, environment, term) {
+        return Ok(Value::Bool(holds));
+    }
     let worth = weigh(alloc, columns, environment, term)?;
     worth.into_value(alloc)
 }

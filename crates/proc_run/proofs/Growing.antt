@@ -156,14 +156,16 @@ module _ (declared : List TableDef) (columns : List (List (Option ℕ))) (S : Ta
   pub next_is : (root : List Action) (now : Phase) (path : List Spot) (st : State) → waits now ≡ true
       → IsNextWant (want_of now) declared S st.made (state_of (remains declared columns S root now path st)).made
   next_is root phase.Running path st w = cc
-  next_is root (phase.Ask at read what) path st w =
+  next_is root (phase.Ask at asked_now) path st w =
+      let read = asked_now.made.read in
+      let what = asked_now.pending in
       let got : Made = record { read = read; rows = rows_in declared read S } in
       let first = part_of (block_of root path) at First in
       let second = part_of (block_of root path) at Second in
       let g = grows_then (st.made ++ got ∷ []) (answered declared columns S first second read what got.rows st) (run_frames declared columns S (frames_of root path))
       (grows_resume first second read what (seen_in declared read st.own got.rows) (asked st read got.rows)) (grows_frames (frames_of root path)) in
       (g.more, g.is ∙ append_assoc st.made (got ∷ []) g.more)
-  next_is root (phase.Answered at made what) path st w = cc
+  next_is root (phase.Answered at asked_now) path st w = cc
   next_is root phase.Good path st w = refl
   next_is root (phase.Stopped why) path st w = refl
 

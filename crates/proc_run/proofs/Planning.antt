@@ -21,10 +21,9 @@ use Rattle.proc_code.specs.Coded.{State, Progress, hold, table_at, worth_of, wor
 use Rattle.proc_run.specs.declared.plan.Pending.{Pending}
 use Rattle.proc_run.specs.declared.plan.Pending.TheVariants as pending
 use Rattle.proc_run.specs.declared.plan.Plan.{Plan}
-use Rattle.proc_run.specs.declared.plan.Plan.TheVariants as plan
 use Rattle.proc_run.specs.declared.path.Branch.TheVariants.{First, Second}
 use Rattle.proc_run.specs.Path.{first_block, second_block, block_in, part_of}
-use Rattle.proc_run.specs.Planned.{plan_step, plan_of, PlanFits}
+use Rattle.proc_run.specs.Planned.{ask, plan_step, plan_of, PlanFits}
 use Rattle.proc_run.specs.Remains.{seen_by, resume, do_plan}
 
 -- what holds of each statement by its form
@@ -57,28 +56,28 @@ module _ (declared : List TableDef) (columns : List (List (Option ℕ))) (S : Ta
 
     -- a read of a declared table, and what is done with its rows
     asks : (def : TableDef) (read : Read) (what : Pending) → slice_get declared (read_table read) ≡ Some def
-        → with_rows S def read st (resume declared columns S first second read what) ≡ then_plan (plan.Ask read what) st
+        → with_rows S def read st (resume declared columns S first second read what) ≡ then_plan (ask read what) st
     asks def read what here = ap (λ found. resume declared columns S first second read what (seen_by found read st.own (rows_by found read S)) (asked st read (rows_by found read S))) (sym here)
 
     updates : (def : TableDef) (table : ℕ) (key : List Value) (changes : List (ℕ × Value)) (read : Read) → read ≡ Point table key → slice_get declared table ≡ Some def
-        → with_rows S def read st (update_at def table key changes) ≡ then_plan (plan.Ask read (pending.Update changes)) st
+        → with_rows S def read st (update_at def table key changes) ≡ then_plan (ask read (pending.Update changes)) st
     updates def table key changes read at_key here =
-        subst (λ read. with_rows S def read st (update_at def table key changes) ≡ then_plan (plan.Ask read (pending.Update changes)) st) (sym at_key)
+        subst (λ read. with_rows S def read st (update_at def table key changes) ≡ then_plan (ask read (pending.Update changes)) st) (sym at_key)
         (ap (λ found. with_rows S def (Point table key) st (λ rows state. with_some found state (λ def. update_at def table key changes rows state))) (sym here)
         ∙ asks def (Point table key) (pending.Update changes) here)
 
     deletes : (def : TableDef) (table : ℕ) (key : List Value) (read : Read) → read ≡ Point table key → slice_get declared table ≡ Some def
-        → with_rows S def read st (delete_at table key) ≡ then_plan (plan.Ask read pending.Delete) st
+        → with_rows S def read st (delete_at table key) ≡ then_plan (ask read pending.Delete) st
     deletes def table key read at_key here =
-        subst (λ read. with_rows S def read st (delete_at table key) ≡ then_plan (plan.Ask read pending.Delete) st) (sym at_key) (asks def (Point table key) pending.Delete here)
+        subst (λ read. with_rows S def read st (delete_at table key) ≡ then_plan (ask read pending.Delete) st) (sym at_key) (asks def (Point table key) pending.Delete here)
 
     gets : (def : TableDef) (slot table : ℕ) (key : List Value) (read : Read) → read ≡ Point table key → slice_get declared table ≡ Some def
-        → with_rows S def read st (held_or (hold slot table) (do_all declared columns S first) (do_all declared columns S second)) ≡ then_plan (plan.Ask read (pending.Get slot)) st
+        → with_rows S def read st (held_or (hold slot table) (do_all declared columns S first) (do_all declared columns S second)) ≡ then_plan (ask read (pending.Get slot)) st
     gets def slot table key read at_key here =
-        subst (λ read. with_rows S def read st (held_or (hold slot table) (do_all declared columns S first) (do_all declared columns S second)) ≡ then_plan (plan.Ask read (pending.Get slot)) st) (sym at_key) (asks def (Point table key) (pending.Get slot) here)
+        subst (λ read. with_rows S def read st (held_or (hold slot table) (do_all declared columns S first) (do_all declared columns S second)) ≡ then_plan (ask read (pending.Get slot)) st) (sym at_key) (asks def (Point table key) (pending.Get slot) here)
 
     visits : (def : TableDef) (slot table : ℕ) (read : Read) → read_table read ≡ table → slice_get declared table ≡ Some def
-        → with_rows S def read st (each_held (hold slot table) (do_all declared columns S first)) ≡ then_plan (plan.Ask read (pending.For slot)) st
+        → with_rows S def read st (each_held (hold slot table) (do_all declared columns S first)) ≡ then_plan (ask read (pending.For slot)) st
     visits def slot table read at_table here =
         ap (λ t. with_rows S def read st (each_held (hold slot t) (do_all declared columns S first))) (sym at_table) ∙ asks def read (pending.For slot) (ap (slice_get declared) at_table ∙ here)
 

@@ -3,7 +3,6 @@ use Rattle.std.proofs.Common.{◌≡◌, ◌≤◌, ◌+◌, ℕ, ℤ, arith, le
 use Rattle.std.specs.List.{AllByRecursion}
 use Rattle.std.proofs.lemmas.List.{append-nil}
 use Rattle.rel_base.specs.declared.access.Made.{Made}
-use Rattle.rel_base.specs.declared.access.Read.{Read}
 use Rattle.rel_base.specs.declared.access.Seen.{Seen}
 use Rattle.rel_base.specs.declared.schema.TableDef.{TableDef}
 use Rattle.rel_base.specs.Among.{rows_in}
@@ -19,10 +18,10 @@ use Rattle.proc_code.specs.declared.tree.AppCode.{AppCode}
 use Rattle.proc_code.specs.Coded.{Progress, State}
 use Rattle.proc_code.specs.Resolved.{code_of}
 use Rattle.proc_code.proofs.Coded_runs.{code_runs}
+use Rattle.proc_run.specs.declared.asked.Asked.{Asked}
 use Rattle.proc_run.specs.declared.path.Branch.TheVariants.{Whole, First, Second}
 use Rattle.proc_run.specs.declared.path.Spot.{Spot}
 use Rattle.proc_run.specs.declared.path.Spot.TheVariants.{Block}
-use Rattle.proc_run.specs.declared.plan.Pending.{Pending}
 use Rattle.proc_run.specs.declared.state.Phase.{Phase}
 use Rattle.proc_run.specs.declared.state.Phase.TheVariants as phase
 use Rattle.proc_run.specs.declared.state.Run.{Run}
@@ -45,31 +44,31 @@ module _ (declared : List TableDef) (S : Tables) where
 
 waits_none : (now : Phase) → waits now ≡ true → given_of now ≡ []
 waits_none phase.Running w = refl
-waits_none (phase.Ask at read what) w = refl
-waits_none (phase.Answered at made what) w = cc
+waits_none (phase.Ask at asked) w = refl
+waits_none (phase.Answered at asked) w = cc
 waits_none phase.Good w = refl
 waits_none (phase.Stopped why) w = refl
 
 pub given_none : (now : Phase) → has_rows now ≡ false → given_of now ≡ []
 given_none phase.Running h = refl
-given_none (phase.Ask at read what) h = refl
-given_none (phase.Answered at made what) h = cc
+given_none (phase.Ask at asked) h = refl
+given_none (phase.Answered at asked) h = cc
 given_none phase.Good h = refl
 given_none (phase.Stopped why) h = refl
 
 -- where no read is asked, the end is reported
 pub none_wanted : (now : Phase) → read_of now ≡ None → want_of now ≡ want.Ended
 none_wanted phase.Running none = refl
-none_wanted (phase.Ask at read what) none = absurd (cc)
-none_wanted (phase.Answered at made what) none = refl
+none_wanted (phase.Ask at asked) none = absurd (cc)
+none_wanted (phase.Answered at asked) none = refl
 none_wanted phase.Good none = refl
 none_wanted (phase.Stopped why) none = refl
 
 -- what is reported of a read that fits fits
 pub want_fits : (declared : List TableDef) (now : Phase) → PhaseFits declared now → WantFits declared (want_of now)
 want_fits declared phase.Running h = tt
-want_fits declared (phase.Ask at read what) h = h
-want_fits declared (phase.Answered at made what) h = tt
+want_fits declared (phase.Ask at asked) h = h
+want_fits declared (phase.Answered at asked) h = tt
 want_fits declared phase.Good h = tt
 want_fits declared (phase.Stopped why) h = tt
 
@@ -128,9 +127,10 @@ module _ (app : App) (tx : Tx) (time : ℤ) (number : ℕ) where
       room
 
   -- the rows of a read continue the run
-  pub sound_fed : (at : ℕ) (read : Read) (what : Pending) (rows : List Seen) (path : List Spot) (going : Run) (told : Bool) → IsSound app tx time number (phase.Ask at read what) path going told → StandInOrder declared read rows
-      → IsSound app tx time number (phase.Answered at (record { read = read; rows = rows }) what) path going false
-  sound_fed at read what rows path going told s order =
+  pub sound_fed : (at : ℕ) (asked : Asked) (rows : List Seen) (path : List Spot) (going : Run) (told : Bool) → IsSound app tx time number (phase.Ask at asked) path going told → StandInOrder declared asked.made.read rows
+      → IsSound app tx time number (phase.Answered at (record { made = record { read = asked.made.read; rows = rows }; pending = asked.pending })) path going false
+  sound_fed at asked rows path going told s order =
+      let read = asked.made.read in
       let m : Made = record { read = read; rows = rows } in
       let root = body_at (code_of app) number in
       let before : (S : Tables) → Agrees declared S (going.made.items ++ m ∷ []) → Agrees declared S (going.made.items ++ []) =
@@ -138,7 +138,7 @@ module _ (app : App) (tx : Tx) (time : ℤ) (number : ℕ) where
       record {
         follows = λ S a.
             let got : rows ≡ rows_in declared read S = (agrees_back declared S going.made.items (m ∷ []) a).0 in
-            ap (λ rows. meaning.ran declared S (then_do (answered declared (code_of app).columns S (part_of (block_of root path) at First) (part_of (block_of root path) at Second) read what rows (state going)) (run_frames declared (code_of app).columns S (frames_of root path)))) got
+            ap (λ rows. meaning.ran declared S (then_do (answered declared (code_of app).columns S (part_of (block_of root path) at First) (part_of (block_of root path) at Second) read asked.pending rows (state going)) (run_frames declared (code_of app).columns S (frames_of root path)))) got
             ∙ s.follows S (before S a);
         found = λ S a. s.found S (before S a);
         steps = s.steps;

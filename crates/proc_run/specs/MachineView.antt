@@ -25,6 +25,7 @@ use Rattle.proc_run.specs.declared.state.Want.{Want}
 use Rattle.proc_run.specs.declared.state.Want.TheVariants as want
 use Rattle.proc_run.specs.Path.{body_at}
 use Rattle.proc_run.specs.Remains.{state, remains, waits, PhaseFits, StandInOrder}
+use Rattle.proc_syntax.specs.Limits.{most_steps}
 
 -- what a machine runs, the reads that were answered so far, with their rows, the read that is asked, and whether it reported that the run ended
 pub record MachineView : Type 0 where
@@ -38,32 +39,32 @@ pub record MachineView : Type 0 where
 -- the read for whose rows a run waits
 abbrev pub read_of : Phase → Option Read
 read_of phase.Running = None
-read_of (phase.Ask at read pending) = Some read
-read_of (phase.Answered at made pending) = None
+read_of (phase.Ask at asked) = Some asked.made.read
+read_of (phase.Answered at asked) = None
 read_of phase.Good = None
 read_of (phase.Stopped why) = None
 
 -- the read that was answered last, where its rows were not used yet
 abbrev pub given_of : Phase → List Made
 given_of phase.Running = []
-given_of (phase.Ask at read pending) = []
-given_of (phase.Answered at made pending) = made ∷ []
+given_of (phase.Ask at asked) = []
+given_of (phase.Answered at asked) = asked.made ∷ []
 given_of phase.Good = []
 given_of (phase.Stopped why) = []
 
 -- how many reads are made or answered that are not on the list yet
 abbrev pub held_of : Phase → ℕ
 held_of phase.Running = 0
-held_of (phase.Ask at read pending) = 1
-held_of (phase.Answered at made pending) = 1
+held_of (phase.Ask at asked) = 1
+held_of (phase.Answered at asked) = 1
 held_of phase.Good = 0
 held_of (phase.Stopped why) = 0
 
 -- what a machine tells
 abbrev pub want_of : Phase → Want
 want_of phase.Running = want.Ended
-want_of (phase.Ask at read pending) = want.Rows read
-want_of (phase.Answered at made pending) = want.Ended
+want_of (phase.Ask at asked) = want.Rows asked.made.read
+want_of (phase.Answered at asked) = want.Ended
 want_of phase.Good = want.Ended
 want_of (phase.Stopped why) = want.Ended
 
@@ -114,7 +115,7 @@ pub record IsSound (app : App) (tx : Tx) (time : ℤ) (number : ℕ) (now : Phas
   pub follows : (tables : Tables) → Agrees (tables_of app) tables (going.made.items ++ given_of now)
       → meaning.ran (tables_of app) tables (remains (tables_of app) (code_of app).columns tables (body_at (code_of app) number) now spots (state going)) ≡ meaning.run app tx time tables
   pub found : (tables : Tables) → Agrees (tables_of app) tables (going.made.items ++ given_of now) → AreFound (tables_of app) tables going.own
-  pub steps : going.steps ≤ 100000
+  pub steps : going.steps ≤ most_steps
   pub fits : PhaseFits (tables_of app) now
   pub order : GivenInOrder (tables_of app) now
   pub room : vec_len going.made + held_of now ≤ vec_capacity going.made

@@ -1,5 +1,6 @@
 -- What a statement comes to before its read: the values of its expressions, and the read.
-use Rattle.std.specs.Prelude.{ℕ, List, Option, Result, Ok, Err, slice_get}
+use Rattle.std.specs.Prelude.{ℕ, List, [], Option, Result, Ok, Err, slice_get}
+use Rattle.rel_base.specs.declared.access.Read.{Read}
 use Rattle.rel_base.specs.declared.access.Read.TheVariants.{Point}
 use Rattle.rel_base.specs.declared.schema.TableDef.{TableDef}
 use Rattle.rel_base.specs.Among.{ReadFitsIn}
@@ -19,6 +20,10 @@ use Rattle.proc_run.specs.declared.plan.Pending.TheVariants.{Insert, Update, Del
 use Rattle.proc_run.specs.declared.plan.Plan.{Plan}
 use Rattle.proc_run.specs.declared.plan.Plan.TheVariants.{Set, Enter, Ask}
 
+-- a read is next, which has no rows yet, and then what is pending
+abbrev pub ask : Read → Pending → Plan
+ask read pending = Ask (record { made = record { read = read; rows = [] }; pending = pending })
+
 module _ (columns : List (List (Option ℕ))) where
   -- a variable gets the value of an expression
   abbrev pub plan_set : ℕ → Term → Environment → Result Plan Stop
@@ -32,22 +37,22 @@ module _ (declared : List TableDef) (columns : List (List (Option ℕ))) where
   -- the point read of a key, and then what is pending
   abbrev pub plan_key : ℕ → List Term → Pending → Environment → Result Plan Stop
   plan_key table key pending environment =
-      found (slice_get declared table) >>= λ def. worths_of columns key environment >>= λ key. found (point_of def table key) >>= λ read. Ok (Ask read pending)
+      found (slice_get declared table) >>= λ def. worths_of columns key environment >>= λ key. found (point_of def table key) >>= λ read. Ok (ask read pending)
 
   -- the span read on a column, and then a block for each row
   abbrev pub plan_for : ℕ → ℕ → Option ℕ → Option Term → Option Term → Environment → Result Plan Stop
   plan_for slot table column low high environment =
-      found (slice_get declared table) >>= λ def. end_worth columns low environment >>= λ low. end_worth columns high environment >>= λ high. found (span_of def table column low high) >>= λ read. Ok (Ask read (For slot))
+      found (slice_get declared table) >>= λ def. end_worth columns low environment >>= λ low. end_worth columns high environment >>= λ high. found (span_of def table column low high) >>= λ read. Ok (ask read (For slot))
 
   -- the point read of the new row's key, and then the row is put
   abbrev pub plan_insert : ℕ → List Term → Environment → Result Plan Stop
   plan_insert table values environment =
-      found (slice_get declared table) >>= λ def. worths_of columns values environment >>= λ row. found (key_for def row) >>= λ key. Ok (Ask (Point table key) (Insert row))
+      found (slice_get declared table) >>= λ def. worths_of columns values environment >>= λ row. found (key_for def row) >>= λ key. Ok (ask (Point table key) (Insert row))
 
   -- the point read of a key, and then its row is changed
   abbrev pub plan_update : ℕ → List Term → List Setting → Environment → Result Plan Stop
   plan_update table key settings environment =
-      found (slice_get declared table) >>= λ def. worths_of columns key environment >>= λ key. sets_worth columns settings environment >>= λ changes. found (point_of def table key) >>= λ read. Ok (Ask read (Update changes))
+      found (slice_get declared table) >>= λ def. worths_of columns key environment >>= λ key. sets_worth columns settings environment >>= λ changes. found (point_of def table key) >>= λ read. Ok (ask read (Update changes))
 
   abbrev pub plan_step : Action-F (Environment → Result Plan Stop) → Environment → Result Plan Stop
   plan_step (action.Set slot e) environment = plan_set columns slot e environment
@@ -67,4 +72,4 @@ module _ (declared : List TableDef) (columns : List (List (Option ℕ))) where
 abbrev pub PlanFits : List TableDef → Plan → Type 0
 PlanFits declared (Set slot v) = Unit {0}
 PlanFits declared (Enter first) = Unit {0}
-PlanFits declared (Ask read pending) = ReadFitsIn declared read
+PlanFits declared (Ask asked) = ReadFitsIn declared asked.made.read

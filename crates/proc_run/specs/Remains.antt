@@ -67,7 +67,7 @@ module _ (declared : List TableDef) (columns : List (List (Option ℕ))) (tables
   abbrev pub do_plan : List Action → List Action → Plan → State → Progress
   do_plan first second (plan.Set slot v) state = Going (put slot (Plain v) state)
   do_plan first second (plan.Enter holds) state = cond holds (do_all declared columns tables first state) (do_all declared columns tables second state)
-  do_plan first second (plan.Ask read pending) state = answered first second read pending (rows_in declared read tables) state
+  do_plan first second (plan.Ask asked) state = answered first second asked.made.read asked.pending (rows_in declared asked.made.read tables) state
 
   abbrev pub run_frame : Frame → State → Progress
   run_frame (Rest actions) state = do_all declared columns tables actions state
@@ -87,10 +87,10 @@ module _ (declared : List TableDef) (columns : List (List (Option ℕ))) (tables
   -- what remains of a run
   abbrev pub remains : List Action → Phase → List Spot → State → Progress
   remains root phase.Running spots state = run_frames (frames_of root spots) state
-  remains root (phase.Ask at read pending) spots state =
-      then_do (answered (part_of (block_of root spots) at First) (part_of (block_of root spots) at Second) read pending (rows_in declared read tables) state) (run_frames (frames_of root spots))
-  remains root (phase.Answered at made pending) spots state =
-      then_do (answered (part_of (block_of root spots) at First) (part_of (block_of root spots) at Second) made.read pending made.rows state) (run_frames (frames_of root spots))
+  remains root (phase.Ask at asked) spots state =
+      then_do (answered (part_of (block_of root spots) at First) (part_of (block_of root spots) at Second) asked.made.read asked.pending (rows_in declared asked.made.read tables) state) (run_frames (frames_of root spots))
+  remains root (phase.Answered at asked) spots state =
+      then_do (answered (part_of (block_of root spots) at First) (part_of (block_of root spots) at Second) asked.made.read asked.pending asked.made.rows state) (run_frames (frames_of root spots))
   remains root phase.Good spots state = Going state
   remains root (phase.Stopped why) spots state = Stopped state why
 
@@ -113,24 +113,24 @@ IsAssigned columns slot e from to = set_to (worth_of columns e from.environment)
 -- the read that is asked fits its table
 abbrev pub PhaseFits : List TableDef → Phase → Type 0
 PhaseFits declared phase.Running = Unit {0}
-PhaseFits declared (phase.Ask at read pending) = ReadFitsIn declared read
-PhaseFits declared (phase.Answered at made pending) = Unit {0}
+PhaseFits declared (phase.Ask at asked) = ReadFitsIn declared asked.made.read
+PhaseFits declared (phase.Answered at asked) = Unit {0}
 PhaseFits declared phase.Good = Unit {0}
 PhaseFits declared (phase.Stopped why) = Unit {0}
 
 -- whether it is at a read or at its end
 abbrev pub waits : Phase → Bool
 waits phase.Running = false
-waits (phase.Ask at read pending) = true
-waits (phase.Answered at made pending) = false
+waits (phase.Ask at asked) = true
+waits (phase.Answered at asked) = false
 waits phase.Good = true
 waits (phase.Stopped why) = true
 
 -- whether it has the rows of its read
 abbrev pub has_rows : Phase → Bool
 has_rows phase.Running = false
-has_rows (phase.Ask at read pending) = false
-has_rows (phase.Answered at made pending) = true
+has_rows (phase.Ask at asked) = false
+has_rows (phase.Answered at asked) = true
 has_rows phase.Good = false
 has_rows (phase.Stopped why) = false
 

@@ -2,6 +2,7 @@
 
 ghost use Rattle.std.specs.Prelude.{◌≡◌, ◌+◌, ◌≤◌, ◌<◌, true, false, drop, length};
 ghost use Rattle.proc_run.specs.Remains.{state, IsSameRest, IsAssigned};
+ghost use Rattle.proc_syntax.specs.Limits.{most_steps};
 
 use crate::state::{MOST_RUN_STEPS, Run};
 use crate::turn::put;
@@ -19,7 +20,7 @@ fn assign(
     value: &Term,
     run: &mut Run,
 ) -> bool
-    requires { run.old.steps < 100000 }
+    requires { run.old.steps < most_steps }
     ensures slots { result ≡ true → IsAssigned columns.now slot value.now (state run.old) (state run.new) }
     ensures steps { result ≡ true → run.new.steps ≡ run.old.steps + 1 }
     ensures own { run.new.own ≡ run.old.own }
@@ -44,11 +45,11 @@ fn assign_next(
     next: usize,
     run: &mut Run,
 ) -> bool
-    requires { run.old.steps ≤ 100000 }
+    requires { run.old.steps ≤ most_steps }
     ensures same { result ≡ true → IsSameRest columns.now (drop next block.now) (state run.old) (drop (next + 1) block.now) (state run.new) }
     ensures within { result ≡ true → next < length block.now }
     ensures steps { result ≡ true → run.new.steps ≡ run.old.steps + 1 }
-    ensures few { run.new.steps ≤ 100000 }
+    ensures few { run.new.steps ≤ most_steps }
     ensures own { run.new.own ≡ run.old.own }
     ensures made { run.new.made ≡ run.old.made }
     ensures none { result ≡ false → run.new ≡ run.old }
@@ -71,10 +72,10 @@ pub fn assign_all(
     next: usize,
     run: &mut Run,
 ) -> usize
-    requires { run.old.steps ≤ 100000 }
+    requires { run.old.steps ≤ most_steps }
     ensures same { IsSameRest columns.now (drop next block.now) (state run.old) (drop result block.now) (state run.new) }
     ensures more { run.old.steps ≤ run.new.steps }
-    ensures few { run.new.steps ≤ 100000 }
+    ensures few { run.new.steps ≤ most_steps }
     ensures own { run.new.own ≡ run.old.own }
     ensures made { run.new.made ≡ run.old.made }
 {

@@ -5,6 +5,7 @@ ghost use Rattle.rel_base.specs.Among.{ReadFitsIn, TablesFit, rows_in};
 ghost use Rattle.proc_syntax.specs.Declaring.{tables_of};
 ghost use Rattle.proc_syntax.specs.Run.{run};
 ghost use Rattle.proc_run.specs.MachineView.{Agrees};
+ghost use Rattle.proc_syntax.specs.Limits.{most_steps};
 
 use crate::machine::Machine;
 use crate::snapshot::Snapshot;
@@ -33,7 +34,7 @@ fn serve<S: Snapshot>(alloc: Global, machine: &mut Machine, source: &S) -> Resul
     ensures agrees { OnOk result (Agrees (tables_of machine.old.app) (S.tables source.now) machine.new.fed) }
     ensures asks { IfOk result (λ more. more ≡ true → machine.new.asks ≡ None) }
     ensures one { IfOk result (λ more. more ≡ true → length machine.new.fed ≡ length machine.old.fed + 1) }
-    ensures few { IfOk result (λ more. more ≡ true → length machine.old.fed < 100000) }
+    ensures few { IfOk result (λ more. more ≡ true → length machine.old.fed < most_steps) }
     ensures ended { IfOk result (λ more. more ≡ false → machine.new.ended ≡ true) }
 {
     let want = machine.next()?;

@@ -12,6 +12,7 @@ ghost use Rattle.proc_code.specs.declared.tree.Action.{Action as Act};
 ghost use Rattle.proc_run.specs.declared.path.Spot.{Spot as PathStep};
 ghost use Rattle.proc_run.specs.Remains.{state, remains, waits, has_rows, PhaseFits};
 ghost use Rattle.proc_run.specs.MachineView.{Agrees, GivenInOrder, IsResumed, IsSound, given_of, held_of, read_of, want_of};
+ghost use Rattle.proc_syntax.specs.Limits.{most_steps};
 
 use crate::path::{Program, Spot, body_at};
 use crate::resume::{AnsweredRead, resume};
@@ -32,7 +33,7 @@ pub fn keep(made: &mut Vec<Made>, phase: Phase)
     ensures capacity { vec_capacity made.old ≤ vec_capacity made.new }
 {
     match phase {
-        Phase::Answered { made: one, .. } => match made.push(one) {
+        Phase::Answered { asked, .. } => match made.push(asked.into_made()) {
             Ok(()) => (),
             Err(_) => unreachable!(),
         },
@@ -57,13 +58,14 @@ fn resumed(
     ensures steps { run.new.steps ≡ run.old.steps }
     ensures err { OnErr result ((spots.new.items ≡ spots.old.items) × (run.new ≡ run.old)) }
 {
-    let Phase::Answered { at, made, pending } = phase else {
+    let Phase::Answered { at, asked } = phase else {
         return Ok(None);
     };
+    let asked = asked.get();
     let answer = AnsweredRead {
         at: *at,
-        made,
-        pending,
+        made: &asked.made,
+        pending: &asked.pending,
     };
     match resume(alloc, tables, spots, run, &answer) {
         Ok(()) => Ok(Some(Phase::Running)),
@@ -118,13 +120,13 @@ pub fn go_on(
     phase: &mut Phase,
 ) -> Result<(), NoMemory>
     requires settled { has_rows phase.old ≡ false }
-    requires steps { run.old.steps ≤ 100000 }
+    requires steps { run.old.steps ≤ most_steps }
     requires list { vec_len run.old.made + 1 ≤ vec_capacity run.old.made }
     requires fits { PhaseFits program.now.tables.now phase.old }
     ensures remains { (S : Tables) → remains program.now.tables.now program.now.columns.now S program.now.root.now phase.new spots.new.items (state run.new) ≡ remains program.now.tables.now program.now.columns.now S program.now.root.now phase.old spots.old.items (state run.old) }
     ensures own { run.new.own ≡ run.old.own }
     ensures made { run.new.made ≡ run.old.made }
-    ensures steps { run.new.steps ≤ 100000 }
+    ensures steps { run.new.steps ≤ most_steps }
     ensures fits { PhaseFits program.now.tables.now phase.new }
     ensures waits { OnOk result (waits phase.new ≡ true) }
     ensures settled { has_rows phase.new ≡ false }
@@ -150,7 +152,7 @@ pub fn go_to_read(
     run: &mut Run,
     phase: &mut Phase,
 ) -> Result<(), NoMemory>
-    requires steps { run.old.steps ≤ 100000 }
+    requires steps { run.old.steps ≤ most_steps }
     requires fits { PhaseFits (tables_of app.now.app) phase.old }
     requires order { GivenInOrder (tables_of app.now.app) phase.old }
     ensures sound { (tx : Call) (time : ℤ) → IsSound app.now.app tx time number phase.old spots.old.items run.old false → IsSound app.now.app tx time number phase.new spots.new.items run.new false }
@@ -175,7 +177,7 @@ pub fn wanted(alloc: Global, phase: &Phase) -> Result<Want, NoMemory>
     ensures { IfOk result (λ want. want ≡ want_of phase.now) }
 {
     match phase {
-        Phase::Ask { read, .. } => Ok(Want::Rows(read.copy(alloc)?)),
+        Phase::Ask { asked, .. } => Ok(Want::Rows(asked.get().made.read.copy(alloc)?)),
         _ => Ok(Want::Ended),
     }
 }

@@ -2,6 +2,7 @@
 //! of tables as they are at some moment, on which it runs.
 #![tactic(auto)]
 
+pub mod asked;
 pub mod assigning;
 pub mod drive;
 pub mod going;

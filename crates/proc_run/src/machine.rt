@@ -142,9 +142,9 @@ impl Machine {
         ensures { IfSome self.old.asks (λ read. self.new ≡ record self.old { fed = self.old.fed ++ record { read = read; rows = rows } ∷ []; asks = None }) }
     {
         match std::mem::replace(&mut self.phase, Phase::Running) {
-            Phase::Ask { at, read, pending } => {
-                let made = Made { read, rows };
-                stand(&mut self.phase, Phase::Answered { at, made, pending });
+            Phase::Ask { at, asked } => {
+                let asked = asked.with_rows(rows);
+                stand(&mut self.phase, Phase::Answered { at, asked });
                 self.told = false;
             }
             _ => unreachable!(),

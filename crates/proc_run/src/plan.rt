@@ -1,13 +1,14 @@
 //! What a statement comes to before anything is changed: its expressions have their values, and its read is made up.
 
-ghost use Rattle.std.specs.Prelude.{◌≡◌, IfOk, IfErr, Some, None, slice_get};
+ghost use Rattle.std.specs.Prelude.{◌≡◌, Ok, IfOk, IfErr, Some, None, slice_get};
 ghost use Rattle.proc_syntax.specs.declared.run.Stop.TheVariants as stop;
 ghost use Rattle.proc_syntax.specs.Steps.{point_of, span_of, key_for};
 ghost use Rattle.proc_syntax.specs.Values.{found};
 ghost use Rattle.proc_eval.specs.Gives.{Gives};
 ghost use Rattle.proc_eval.specs.declared.halt.Halt.TheVariants as halt;
-ghost use Rattle.proc_run.specs.Planned.{plan_of, plan_set, plan_if, plan_key, plan_for, plan_insert, plan_update};
+ghost use Rattle.proc_run.specs.Planned.{ask, plan_of, plan_set, plan_if, plan_key, plan_for, plan_insert, plan_update};
 
+use crate::asked::HeldAsked;
 use proc_code::slots::Environment;
 use proc_code::values::{eval, eval_end, eval_key, eval_row, eval_settings};
 use proc_code::{Action, Setting, Term};
@@ -41,7 +42,7 @@ pub enum Plan {
     /// The first block of the statement is next, or the second.
     Enter { first: bool },
     /// A read is next.
-    Ask { read: Read, pending: Pending },
+    Ask { asked: HeldAsked },
 }
 
 /// The declaration of a table, by the table's number.
@@ -95,6 +96,14 @@ fn key_of_fit(alloc: Global, def: &TableDef, row: &Row) -> Result<Key, Halt>
     }
 }
 
+/// A read is next.
+fn ask(alloc: Global, read: Read, pending: Pending) -> Result<Plan, Halt>
+    ensures { Gives result (Ok (ask read pending)) }
+{
+    let asked = HeldAsked::new(alloc, read, pending)?;
+    Ok(Plan::Ask { asked })
+}
+
 /// What the expressions of a statement stand on: the declared tables, the columns that the application names, and what they are
 /// evaluated in.
 #[derive(Clone, Copy)]
@@ -130,7 +139,7 @@ impl Scene<'_> {
         let def = find_table(self.tables, table)?;
         let key = eval_key(self.alloc, self.columns, self.environment, key)?;
         let read = point_read(def, table, key)?;
-        Ok(Plan::Ask { read, pending })
+        ask(self.alloc, read, pending)
     }
 
     /// The span read on a column, whose rows each go into a variable.
@@ -148,10 +157,7 @@ impl Scene<'_> {
         let low = eval_end(self.alloc, self.columns, self.environment, low)?;
         let high = eval_end(self.alloc, self.columns, self.environment, high)?;
         let read = span_read(def, table, column, low, high)?;
-        Ok(Plan::Ask {
-            read,
-            pending: Pending::For { slot },
-        })
+        ask(self.alloc, read, Pending::For { slot })
     }
 
     /// The point read of a new row's key.
@@ -161,10 +167,11 @@ impl Scene<'_> {
         let def = find_table(self.tables, table)?;
         let row = eval_row(self.alloc, self.columns, self.environment, values)?;
         let key = key_of_fit(self.alloc, def, &row)?;
-        Ok(Plan::Ask {
-            read: Read::Point { table, key },
-            pending: Pending::Insert { row },
-        })
+        ask(
+            self.alloc,
+            Read::Point { table, key },
+            Pending::Insert { row },
+        )
     }
 
     /// The point read of a key whose row gets values in columns.
@@ -175,10 +182,7 @@ impl Scene<'_> {
         let key = eval_key(self.alloc, self.columns, self.environment, key)?;
         let changes = eval_settings(self.alloc, self.columns, self.environment, settings)?;
         let read = point_read(def, table, key)?;
-        Ok(Plan::Ask {
-            read,
-            pending: Pending::Update { changes },
-        })
+        ask(self.alloc, read, Pending::Update { changes })
     }
     /// What a statement comes to, or why the run stops there.
     fn plan(&self, action: &Action) -> Result<Plan, Halt>

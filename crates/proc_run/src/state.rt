@@ -1,6 +1,6 @@
 //! What a run has on its way.
 
-use crate::plan::Pending;
+use crate::asked::HeldAsked;
 use proc_code::slots::Environment;
 use proc_syntax::Stop;
 use rel_base::{List, Made, Read};
@@ -24,17 +24,9 @@ pub enum Phase {
     /// It goes on with its spots.
     Running,
     /// It waits for the rows of a read of the statement of a number, in the block to which its spots lead.
-    Ask {
-        at: usize,
-        read: Read,
-        pending: Pending,
-    },
+    Ask { at: usize, asked: HeldAsked },
     /// It has the rows of its read.
-    Answered {
-        at: usize,
-        made: Made,
-        pending: Pending,
-    },
+    Answered { at: usize, asked: HeldAsked },
     /// It ended with its writes.
     Good,
     /// It stopped before its end.

@@ -10,6 +10,7 @@ ghost use Rattle.proc_run.specs.declared.state.Phase.TheVariants as phase;
 ghost use Rattle.proc_run.specs.Path.{block_of, frames_of, part_of};
 ghost use Rattle.proc_run.specs.Planned.{PlanFits};
 ghost use Rattle.proc_run.specs.Remains.{state, goes_past, run_frames, remains, has_rows, PhaseFits};
+ghost use Rattle.proc_syntax.specs.Limits.{most_steps};
 
 use crate::path::{Branch, Cursor, Holder, Program, Spot};
 use crate::plan::{Plan, plan_action};
@@ -32,7 +33,7 @@ fn branch_of(first: bool) -> Branch
 /// room for two spots.
 fn perform(spots: &mut Vec<Spot>, run: &mut Run, cursor: Cursor, plan: Plan) -> Phase
     requires room { vec_len spots.old + 2 ≤ vec_capacity spots.old }
-    requires steps { run.old.steps < 100000 }
+    requires steps { run.old.steps < most_steps }
     requires next { cursor.next + 1 < 2 ^ 64 }
     ensures remains { (tables : List Def) (columns : List (List (Option ℕ))) (S : Tables) (root : List Act) → remains tables columns S root result spots.new.items (state run.new)
         ≡ goes_past tables columns S root spots.old.items cursor.at cursor.branch cursor.next plan (state run.old) }
@@ -55,11 +56,7 @@ fn perform(spots: &mut Vec<Spot>, run: &mut Run, cursor: Cursor, plan: Plan) -> 
             push_block(spots, next, branch_of(first), 0);
             Phase::Running
         }
-        Plan::Ask { read, pending } => Phase::Ask {
-            at: next,
-            read,
-            pending,
-        },
+        Plan::Ask { asked } => Phase::Ask { at: next, asked },
     }
 }
 
@@ -75,14 +72,14 @@ pub fn step_block(
 ) -> Result<Phase, NoMemory>
     requires here { block.now ≡ part_of (block_of program.now.root.now spots.old.items) cursor.at cursor.branch }
     requires room { vec_len spots.old + 2 ≤ vec_capacity spots.old }
-    requires steps { run.old.steps ≤ 100000 }
+    requires steps { run.old.steps ≤ most_steps }
     ensures remains { IfOk result (λ phase. (S : Tables) → remains program.now.tables.now program.now.columns.now S program.now.root.now phase spots.new.items (state run.new)
         ≡ run_frames program.now.tables.now program.now.columns.now S (frames_of program.now.root.now (spots.old.items ++ spot.Block cursor.at cursor.branch cursor.next ∷ [])) (state run.old)) }
     ensures fits { IfOk result (λ phase. PhaseFits program.now.tables.now phase) }
     ensures fresh { IfOk result (λ phase. has_rows phase ≡ false) }
     ensures own { run.new.own ≡ run.old.own }
     ensures made { run.new.made ≡ run.old.made }
-    ensures steps { run.new.steps ≤ 100000 }
+    ensures steps { run.new.steps ≤ most_steps }
     ensures smaller { result ≡ Ok phase.Running → vec_len spots.new + 2 * run.old.steps < vec_len spots.old + 1 + 2 * run.new.steps }
     ensures err { OnErr result ((spots.new.items ≡ spots.old.items ++ spot.Block cursor.at cursor.branch cursor.next ∷ []) × (run.new ≡ run.old)) }
 {
@@ -132,14 +129,14 @@ pub fn step_rows(
     next: usize,
 ) -> Result<Phase, NoMemory>
     requires room { vec_len spots.old + 2 ≤ vec_capacity spots.old }
-    requires steps { run.old.steps ≤ 100000 }
+    requires steps { run.old.steps ≤ most_steps }
     ensures remains { IfOk result (λ phase. (tables : List Def) (columns : List (List (Option ℕ))) (S : Tables) (root : List Act) → remains tables columns S root phase spots.new.items (state run.new)
         ≡ run_frames tables columns S (frames_of root (spots.old.items ++ spot.Loop holder.at holder.slot holder.table rows next ∷ [])) (state run.old)) }
     ensures fits { IfOk result (λ phase. (tables : List Def) → PhaseFits tables phase) }
     ensures fresh { IfOk result (λ phase. has_rows phase ≡ false) }
     ensures own { run.new.own ≡ run.old.own }
     ensures made { run.new.made ≡ run.old.made }
-    ensures steps { run.new.steps ≤ 100000 }
+    ensures steps { run.new.steps ≤ most_steps }
     ensures smaller { result ≡ Ok phase.Running → vec_len spots.new + 2 * run.old.steps < vec_len spots.old + 1 + 2 * run.new.steps }
     ensures err { OnErr result ((spots.new.items ≡ spots.old.items ++ spot.Loop holder.at holder.slot holder.table rows next ∷ []) × (run.new ≡ run.old)) }
 {

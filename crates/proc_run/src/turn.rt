@@ -11,6 +11,7 @@ ghost use Rattle.proc_run.specs.declared.state.Phase.TheVariants as phase;
 ghost use Rattle.proc_run.specs.Path.{frames_of};
 ghost use Rattle.proc_run.specs.Planned.{PlanFits};
 ghost use Rattle.proc_run.specs.Remains.{state, goes_past, run_frames, remains, waits, has_rows, PhaseFits};
+ghost use Rattle.proc_syntax.specs.Limits.{most_steps};
 
 use crate::assigning::assign_all;
 use crate::path::{Branch, Cursor, Holder, Program, RowsLeft, Spot, block_at, part};
@@ -92,14 +93,14 @@ fn turn_block(
     cursor: Cursor,
 ) -> Result<Phase, NoMemory>
     requires room { vec_len spots.old + 2 ≤ vec_capacity spots.old }
-    requires steps { run.old.steps ≤ 100000 }
+    requires steps { run.old.steps ≤ most_steps }
     ensures remains { IfOk result (λ phase. (S : Tables) → remains program.now.tables.now program.now.columns.now S program.now.root.now phase spots.new.items (state run.new)
         ≡ run_frames program.now.tables.now program.now.columns.now S (frames_of program.now.root.now (spots.old.items ++ spot.Block cursor.at cursor.branch cursor.next ∷ [])) (state run.old)) }
     ensures fits { IfOk result (λ phase. PhaseFits program.now.tables.now phase) }
     ensures fresh { IfOk result (λ phase. has_rows phase ≡ false) }
     ensures own { run.new.own ≡ run.old.own }
     ensures made { run.new.made ≡ run.old.made }
-    ensures steps { run.new.steps ≤ 100000 }
+    ensures steps { run.new.steps ≤ most_steps }
     ensures smaller { result ≡ Ok phase.Running → vec_len spots.new + 2 * run.old.steps < vec_len spots.old + 1 + 2 * run.new.steps }
     ensures err { OnErr result ((S : Tables) → run_frames program.now.tables.now program.now.columns.now S (frames_of program.now.root.now spots.new.items) (state run.new)
         ≡ run_frames program.now.tables.now program.now.columns.now S (frames_of program.now.root.now (spots.old.items ++ spot.Block cursor.at cursor.branch cursor.next ∷ [])) (state run.old)) }
@@ -122,14 +123,14 @@ fn turn_loop(
     left: RowsLeft,
 ) -> Result<Phase, NoMemory>
     requires room { vec_len spots.old + 2 ≤ vec_capacity spots.old }
-    requires steps { run.old.steps ≤ 100000 }
+    requires steps { run.old.steps ≤ most_steps }
     ensures remains { IfOk result (λ phase. (S : Tables) → remains program.now.tables.now program.now.columns.now S program.now.root.now phase spots.new.items (state run.new)
         ≡ run_frames program.now.tables.now program.now.columns.now S (frames_of program.now.root.now (spots.old.items ++ spot.Loop holder.at holder.slot holder.table left.rows left.next ∷ [])) (state run.old)) }
     ensures fits { IfOk result (λ phase. PhaseFits program.now.tables.now phase) }
     ensures fresh { IfOk result (λ phase. has_rows phase ≡ false) }
     ensures own { run.new.own ≡ run.old.own }
     ensures made { run.new.made ≡ run.old.made }
-    ensures steps { run.new.steps ≤ 100000 }
+    ensures steps { run.new.steps ≤ most_steps }
     ensures smaller { result ≡ Ok phase.Running → vec_len spots.new + 2 * run.old.steps < vec_len spots.old + 1 + 2 * run.new.steps }
     ensures err { OnErr result ((S : Tables) → run_frames program.now.tables.now program.now.columns.now S (frames_of program.now.root.now spots.new.items) (state run.new)
         ≡ run_frames program.now.tables.now program.now.columns.now S (frames_of program.now.root.now (spots.old.items ++ spot.Loop holder.at holder.slot holder.table left.rows left.next ∷ [])) (state run.old)) }
@@ -160,14 +161,14 @@ fn turn(
     run: &mut Run,
 ) -> Result<Phase, NoMemory>
     requires room { vec_len spots.old + 2 ≤ vec_capacity spots.old }
-    requires steps { run.old.steps ≤ 100000 }
+    requires steps { run.old.steps ≤ most_steps }
     ensures remains { IfOk result (λ phase. (S : Tables) → remains program.now.tables.now program.now.columns.now S program.now.root.now phase spots.new.items (state run.new)
         ≡ run_frames program.now.tables.now program.now.columns.now S (frames_of program.now.root.now spots.old.items) (state run.old)) }
     ensures fits { IfOk result (λ phase. PhaseFits program.now.tables.now phase) }
     ensures fresh { IfOk result (λ phase. has_rows phase ≡ false) }
     ensures own { run.new.own ≡ run.old.own }
     ensures made { run.new.made ≡ run.old.made }
-    ensures steps { run.new.steps ≤ 100000 }
+    ensures steps { run.new.steps ≤ most_steps }
     ensures smaller { result ≡ Ok phase.Running → vec_len spots.new + 2 * run.old.steps < vec_len spots.old + 2 * run.new.steps }
     ensures err { OnErr result ((S : Tables) → run_frames program.now.tables.now program.now.columns.now S (frames_of program.now.root.now spots.new.items) (state run.new)
         ≡ run_frames program.now.tables.now program.now.columns.now S (frames_of program.now.root.now spots.old.items) (state run.old)) }
@@ -200,14 +201,14 @@ pub fn advance(
     spots: &mut Vec<Spot>,
     run: &mut Run,
 ) -> Result<Phase, NoMemory>
-    requires { run.old.steps ≤ 100000 }
+    requires { run.old.steps ≤ most_steps }
     ensures remains { IfOk result (λ phase. (S : Tables) → remains program.now.tables.now program.now.columns.now S program.now.root.now phase spots.new.items (state run.new)
         ≡ run_frames program.now.tables.now program.now.columns.now S (frames_of program.now.root.now spots.old.items) (state run.old)) }
     ensures fits { IfOk result (λ phase. PhaseFits program.now.tables.now phase) }
     ensures waits { IfOk result (λ phase. waits phase ≡ true) }
     ensures own { run.new.own ≡ run.old.own }
     ensures made { run.new.made ≡ run.old.made }
-    ensures steps { run.new.steps ≤ 100000 }
+    ensures steps { run.new.steps ≤ most_steps }
     ensures err { OnErr result ((S : Tables) → run_frames program.now.tables.now program.now.columns.now S (frames_of program.now.root.now spots.new.items) (state run.new)
         ≡ run_frames program.now.tables.now program.now.columns.now S (frames_of program.now.root.now spots.old.items) (state run.old)) }
 {

@@ -3,6 +3,7 @@
 ghost use Rattle.std.specs.Prelude.{◌≡◌, ◌+◌, ◌≤◌, ◌<◌, [], IfSome, IfNone, drop, length};
 ghost use Rattle.proc_code.specs.Coded.{hold};
 ghost use Rattle.proc_run.specs.Remains.{state, IsSameRest, IsSameVisit};
+ghost use Rattle.proc_syntax.specs.Limits.{most_steps};
 
 use crate::assigning::assign_all;
 use crate::path::Holder;
@@ -32,10 +33,10 @@ pub struct Reached {
 /// Counts a step for a row, which goes into its variable, and does the assignments with which the block begins. Answers the number of
 /// the statement that is next.
 fn visit_row(alloc: Global, visit: &Visit<'_>, row: Row, run: &mut Run) -> usize
-    requires { run.old.steps < 100000 }
+    requires { run.old.steps < most_steps }
     ensures same { IsSameRest visit.now.columns.now visit.now.body.now (hold visit.now.holder.slot visit.now.holder.table row (record (state run.old) { steps = run.old.steps + 1 })) (drop result visit.now.body.now) (state run.new) }
     ensures more { run.old.steps < run.new.steps }
-    ensures few { run.new.steps ≤ 100000 }
+    ensures few { run.new.steps ≤ most_steps }
     ensures own { run.new.own ≡ run.old.own }
     ensures made { run.new.made ≡ run.old.made }
 {
@@ -46,11 +47,11 @@ fn visit_row(alloc: Global, visit: &Visit<'_>, row: Row, run: &mut Run) -> usize
 
 /// Visits the row of a number, where there is one and a step is left. Answers the number of the block's statement that is next.
 fn visit_next(alloc: Global, visit: &Visit<'_>, next: usize, run: &mut Run) -> Option<usize>
-    requires { run.old.steps ≤ 100000 }
+    requires { run.old.steps ≤ most_steps }
     ensures same { IfSome result (λ at. IsSameVisit visit.now.columns.now visit.now.holder.slot visit.now.holder.table visit.now.body.now [] (drop next visit.now.rows.now) (state run.old) (drop at visit.now.body.now) (drop (next + 1) visit.now.rows.now) (state run.new)) }
     ensures within { IfSome result (λ at. next < length visit.now.rows.now) }
     ensures more { IfSome result (λ at. run.old.steps < run.new.steps) }
-    ensures few { run.new.steps ≤ 100000 }
+    ensures few { run.new.steps ≤ most_steps }
     ensures own { run.new.own ≡ run.old.own }
     ensures made { run.new.made ≡ run.old.made }
     ensures none { IfNone result (run.new ≡ run.old) }
@@ -69,11 +70,11 @@ fn visit_next(alloc: Global, visit: &Visit<'_>, next: usize, run: &mut Run) -> O
 
 /// Goes over the rows of a visit from a number on, up to one for which more than assignments are to be done.
 pub fn visit_rows(alloc: Global, visit: &Visit<'_>, next: usize, run: &mut Run) -> Reached
-    requires { run.old.steps ≤ 100000 }
+    requires { run.old.steps ≤ most_steps }
     ensures same { IsSameVisit visit.now.columns.now visit.now.holder.slot visit.now.holder.table visit.now.body.now [] (drop next visit.now.rows.now) (state run.old) (drop result.statement visit.now.body.now) (drop result.row visit.now.rows.now) (state run.new) }
     ensures more { run.old.steps ≤ run.new.steps }
     ensures inside { result.statement < length visit.now.body.now → run.old.steps < run.new.steps }
-    ensures few { run.new.steps ≤ 100000 }
+    ensures few { run.new.steps ≤ most_steps }
     ensures own { run.new.own ≡ run.old.own }
     ensures made { run.new.made ≡ run.old.made }
 {

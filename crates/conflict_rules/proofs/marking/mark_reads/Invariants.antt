@@ -8,5 +8,5 @@ use Rattle.conflict_rules.specs.Marking.{read_place}
 abbrev pub invariant-loop-made : goal.invariant-loop-made
 invariant-loop-made l =
     KeepsMarks l.fn.words l.words
-    × MarkedSoFar (λ m place. nat_eq place (read_place m.read)) l.reads l.number l.words (drop l.made-index l.reads)
+    × MarkedSoFar (λ m place. nat_eq place (read_place l.marked m.read)) l.reads l.number l.words (drop l.made-index l.reads)
     × (length l.words ≡ length l.fn.words)

@@ -1,0 +1,144 @@
+//! Numbers and comparisons of numbers that are found with no value on the way.
+
+ghost use Rattle.std.specs.Prelude.{◌≡◌, IfSome, Some, Ok};
+ghost use Rattle.std.specs.Option.{option_copied};
+ghost use Rattle.rel_base.specs.declared.value.Value.TheVariants.{Int, Bool};
+ghost use Rattle.proc_syntax.specs.Values.{apply};
+ghost use Rattle.proc_code.specs.Coded.{worth_of};
+ghost use Rattle.proc_code.specs.Weighed.{applied};
+
+use crate::slots::{Environment, field_in, plain_in};
+use crate::tree::Term;
+use proc_syntax::Op;
+use rel_base::{List, Value};
+
+/// The number that a value is.
+fn number_in(value: Option<&Value>) -> Option<i64>
+    ensures { IfSome result (λ n. option_copied value.entry ≡ Some (Int n)) }
+{
+    match value {
+        Some(Value::Int(number)) => Some(*number),
+        _ => None,
+    }
+}
+
+/// Whether an operator may give a number of two numbers, so that it is worth looking for them.
+fn is_counting(op: Op) -> bool {
+    match op {
+        Op::Add | Op::Sub | Op::Mul => true,
+        _ => false,
+    }
+}
+
+/// The number that an operator gives of two numbers, where it gives one.
+fn number_by(op: Op, left: i64, right: i64) -> Option<i64>
+    ensures { IfSome result (λ n. apply op (Int left) (Ok (Int right)) ≡ Ok (Int n)) }
+{
+    match op {
+        Op::Add => left.checked_add(right),
+        Op::Sub => left.checked_sub(right),
+        Op::Mul => left.checked_mul(right),
+        _ => None,
+    }
+}
+
+/// The number that an operator gives of a number and of that of an expression, where it gives one.
+#[cycle(quick_number)]
+fn quick_right(
+    columns: &List<List<Option<usize>>>,
+    environment: &Environment,
+    op: Op,
+    left: i64,
+    right: &Term,
+) -> Option<i64>
+    ensures { IfSome result (λ n. apply op (Int left) (worth_of columns.now right.now environment.now) ≡ Ok (Int n)) }
+{
+    let right = quick_number(columns, environment, right)?;
+    number_by(op, left, right)
+}
+
+/// The number that an expression is, where it is one that is found with no value on the way.
+#[cycle(quick_number)]
+pub fn quick_number(
+    columns: &List<List<Option<usize>>>,
+    environment: &Environment,
+    term: &Term,
+) -> Option<i64>
+    ensures { IfSome result (λ n. worth_of columns.now term.now environment.now ≡ Ok (Int n)) }
+{
+    match term {
+        Term::Value(value) => number_in(Some(value)),
+        Term::Var(slot) => number_in(plain_in(environment.slots.as_slice(), *slot)),
+        Term::Field { slot, column } => {
+            let slots = environment.slots.as_slice();
+            number_in(field_in(columns, slots, *slot, *column))
+        }
+        Term::Now => Some(environment.time),
+        Term::Two { op, left, right } => {
+            if !is_counting(*op) {
+                return None;
+            }
+            let left = quick_number(columns, environment, left.get())?;
+            quick_right(columns, environment, *op, left, right.get())
+        }
+        _ => None,
+    }
+}
+
+/// Whether an operator compares, so that it is worth looking for two numbers.
+fn is_comparison(op: Op) -> bool {
+    match op {
+        Op::Eq | Op::Ne | Op::Lt | Op::Le | Op::Gt | Op::Ge => true,
+        _ => false,
+    }
+}
+
+/// What a comparison of two numbers gives.
+fn test_by(op: Op, left: i64, right: i64) -> Option<bool>
+    ensures { IfSome result (λ b. apply op (Int left) (Ok (Int right)) ≡ Ok (Bool b)) }
+{
+    let order = left.cmp(&right);
+    match op {
+        Op::Eq => Some(order.is_eq()),
+        Op::Ne => Some(order.is_ne()),
+        Op::Lt => Some(order.is_lt()),
+        Op::Le => Some(order.is_le()),
+        Op::Gt => Some(order.is_gt()),
+        Op::Ge => Some(order.is_ge()),
+        _ => None,
+    }
+}
+
+/// What a comparison of the numbers of two expressions gives.
+fn test_two(
+    columns: &List<List<Option<usize>>>,
+    environment: &Environment,
+    op: Op,
+    left: &Term,
+    right: &Term,
+) -> Option<bool>
+    ensures { IfSome result (λ b. applied op (worth_of columns.now left.now environment.now) (worth_of columns.now right.now environment.now) ≡ Ok (Bool b)) }
+{
+    if !is_comparison(op) {
+        return None;
+    }
+    let left = quick_number(columns, environment, left)?;
+    let right = quick_number(columns, environment, right)?;
+    test_by(op, left, right)
+}
+
+/// The truth value that an expression is, where it compares two numbers.
+pub fn quick_test(
+    columns: &List<List<Option<usize>>>,
+    environment: &Environment,
+    term: &Term,
+) -> Option<bool>
+    ensures { IfSome result (λ b. worth_of columns.now term.now environment.now ≡ Ok (Bool b)) }
+{
+    match term {
+        Term::Two { op, left, right } => {
+            test_two(columns, environment, *op, left.get(), right.get())
+        }
+        _ => None,
+    }
+}
