@@ -5,7 +5,8 @@ A library that is loaded before the C library refuses the call of one number, fo
 ends with its own status or with 8, or, where a file was to be opened or the output to be written with it, as where that failed; where a read was refused,
 with its own status or 3; where a write was, with its own or 7; where a start was, with its own. At 3 it writes so, at 7 and 8 a front of what the run
 writes, and at its own status all of it. Nothing crashes, hangs or is written twice. Reads and writes that move one byte change nothing, and where one of
-these writes is refused, exactly the bytes before it were written. Where no start is refused, a run starts a thread for each of its actors.
+these writes is refused, exactly the bytes before it were written. Where no start is refused, a run starts a thread for each of its actors. A run reads
+each piece of its files once and looks once for the end of each, and of what arrives, a schedule or blocks nothing after the piece that has a fault.
 Of runs with many growths some are chosen, evenly, unless all are asked for. Usage: check_refusals.py PROGRAM [--all]
 """
 import concurrent.futures
@@ -28,6 +29,10 @@ ENDS = {"growth": (8, 3, 7), "read": (3,), "write": (7,), "start": ()}
 # How many threads a run starts at least, beside the first one: of a run two executors, and where something arrives one more; of an order its two clients; of
 # a load three nodes, of which one runs on the first thread, and at each of them four executors and one that makes the arrivals.
 STARTS = {"one-insert": 2, "side-by-side": 2 + 1, "order-one-of-two": 2, "load": 2 + 3 * (4 + 1)}
+# how many bytes a read asks for at most, and the options that name files
+PIECE = 65536
+FILES = ("--app", "--blocks", "--arrivals", "--schedule", "--clients", "--files", "--proof")
+STOPPED = ("bad-line", "bad-step", "bad-arrival")
 PAYMENTS = ["tx p1 1 pay 1 2 5", "tx p2 1 pay 3 4 5"]
 
 
@@ -55,10 +60,35 @@ def side_by_side(folder):
     return folder, ["run", "--app", "a.app", "--blocks", "b.draft", "--arrivals", "arrivals", "--executors", "2"]
 
 
+def stopped(folder, name, texts, words):
+    """A command on these files, of which the last that it reads has a bad second line and two million bytes after it."""
+    folder = os.path.join(folder, name)
+    os.mkdir(folder)
+    for file_name, text in texts.items():
+        with open(os.path.join(folder, file_name), "w") as out:
+            out.write(text)
+    return folder, [*words, "--app", "a.app", "--blocks", "b.draft"]
+
+
+def all_stopped(folder):
+    """The application is read in two calls, and one piece of what arrives, of the schedule or of the blocks. No blocks are read where another file stops."""
+    bad, files = "\nnope\n" + "x" * 2097152, {"a.app": APP, "b.draft": "draft 1\n"}
+    yield Run("bad-line", *stopped(folder, "bad-line", files | {"b.draft": "draft 1" + bad}, ["run"]))
+    yield Run("bad-step", *stopped(folder, "bad-step", files | {"s": "schedule 1" + bad}, ["simulate", "--schedule", "s"]))
+    yield Run("bad-arrival", *stopped(folder, "bad-arrival", files | {"p1": "arrivals 1" + bad}, ["run", "--arrivals", "p"]))
+
+
+def sizes(run):
+    """The sizes of the files that a run names. A name of several files has a number after it."""
+    named = [value for option, value in zip(run.words, run.words[1:]) if option in FILES]
+    paths = [os.path.join(run.folder, value + end) for value in named for end in ("", *map(str, range(1, 9)))]
+    return [os.path.getsize(path) for path in paths if os.path.isfile(path)]
+
+
 def runs(folder):
     names = ["one-insert", "first-hit-wins", "provenance-of-pay", "first-hit-wins-claimed-early", "guide-bank-seal", "json-of-one-insert", "guide-bank-changed",
              "order-one-of-two", "order-bad-client", "guide-heads", "guide-compare", "compare-an-empty-file", "guide-prove", "guide-verify", "verify-33-steps"]
-    return [Run(name, *case(name)) for name in names] + [Run("side-by-side", *side_by_side(folder)), Run("load", folder, ["load", "--number", "1"])]
+    return [Run(name, *case(name)) for name in names] + [Run("side-by-side", *side_by_side(folder)), *all_stopped(folder), Run("load", folder, ["load", "--number", "1"])]
 
 
 class Refuser:
@@ -149,11 +179,21 @@ def check_starts(refuser, run, tally):
     tally.note(run, "no start refused", f"{count} threads and not {least}" if count < least else None)
 
 
+def check_reads(refuser, run, tally):
+    """The reads of a run: one for each piece of its files and one for the end of each, or fewer where a file is refused."""
+    status, _, count = refuser.run(run, "read", 0)
+    stops = run.name in STOPPED
+    most = 3 if stops else sum(-(-size // PIECE) + 1 for size in sizes(run))
+    wrong = count != most if status == 0 or stops else count > most
+    tally.note(run, "no read refused", f"{count} reads and not {most}" if wrong else None)
+
+
 def check_run(refuser, run, takes_all, tally, pool):
     for kind in ENDS:
         run.status, run.stdout, count = refuser.run(run, kind, 0)
         tally.note_all(run, kind, pool.map(lambda number: try_one(refuser, run, kind, number), numbers_of(count, takes_all)))
     check_starts(refuser, run, tally)
+    check_reads(refuser, run, tally)
     tally.note_all(run, "write", pool.map(lambda number: try_front(refuser, run, number), numbers_of(len(run.stdout), takes_all)))
     status, stdout, _ = refuser.run(run, "none", 0, most=1)
     tally.note(run, "one byte at a time", None if (status, stdout) == (run.status, run.stdout) else f"status {status}")

@@ -1,6 +1,6 @@
 """Cases at each limit of the formats, and one above it.
 
-cases() yields (name, files, status, test of the output). The limits stand in docs/FORMATS.md.
+cases() yields (name, files, status, test of the output). The limits stand in docs/FORMATS.md. A case with a schedule is a simulation, and each other one a run.
 """
 
 APP = b"""table acct (id int, owner text, bal int) key (id) index (owner);
@@ -8,6 +8,9 @@ proc add(i int, o text, b int) { insert acct (i, o, b); }
 """
 NO_BLOCKS = b"draft 1\n"
 USAGE = b"refused usage\n"
+SCHEDULE = b"schedule 1\n"
+ARRIVAL = b"arrive 12\n"
+STEPS = b"deliver\nclaim 1 due\nread 1\nfinish 1\ncommit\nseal\n"
 NO_BLOCKS_REPORT = b"node 1\ntable acct\nheight 0\n"
 
 
@@ -33,6 +36,14 @@ def draft_case(name, draft):
 def stopped_case(name, draft, stop):
     """A draft whose fault stands in its first block."""
     return name, {"a.app": APP, "b.draft": draft}, 5, equals(NO_BLOCKS_REPORT + b"stopped " + stop + b"\n")
+
+
+def schedule_case(name, schedule, bad=None):
+    """A schedule that seals the one block of a draft, or its first bad line."""
+    files = {"a.app": APP, "b.draft": NO_BLOCKS + block(1, [b'tx a1 0 add 1 "ann" 50\n']), "s": schedule}
+    if bad is None:
+        return name, files, 0, is_done
+    return name, files, 10, equals(b"refused schedule line %d\n" % bad)
 
 
 def table(name, columns, keys=1, indexes=0):
@@ -130,3 +141,12 @@ def cases():
     yield stopped_case("a header of 4,097 bytes", b"a" * 4097, b"1 LineTooLong")
     yield stopped_case("4,096 bytes without a newline", b"a" * 4096, b"1 Truncated")
     yield stopped_case("a line of 4,097 bytes without a newline", NO_BLOCKS + b"block 1\n" + b"a" * 4097, b"3 LineTooLong")
+    yield schedule_case("1,000,000 steps", SCHEDULE + b"seal\n" * 999994 + STEPS)
+    yield schedule_case("1,000,001 steps", SCHEDULE + b"seal\n" * 1000001, 1000002)
+    yield schedule_case("a bad step and two million bytes after it", SCHEDULE + b"deliver\nnope\n" + b"x" * 2097152, 3)
+    yield schedule_case("a step of 4,096 bytes that is none", SCHEDULE + ARRIVAL * 6552 + b"a" * 4096 + b"\n" + ARRIVAL * 10000, 6554)
+    yield schedule_case("4,097 bytes of a step, and no newline", SCHEDULE + b"a" * 4097 + b"b" * 200000, 2)
+    # 65,536 bytes end within the 6,553rd arrival
+    yield schedule_case("a step in two pieces", SCHEDULE + ARRIVAL * 20000 + STEPS)
+    yield schedule_case("a bad step in two pieces", SCHEDULE + ARRIVAL * 6552 + b"arrive xy\n" + b"seal\n" * 30000, 6554)
+    yield schedule_case("a last step without a newline, after two pieces", SCHEDULE + ARRIVAL * 13000 + b"seal", 13002)

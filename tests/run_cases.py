@@ -119,7 +119,8 @@ def run_limits(program, tally):
             for file_name, content in files.items():
                 with open(os.path.join(scratch, file_name), "wb") as file:
                     file.write(content)
-            status, out = run(program, scratch, ["run", "--app", "a.app", "--blocks", "b.draft"])
+            command = ["simulate", "--schedule", "s"] if "s" in files else ["run"]
+            status, out = run(program, scratch, [*command, "--app", "a.app", "--blocks", "b.draft"])
             tally.note(name, (wanted_status, True), (status, is_wanted(out)))
 
 

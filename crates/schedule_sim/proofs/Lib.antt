@@ -1,6 +1,6 @@
 pub mod Said
 pub mod Back
-pub mod Parsed
+pub mod Fed
 pub mod Bared
 pub mod Holders
 pub mod Moves

@@ -1,5 +1,6 @@
 pub mod Steps
 pub mod Schedules
+pub mod Reading
 pub mod Running
 pub mod Bare
 pub mod InHands

@@ -6,12 +6,14 @@ mod held_jobs;
 pub mod laws;
 mod parse;
 mod read;
+mod schedule_reader;
 mod simulation;
 pub mod step;
 mod whole_schedule;
 
-pub use parse::{MOST_SCHEDULE_STEPS, ScheduleFault, parse_schedule};
+pub use parse::{MOST_SCHEDULE_STEPS, ScheduleFault};
 pub use read::MOST_ACTORS;
+pub use schedule_reader::{ScheduleReader, parse_schedule};
 pub use simulation::SimFault;
 pub use step::{Schedule, Step};
 pub use whole_schedule::simulate;

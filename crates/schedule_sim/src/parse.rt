@@ -1,17 +1,14 @@
-//! Schedules, read from their text.
+//! The lines of a schedule, each by its number.
 
-ghost use Rattle.std.specs.Prelude.{◌≡◌, ◌<◌, ◌≤◌, IfOk, OnOk};
-ghost use Rattle.std.specs.List.{AllByRecursion};
-ghost use Rattle.tx_text.specs.Parts.{parts_of};
-ghost use Rattle.tx_text.specs.Listing.{items_at, walk, whole};
-ghost use Rattle.schedule_sim.specs.Steps.{IsStep};
-ghost use Rattle.schedule_sim.specs.Schedules.{Gives, GivesStep, schedule_form, schedule_of};
+ghost use Rattle.std.specs.Prelude.{◌≡◌, ◌≤◌, OnOk};
+ghost use Rattle.schedule_sim.specs.Reading.{GivesLine};
+ghost use Rattle.schedule_sim.specs.Schedules.{schedule_form};
+ghost use Rattle.tx_text.specs.Listing.{items_at, no_item, one_item, most_lines};
 
 use crate::read::step_of;
-use crate::step::{Schedule, Step};
-use rel_base::{List, NoMemory};
-use std::alloc::Global;
-use tx_text::{MOST_LINE_BYTES, split_line};
+use crate::step::Step;
+use rel_base::NoMemory;
+use tx_text::MOST_LINE_BYTES;
 
 /// Why a text is no schedule.
 #[derive(Clone, Copy, Debug, PartialEq, Eq)]
@@ -36,51 +33,41 @@ impl From<NoMemory> for ScheduleFault {
 /// The number of steps that a schedule may have.
 pub const MOST_SCHEDULE_STEPS: u64 = 1_000_000;
 
-/// The step of a line after the first.
-fn take_step(line: u64, text: &[u8]) -> Result<Step, ScheduleFault>
-    requires { 1 < line }
-    ensures taken { GivesStep result line (items_at schedule_form line text.now) }
-    ensures low { OnOk result (line ≤ 1000001) }
+/// The first line, which gives no step.
+fn take_header(text: &[u8]) -> Result<Option<Step>, ScheduleFault>
+    ensures { GivesLine result 1 (no_item schedule_form text.now) }
 {
-    if text.len() > MOST_LINE_BYTES || line > MOST_SCHEDULE_STEPS + 1 {
+    if text != b"schedule 1".as_slice() {
+        return Err(ScheduleFault::BadLine { line: 1 });
+    }
+    Ok(None)
+}
+
+/// A line after the first.
+fn take_step(line: u64, text: &[u8]) -> Result<Option<Step>, ScheduleFault>
+    ensures taken { GivesLine result line (one_item schedule_form line text.now) }
+    ensures low { OnOk result (line ≤ most_lines) }
+{
+    if line > MOST_SCHEDULE_STEPS + 1 {
         return Err(ScheduleFault::BadLine { line });
     }
     match step_of(text) {
-        Some(step) => Ok(step),
+        Some(step) => Ok(Some(step)),
         None => Err(ScheduleFault::BadLine { line }),
     }
 }
 
-/// Reads the lines that follow the first.
-fn parse_steps(alloc: Global, bytes: &[u8]) -> Result<Schedule, ScheduleFault>
-    ensures { Gives result (whole (walk schedule_form 2 (parts_of bytes.now))) }
+/// The step of a line, if it gives one.
+pub fn take_line(line: u64, text: &[u8]) -> Result<Option<Step>, ScheduleFault>
+    ensures taken { GivesLine result line (items_at schedule_form line text.now) }
+    ensures low { OnOk result (line ≤ most_lines) }
 {
-    let mut steps = List::new(alloc);
-    let mut line: u64 = 2;
-    let mut rest = bytes;
-    while let Some((text, after)) = split_line(rest) {
-        let step = take_step(line, text)?;
-        steps.push(step)?;
-        line += 1;
-        rest = after;
-    }
-    if !rest.is_empty() {
+    if text.len() > MOST_LINE_BYTES {
         return Err(ScheduleFault::BadLine { line });
     }
-    Ok(Schedule { steps })
-}
-
-/// The steps of a text: `schedule 1`, and then one step a line. The first line that is not so is `BadLine`, and so is one that
-/// has no newline, and the 1,000,002nd.
-pub fn parse_schedule(alloc: Global, text: &[u8]) -> Result<Schedule, ScheduleFault>
-    ensures steps { Gives result (schedule_of text.now) }
-    ensures actors { IfOk result (λ schedule. AllByRecursion IsStep schedule.steps) }
-{
-    let Some((header, rest)) = split_line(text) else {
-        return Err(ScheduleFault::BadLine { line: 1 });
-    };
-    if header != b"schedule 1".as_slice() {
-        return Err(ScheduleFault::BadLine { line: 1 });
+    if line == 1 {
+        take_header(text)
+    } else {
+        take_step(line, text)
     }
-    parse_steps(alloc, rest)
 }
