@@ -1,9 +1,8 @@
 -- Pieces of an arrival file, one after another: what was read stays a prefix of the file, and a fault that was met is the file's.
-use Rattle.std.proofs.Common.{Bool, IfOk, IfSome, List, None, Option, Some, [], ap, arith, cond, drop, false, length, length-append, refl, subst, sym, take, true, ◌&&◌, ◌+◌, ◌++◌, ◌<◌, ◌==◌, ◌∙◌, ◌≡◌, ◌≤◌, ℕ}
-use Rattle.std.proofs.lemmas.List.{length-take-le, take-append-drop}
+use Rattle.std.proofs.Common.{Bool, IfOk, IfSome, List, None, Option, Some, [], ap, arith, cond, false, length, refl, subst, sym, take, true, ◌&&◌, ◌+◌, ◌++◌, ◌<◌, ◌==◌, ◌∙◌, ◌≡◌, ◌≤◌, ℕ}
 use Rattle.std.specs.Prelude.{Err, Ok, Result, nat_lt}
 use Rattle.std.specs.Result.{IsOk}
-use Rattle.bcdb.proofs.Taken.{at_size, end_by, front_by}
+use Rattle.bcdb.proofs.Taken.{at_size, end_by, file_by, front_by, joined_size}
 use Rattle.bcdb.specs.ArrivalReading.{HasRead, IsRead, IsWholeArrivals}
 use Rattle.edge_traits.specs.Shelf.{Files, IsPiece}
 use Rattle.order_queue.proofs.Submitted.{files_are_submissions}
@@ -25,7 +24,7 @@ module _ (told : Option Files) (name buffer : List ℕ) (at count : ℕ) (old : 
   both = read.bytes ++ take count buffer
 
   size : length both ≡ at + count
-  size = omega (arith, length-append read.bytes (take count buffer), length-take-le count buffer le, read.size)
+  size = joined_size read.bytes buffer at count read.size le
 
   front : IfSome told (λ files. both ≡ take (length both) (files name))
   front = front_by told name read.bytes buffer at count read.size le piece read.front
@@ -38,16 +37,9 @@ module _ (told : Option Files) (name buffer : List ℕ) (at count : ℕ) (old : 
   pub within : ArrivalsAreBounded → (new : ArrivalReader) (txs : List Tx) → HasRead both new txs → at + count ≤ longest_listing
   within bounded new txs has = subst (λ n. n ≤ longest_listing) size (bounded both has.clear)
 
-  whole_by : (told : Option Files) → IfSome told (λ files. both ≡ take (length both) (files name)) → ArrivalFaultsLast → (line : ℕ) → arrived both ≡ Err line
-      → IfSome told (λ files. arrivals (files name) ≡ Err line)
-  whole_by None begins last line is = tt
-  whole_by (Some files) begins last line is =
-      let joined : both ++ drop (length both) (files name) ≡ files name = ap (λ bs. bs ++ drop (length both) (files name)) begins ∙ take-append-drop (length both) (files name) in
-      ap arrivals (sym joined) ∙ last both (drop (length both) (files name)) line is
-
   -- a fault that was met is the file's
   pub stops : ArrivalFaultsLast → (line : ℕ) → arrived both ≡ Err line → IfSome told (λ files. arrivals (files name) ≡ Err line)
-  stops last line is = whole_by told front last line is
+  stops last line is = file_by told name both (λ bytes. arrivals bytes ≡ Err line) front (λ more. last both more line is)
 
 -- where no byte comes, the file was read whole
 pub ends : (told : Option Files) (name buffer : List ℕ) (at count : ℕ) (reader : ArrivalReader) (txs : List Tx) → (read : IsRead told name at reader txs) → 0 < length buffer → count ≡ 0

@@ -20,6 +20,7 @@ use Rattle.bcdb.specs.declared.refusal.BadArrivals.{BadArrivals}
 use Rattle.bcdb.specs.declared.refusal.Refusal.{Refusal}
 use Rattle.bcdb.specs.declared.sources.Sources.{Sources}
 use Rattle.bcdb.specs.declared.status.Status.TheVariants.{AppRefused, ArrivalRefused}
+use Rattle.cluster_run.specs.Arrivals.{AreFedBy}
 use Rattle.cluster_run.specs.Nodes.{IsNodeOf}
 use Rattle.edge_traits.specs.Shelf.{Files}
 use Rattle.node_model.specs.Fold.{node_result}
@@ -66,42 +67,42 @@ module _ (look : Look) (app : App) (blocks : List Block) where
       by true = ap (λ (items : Items). compact_text (object (with_end stop (array items))) ++ codes "\n") (items_same 1 told each)
       by false = ap (λ lines. lines ++ end_line stop) (lines_same 1 told each)
 
-are_journals : (asked : Bool) (app : App) (blocks : List Block) (count : ℕ) (told : List NodeResult) → All (IsNodeOf app blocks) told → length told ≡ count
-    → AreJournals asked app blocks count (shown_if asked (journals_text told))
-are_journals false app blocks count told each counted = refl
-are_journals true app blocks count told each counted = (told, (record { counted = counted; each = each }, refl))
+are_journals : (asked : Bool) (app : App) (blocks : List Block) (arrivals : List (List Tx)) (count : ℕ) (told : List NodeResult) → All (IsNodeOf app blocks) told → AreFedBy told arrivals → length told ≡ count
+    → AreJournals asked app blocks arrivals count (shown_if asked (journals_text told))
+are_journals false app blocks arrivals count told each fed counted = refl
+are_journals true app blocks arrivals count told each fed counted = (told, (record { counted = counted; each = each; fed = fed }, refl))
 
-pub replies_nodes : (look : Look) (nodes : ℕ) (app : App) (blocks : List Block) (stop : Option ChainFault) (told : List NodeResult) (reply : Reply) → All (IsNodeOf app blocks) told → length told ≡ nodes
-    → Means (says (status_of stop) (report_text look (tables_of app) told stop)) reply → RepliesNodes look nodes app blocks stop reply
-replies_nodes look nodes app blocks stop told reply each counted means =
+pub replies_nodes : (look : Look) (nodes : ℕ) (app : App) (blocks : List Block) (arrivals : List (List Tx)) (stop : Option ChainFault) (told : List NodeResult) (reply : Reply) → All (IsNodeOf app blocks) told → AreFedBy told arrivals → length told ≡ nodes
+    → Means (says (status_of stop) (report_text look (tables_of app) told stop)) reply → RepliesNodes look nodes app blocks arrivals stop reply
+replies_nodes look nodes app blocks arrivals stop told reply each fed counted means =
     let shown : List ℕ = shown_if look.trace (journals_text told) in
     let same = report_same look app blocks stop told each ∙ ap (λ count. report_lines look (tables_of app) (replicate count (node_result app blocks)) stop) counted in
-    (shown, (are_journals look.trace app blocks nodes told each counted, subst (λ lines. Means (says (status_of stop) (lines ++ shown)) reply) same means))
+    (shown, (are_journals look.trace app blocks arrivals nodes told each fed counted, subst (λ lines. Means (says (status_of stop) (lines ++ shown)) reply) same means))
 
-pub reply_nodes : (look : Look) (nodes : ℕ) (app : App) (blocks : List Block) (stop : Option ChainFault) (told : List NodeResult) (result : Result Reply NoMemory) → All (IsNodeOf app blocks) told → length told ≡ nodes
-    → IfOk result (λ reply. Means (says (status_of stop) (report_text look (tables_of app) told stop)) reply) → IfOk result (λ reply. RepliesNodes look nodes app blocks stop reply)
-reply_nodes look nodes app blocks stop told (Ok reply) each counted means = replies_nodes look nodes app blocks stop told reply each counted means
-reply_nodes look nodes app blocks stop told (Err e) each counted means = tt
+pub reply_nodes : (look : Look) (nodes : ℕ) (app : App) (blocks : List Block) (arrivals : List (List Tx)) (stop : Option ChainFault) (told : List NodeResult) (result : Result Reply NoMemory) → All (IsNodeOf app blocks) told → AreFedBy told arrivals → length told ≡ nodes
+    → IfOk result (λ reply. Means (says (status_of stop) (report_text look (tables_of app) told stop)) reply) → IfOk result (λ reply. RepliesNodes look nodes app blocks arrivals stop reply)
+reply_nodes look nodes app blocks arrivals stop told (Ok reply) each fed counted means = replies_nodes look nodes app blocks arrivals stop told reply each fed counted means
+reply_nodes look nodes app blocks arrivals stop told (Err e) each fed counted means = tt
 
 -- one node whose journal is not asked for is reported by the fold alone
-replies_alone : (look : Look) (app : App) (blocks : List Block) (stop : Option ChainFault) (reply : Reply) → look.trace ≡ false
-    → Means (says (status_of stop) (report_text look (tables_of app) (node_result app blocks ∷ []) stop)) reply → RepliesNodes look 1 app blocks stop reply
-replies_alone look app blocks stop reply silent means =
+replies_alone : (look : Look) (app : App) (blocks : List Block) (arrivals : List (List Tx)) (stop : Option ChainFault) (reply : Reply) → look.trace ≡ false
+    → Means (says (status_of stop) (report_text look (tables_of app) (node_result app blocks ∷ []) stop)) reply → RepliesNodes look 1 app blocks arrivals stop reply
+replies_alone look app blocks arrivals stop reply silent means =
     let told : List NodeResult = node_result app blocks ∷ [] in
     let none : shown_if look.trace (journals_text told) ≡ [] = ap (λ b. shown_if b (journals_text told)) silent in (
       [],
       (
-        subst (λ b. AreJournals b app blocks 1 []) (sym silent) refl,
+        subst (λ b. AreJournals b app blocks arrivals 1 []) (sym silent) refl,
         subst (λ shown. Means (says (status_of stop) (report_lines look (tables_of app) told stop ++ shown)) reply) none means,
       ),
     )
 
-pub reply_alone : (look : Look) (app : App) (blocks : List Block) (stop : Option ChainFault) (nodes : List NodeResult) (result : Result Reply NoMemory) → look.trace ≡ false
+pub reply_alone : (look : Look) (app : App) (blocks : List Block) (arrivals : List (List Tx)) (stop : Option ChainFault) (nodes : List NodeResult) (result : Result Reply NoMemory) → look.trace ≡ false
     → nodes ≡ node_result app blocks ∷ [] → IfOk result (λ reply. Means (says (status_of stop) (report_text look (tables_of app) nodes stop)) reply)
-    → IfOk result (λ reply. RepliesNodes look 1 app blocks stop reply)
-reply_alone look app blocks stop nodes (Ok reply) silent is means =
-    replies_alone look app blocks stop reply silent (subst (λ (told : List NodeResult). Means (says (status_of stop) (report_text look (tables_of app) told stop)) reply) is means)
-reply_alone look app blocks stop nodes (Err e) silent is means = tt
+    → IfOk result (λ reply. RepliesNodes look 1 app blocks arrivals stop reply)
+reply_alone look app blocks arrivals stop nodes (Ok reply) silent is means =
+    replies_alone look app blocks arrivals stop reply silent (subst (λ (told : List NodeResult). Means (says (status_of stop) (report_text look (tables_of app) told stop)) reply) is means)
+reply_alone look app blocks arrivals stop nodes (Err e) silent is means = tt
 
 -- the results of the first of three nodes are those of the fold
 pub first_tells : (app : App) (blocks : List Block) (told : List NodeResult) (first : NodeResult) → length told ≡ 3 → All (IsNodeOf app blocks) told → slice_index_or told 0 first ≡ first
@@ -115,16 +116,16 @@ first_tells app blocks told first counted each is =
 pub alone : (meant : ProgramAnswer) (reply : Reply) → Means meant reply → Means (followed_by [] meant) reply
 alone meant reply means = record { status = means.status; bytes = means.bytes ∙ sym (append-nil meant.bytes) }
 
-ran : (look : Look) (asked : Sources) (given : Given) (reply : Reply) (files : Files) → RepliesNodes look asked.nodes given.app.app given.read.blocks given.read.fault reply → AreGiven (Ok given) asked files
+ran : (look : Look) (asked : Sources) (given : Given) (reply : Reply) (files : Files) → RepliesNodes look asked.nodes given.app.app given.read.blocks given.arrivals given.read.fault reply → AreGiven (Ok given) asked files
     → RepliesRun look asked (accepted (files asked.app)) files reply
 ran look asked given reply files replies are =
     let app : App = given.app.app in
     subst (λ (found : Result App Refusal). RepliesRun look asked found files reply) (sym are.0)
     (subst (λ (found : Result (List (List Tx)) BadArrivals). (lines : List ℕ)
     × (FollowsNodes look asked.nodes app found (files asked.blocks) lines × Means (followed_by lines (over_nodes look asked.nodes app found (files asked.blocks))) reply)) (sym are.1)
-    (subst (λ (read : List Block × Option ChainFault). RepliesNodes look asked.nodes app read.0 read.1 reply) (sym are.3) replies))
+    (subst (λ (read : List Block × Option ChainFault). RepliesNodes look asked.nodes app read.0 given.arrivals read.1 reply) (sym are.3) replies))
 
-pub replies_run : (look : Look) (asked : Sources) (given : Given) (result : Result Reply NoMemory) → IfOk result (λ reply. RepliesNodes look asked.nodes given.app.app given.read.blocks given.read.fault reply)
+pub replies_run : (look : Look) (asked : Sources) (given : Given) (result : Result Reply NoMemory) → IfOk result (λ reply. RepliesNodes look asked.nodes given.app.app given.read.blocks given.arrivals given.read.fault reply)
     → IfOk result (λ reply. (files : Files) → AreGiven (Ok given) asked files → RepliesRun look asked (accepted (files asked.app)) files reply)
 replies_run look asked given (Ok reply) replies = λ files are. ran look asked given reply files replies are
 replies_run look asked given (Err e) replies = tt

@@ -7,7 +7,7 @@ use Rattle.edge_traits.specs.Shelf.{Files}
 file_may : (kind : FileKind) (told : Option Files) (name : List ℕ) → AllowsFile kind told (λ name at size. ⊤) name
 file_may AppFile told name = λ at lt. tt
 file_may CallsFile told name = λ at clear. tt
-file_may ScheduleFile told name = λ at le. tt
+file_may ScheduleFile told name = λ at clear. tt
 file_may BlocksFile told name = λ at clear. tt
 file_may DigestsFile told name = λ at lt. tt
 file_may ProofFile told name = λ at lt. tt

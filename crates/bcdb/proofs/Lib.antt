@@ -9,7 +9,7 @@ pub mod Orders
 pub mod Simulated
 pub mod Arriving
 pub mod Asked
-pub mod Long
+pub mod Scheduling
 pub mod Planning
 pub mod Leaves
 pub mod Agreeing

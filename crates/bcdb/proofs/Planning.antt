@@ -19,7 +19,7 @@ use Rattle.schedule_sim.specs.declared.step.Step.{Step}
 keeps_file : (kind : FileKind) (told : Option Files) (old new : Leave) (name : List ℕ) → Keeps old new → AllowsFile kind told old name → AllowsFile kind told new name
 keeps_file AppFile told old new name keeps allows = λ at lt. keeps name at _ (allows at lt)
 keeps_file CallsFile told old new name keeps allows = λ at clear. keeps name at 65536 (allows at clear)
-keeps_file ScheduleFile told old new name keeps allows = λ at le. keeps name at 65536 (allows at le)
+keeps_file ScheduleFile told old new name keeps allows = λ at clear. keeps name at 65536 (allows at clear)
 keeps_file BlocksFile told old new name keeps allows = λ at clear. keeps name at 65536 (allows at clear)
 keeps_file DigestsFile told old new name keeps allows = λ at lt. keeps name at _ (allows at lt)
 keeps_file ProofFile told old new name keeps allows = λ at lt. keeps name at _ (allows at lt)

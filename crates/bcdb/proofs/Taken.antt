@@ -20,6 +20,17 @@ pub at_size : (told : Option Files) (name bytes : List ℕ) (n : ℕ) → length
 at_size None name bytes n size front = tt
 at_size (Some files) name bytes n size front = front ∙ ap (λ n. take n (files name)) size
 
+pub joined_size : (bytes buffer : List ℕ) (at count : ℕ) → length bytes ≡ at → count ≤ length buffer → length (bytes ++ take count buffer) ≡ at + count
+joined_size bytes buffer at count size le = omega (arith, length-append bytes (take count buffer), length-take-le count buffer le, size)
+
+-- what holds of a prefix whatever follows holds of the file
+pub file_by : (told : Option Files) (name bytes : List ℕ) (Holds : List ℕ → Type 0) → IfSome told (λ files. bytes ≡ take (length bytes) (files name)) → ((more : List ℕ) → Holds (bytes ++ more))
+    → IfSome told (λ files. Holds (files name))
+file_by None name bytes Holds front holds = tt
+file_by (Some files) name bytes Holds front holds =
+    let whole : bytes ++ drop (length bytes) (files name) ≡ files name = ap (λ bs. bs ++ drop (length bytes) (files name)) front ∙ take-append-drop (length bytes) (files name) in
+    subst Holds whole (holds (drop (length bytes) (files name)))
+
 -- what was read so far has no fault, so the file may be read from there on
 pub may_go_on : (told : Option Files) (name : List ℕ) (at : ℕ) (took : List ℕ → Type 0) → IsRead told name at took → IfSome told (λ files. lasting (chain (take at (files name))).1 ≡ None)
 may_go_on None name at took read = tt
@@ -31,7 +42,7 @@ module _ (told : Option Files) (name buffer : List ℕ) (at count : ℕ) (old ne
   both = read.bytes ++ take count buffer
 
   size : length both ≡ at + count
-  size = omega (arith, length-append read.bytes (take count buffer), length-take-le count buffer le, read.size)
+  size = joined_size read.bytes buffer at count read.size le
 
   front : IfSome told (λ files. both ≡ take (length both) (files name))
   front = front_by told name read.bytes buffer at count read.size le piece read.front
@@ -44,16 +55,12 @@ module _ (told : Option Files) (name buffer : List ℕ) (at count : ℕ) (old ne
   pub within : FilesAreBounded → (fault : Option ChainFault) → fault ≡ lasting (chain both).1 → fault ≡ None → at + count ≤ longest_file
   within bounded fault is none = subst (λ n. n ≤ longest_file) size (bounded both (sym is ∙ none))
 
-  whole_by : (told : Option Files) → IfSome told (λ files. both ≡ take (length both) (files name)) → FaultsLast → (found : ChainFault) → lasting (chain both).1 ≡ Some found
-      → IfSome told (λ files. chain (files name) ≡ ((chain both).0, Some found))
-  whole_by None begins last found is = tt
-  whole_by (Some files) begins last found is =
-      let whole : both ++ drop (length both) (files name) ≡ files name = ap (λ bs. bs ++ drop (length both) (files name)) begins ∙ take-append-drop (length both) (files name) in
-      ap chain (sym whole) ∙ last both (drop (length both) (files name)) found is
+  whole_by : FaultsLast → (found : ChainFault) → lasting (chain both).1 ≡ Some found → IfSome told (λ files. chain (files name) ≡ ((chain both).0, Some found))
+  whole_by last found is = file_by told name both (λ bytes. chain bytes ≡ ((chain both).0, Some found)) front (λ more. last both more found is)
 
   -- a fault that was met is the file's, with the blocks before it
   pub stops : FaultsLast → (fault : Option ChainFault) (found : ChainFault) → new both → fault ≡ lasting (chain both).1 → fault ≡ Some found → HasFault told name new found
-  stops last fault found took is met = record { bytes = both; follows = took; stops = whole_by told front last found (sym is ∙ met) }
+  stops last fault found took is met = record { bytes = both; follows = took; stops = whole_by last found (sym is ∙ met) }
 
 pub end_by : (told : Option Files) (name bytes buffer : List ℕ) (at count : ℕ) → 0 < length buffer → count ≡ 0 → IfSome told (λ files. IsPiece (files name) at count buffer)
     → IfSome told (λ files. bytes ≡ take at (files name)) → IfSome told (λ files. bytes ≡ files name)

@@ -21,6 +21,7 @@ pub mod Refusals
 pub mod Reply
 pub mod RowsAnswer
 pub mod RunAnswer
+pub mod ScheduleReading
 pub mod SealAnswer
 pub mod Selected
 pub mod SimulationAnswer

@@ -8,13 +8,14 @@ use Rattle.bcdb.specs.declared.refusal.BadArrivals.{BadArrivals}
 use Rattle.bcdb.specs.declared.status.Status.TheVariants.{ArrivalRefused, Done, OrderRefused}
 use Rattle.order_queue.specs.Orders.{IsOrdered}
 use Rattle.proc_syntax.specs.declared.call.Tx.{Tx}
+use Rattle.proc_syntax.specs.Limits.{most_blocks}
 
 -- how many blocks of `most` transactions the clients need
 abbrev pub blocks_needed : List (List Tx) → (most : ℕ) → ℕ
 blocks_needed clients most = div_ceil (sum_by length clients) most
 
 abbrev pub is_few : List (List Tx) → (most : ℕ) → Bool
-is_few clients most = nat_le (blocks_needed clients most) 1000000
+is_few clients most = nat_le (blocks_needed clients most) most_blocks
 
 -- the client files decide, and then how many blocks are needed; what is written where nothing is refused, the next definition says
 abbrev pub over_order : (most : ℕ) → Result (List (List Tx)) BadArrivals → ProgramAnswer
@@ -33,4 +34,4 @@ FollowsOrder most (Ok clients) draft = DraftIf (is_few clients most) clients mos
 -- nothing is refused
 abbrev pub IsFew : (most : ℕ) → Result (List (List Tx)) BadArrivals → Type 0
 IsFew most (Err bad) = ⊥
-IsFew most (Ok clients) = blocks_needed clients most ≤ 1000000
+IsFew most (Ok clients) = blocks_needed clients most ≤ most_blocks

@@ -1,6 +1,6 @@
 -- The files that a command reads, in order, each with what it must be. Which of their bytes may be asked for, whose failed read decides, and that all of them
 -- are what they must be, are folds over that list: so a command says here once what it reads.
-use Rattle.std.specs.Prelude.{Err, IfSome, List, None, Ok, Option, Result, Some, [], suc, take, zero, ℕ, ◌+◌, ◌++◌, ◌≡◌, ◌≤◌, ◌⊎◌, ◌∷◌}
+use Rattle.std.specs.Prelude.{Err, IfSome, List, None, Ok, Option, Result, Some, [], suc, take, zero, ℕ, ◌+◌, ◌++◌, ◌≡◌, ◌⊎◌, ◌∷◌}
 use Rattle.std.specs.Result.{IsOk}
 use Rattle.bcdb.specs.Accepted.{accepted}
 use Rattle.bcdb.specs.ArrivalFiles.{file_at, node_file}
@@ -13,11 +13,10 @@ use Rattle.bcdb.specs.declared.sources.Sources.{Sources}
 use Rattle.chain_file.specs.Chain.{chain, lasting}
 use Rattle.cli_words.specs.declared.settings.Settings.TheVariants.{Checkpoint, Compare, Load, Order, Provenance, Prove, Query, Run, Seal, Simulate, Verify}
 use Rattle.cli_words.specs.declared.settings.Settings.{Settings}
-use Rattle.edge_traits.specs.Causes.{AllowsFront, Counts, Leave, Rose}
+use Rattle.edge_traits.specs.Causes.{AllowsFront, Counts, Leave, Rose, piece_bytes}
 use Rattle.edge_traits.specs.Shelf.{Files}
-use Rattle.schedule_sim.specs.Schedules.{schedule_of}
+use Rattle.schedule_sim.specs.Schedules.{schedule_of, schedule_so_far}
 use Rattle.tx_text.specs.Arrivals.{arrivals, arrived}
-use Rattle.tx_text.specs.Listing.{longest_listing}
 
 -- ---- what is read
 
@@ -119,15 +118,15 @@ AllowsApplication may_read name = AllowsFront may_read name 1048577
 
 -- calls may be asked for 65,536 bytes after each prefix that has no fault that no more bytes mend
 abbrev pub AllowsCalls : Option Files → Leave → List ℕ → Type 0
-AllowsCalls told may_read name = (at : ℕ) → IfSome told (λ files. IsOk (arrived (take at (files name)))) → may_read name at 65536
+AllowsCalls told may_read name = (at : ℕ) → IfSome told (λ files. IsOk (arrived (take at (files name)))) → may_read name at piece_bytes
 
--- a schedule as far as the longest one goes
-abbrev pub AllowsSchedule : Leave → List ℕ → Type 0
-AllowsSchedule may_read name = (at : ℕ) → at ≤ longest_listing → may_read name at 65536
+-- and so may a schedule
+abbrev pub AllowsSchedule : Option Files → Leave → List ℕ → Type 0
+AllowsSchedule told may_read name = (at : ℕ) → IfSome told (λ files. IsOk (schedule_so_far (take at (files name)))) → may_read name at piece_bytes
 
 -- a block file may be asked for 65,536 bytes after each of its prefixes that has no fault but that it ends too early
 abbrev pub AllowsBlocks : Option Files → Leave → List ℕ → Type 0
-AllowsBlocks told may_read name = (at : ℕ) → IfSome told (λ files. lasting (chain (take at (files name))).1 ≡ None) → may_read name at 65536
+AllowsBlocks told may_read name = (at : ℕ) → IfSome told (λ files. lasting (chain (take at (files name))).1 ≡ None) → may_read name at piece_bytes
 
 -- a digest file or a proof file as far as it may go and one byte more
 abbrev pub AllowsDigests : Leave → List ℕ → Type 0
@@ -139,7 +138,7 @@ AllowsProof may_read name = AllowsFront may_read name 262145
 abbrev pub AllowsFile : FileKind → Option Files → Leave → List ℕ → Type 0
 AllowsFile AppFile told may_read name = AllowsApplication may_read name
 AllowsFile CallsFile told may_read name = AllowsCalls told may_read name
-AllowsFile ScheduleFile told may_read name = AllowsSchedule may_read name
+AllowsFile ScheduleFile told may_read name = AllowsSchedule told may_read name
 AllowsFile BlocksFile told may_read name = AllowsBlocks told may_read name
 AllowsFile DigestsFile told may_read name = AllowsDigests may_read name
 AllowsFile ProofFile told may_read name = AllowsProof may_read name

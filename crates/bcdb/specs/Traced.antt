@@ -17,6 +17,7 @@ use Rattle.bcdb.specs.declared.status.Status.{Status}
 use Rattle.chain_file.specs.Chain.{chain}
 use Rattle.cli_words.specs.declared.settings.Settings.TheVariants.{Order, Run}
 use Rattle.cli_words.specs.declared.settings.Settings.{Settings}
+use Rattle.cluster_run.specs.Arrivals.{AreFedBy}
 use Rattle.cluster_run.specs.Nodes.{IsNodeOf}
 use Rattle.edge_traits.specs.Shelf.{Files}
 use Rattle.edge_traits.specs.Sink.{WroteFront}
@@ -29,20 +30,21 @@ use Rattle.report_text.specs.Report.{journals_text}
 use Rattle.report_text.specs.declared.look.Look.{Look}
 
 -- so many nodes tell of these blocks: each the results that are reported, and a journal of its own that steps can make, that delivers the blocks and
--- comes to these results
-pub record AreNodesOf (app : App) (blocks : List Block) (count : ℕ) (told : List NodeResult) : Type 0 where
+-- comes to these results; what arrived there is of that node's own arrivals, in their order
+pub record AreNodesOf (app : App) (blocks : List Block) (arrivals : List (List Tx)) (count : ℕ) (told : List NodeResult) : Type 0 where
   pub counted : length told ≡ count
   pub each : All (IsNodeOf app blocks) told
+  pub fed : AreFedBy told arrivals
 
 -- the journals of such nodes, if they are asked for
-abbrev pub AreJournals : (asked : Bool) → App → List Block → (count : ℕ) → List ℕ → Type 0
-AreJournals false app blocks count lines = lines ≡ []
-AreJournals true app blocks count lines = (told : List NodeResult) × (AreNodesOf app blocks count told × (lines ≡ journals_text told))
+abbrev pub AreJournals : (asked : Bool) → App → List Block → List (List Tx) → (count : ℕ) → List ℕ → Type 0
+AreJournals false app blocks arrivals count lines = lines ≡ []
+AreJournals true app blocks arrivals count lines = (told : List NodeResult) × (AreNodesOf app blocks arrivals count told × (lines ≡ journals_text told))
 
 -- none where what arrives, or the application, is refused
 abbrev pub FollowsNodes : Look → (nodes : ℕ) → App → Result (List (List Tx)) BadArrivals → List ℕ → List ℕ → Type 0
 FollowsNodes look nodes app (Err bad) bytes lines = lines ≡ []
-FollowsNodes look nodes app (Ok txs) bytes lines = AreJournals look.trace app (chain bytes).0 nodes lines
+FollowsNodes look nodes app (Ok txs) bytes lines = AreJournals look.trace app (chain bytes).0 txs nodes lines
 
 abbrev pub FollowsRun : Look → Sources → Result App Refusal → Files → List ℕ → Type 0
 FollowsRun look asked (Err refusal) files lines = lines ≡ []
@@ -59,9 +61,9 @@ abbrev pub followed_by : List ℕ → ProgramAnswer → ProgramAnswer
 followed_by lines meant = says meant.status (meant.bytes ++ lines)
 
 -- a reply has the answer and what may follow it: of nodes that ran, of a run over files, of an order, and of each command
-abbrev pub RepliesNodes : Look → (nodes : ℕ) → App → List Block → Option ChainFault → Reply → Type 0
-RepliesNodes look nodes app blocks stop reply =
-    (lines : List ℕ) × (AreJournals look.trace app blocks nodes lines × Means (followed_by lines (nodes_reported look nodes app blocks stop)) reply)
+abbrev pub RepliesNodes : Look → (nodes : ℕ) → App → List Block → List (List Tx) → Option ChainFault → Reply → Type 0
+RepliesNodes look nodes app blocks arrivals stop reply =
+    (lines : List ℕ) × (AreJournals look.trace app blocks arrivals nodes lines × Means (followed_by lines (nodes_reported look nodes app blocks stop)) reply)
 
 abbrev pub RepliesRun : Look → Sources → Result App Refusal → Files → Reply → Type 0
 RepliesRun look asked found files reply = (lines : List ℕ) × (FollowsRun look asked found files lines × Means (followed_by lines (over_run look asked found files)) reply)

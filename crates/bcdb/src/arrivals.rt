@@ -4,7 +4,7 @@ ghost use Rattle.std.specs.Prelude.{◌≡◌, ◌++◌, List, ℕ, IfOk, IfSome
 ghost use Rattle.bcdb.specs.ArrivalFiles.{arrived_in};
 ghost use Rattle.bcdb.specs.ArrivalReading.{LeadsTo, HasRead, IsRead, TakesLines};
 ghost use Rattle.bcdb.specs.Plan.{AllowsCalls, AllowsPlan, CallsFile, Counted, RoseAt, planned_if};
-ghost use Rattle.edge_traits.specs.Causes.{Keeps, Rose};
+ghost use Rattle.edge_traits.specs.Causes.{Keeps, Rose, piece_bytes};
 ghost use Rattle.order_queue.specs.Orders.{IsSubmission};
 ghost use Rattle.tx_text.specs.Arrivals.{ArrivalFaultsLast, ArrivalsAreBounded, arrivals};
 
@@ -73,7 +73,7 @@ fn read_piece<S: Shelf>(
     txs: &mut List<Tx>,
 ) -> Result<ArrivalPiece, FilesFault>
     requires allowed { AllowsCalls (S.told shelf.old) (S.may_read shelf.old) name.now }
-    requires room { length buffer.old ≡ 65536 }
+    requires room { length buffer.old ≡ piece_bytes }
     requires bounded { ArrivalsAreBounded }
     requires lasting { ArrivalFaultsLast }
     requires read { IsRead (S.told shelf.old) name.now at reader.old txs.old }
@@ -103,7 +103,7 @@ fn read_through<S: Shelf>(
     buffer: &mut [u8],
 ) -> Result<Result<List<Tx>, u64>, FilesFault>
     requires allowed { AllowsCalls (S.told shelf.old) (S.may_read shelf.old) name.now }
-    requires room { length buffer.old ≡ 65536 }
+    requires room { length buffer.old ≡ piece_bytes }
     ensures told { IfOk result (λ read. IfSome (S.told shelf.old) (λ files. arrivals (files name.now) ≡ read)) }
     ensures submission { IfOk result (λ read. IfOk read IsSubmission) }
     ensures same { S.told shelf.new ≡ S.told shelf.old }

@@ -6,7 +6,7 @@ ghost use Rattle.bcdb.specs.Reading.{HasRead, IsRead, LeadsTo};
 ghost use Rattle.chain_file.specs.Chain.{chain};
 ghost use Rattle.chain_file.specs.Files.{FaultsLast, FilesAreBounded};
 ghost use Rattle.chain_file.specs.Numbered.{NumberedFrom};
-ghost use Rattle.edge_traits.specs.Causes.{Keeps, Rose};
+ghost use Rattle.edge_traits.specs.Causes.{Keeps, Rose, piece_bytes};
 
 use crate::fault::FilesFault;
 use crate::intake::{Gatherer, Intake};
@@ -38,7 +38,7 @@ fn read_piece<S: Shelf, I: Intake>(
 ) -> Result<ChainPiece, FilesFault>
     requires read { IsRead (S.told shelf.old) name.now at (I.took intake.old) }
     requires allowed { AllowsBlocks (S.told shelf.old) (S.may_read shelf.old) name.now }
-    requires room { length buffer.old ≡ 65536 }
+    requires room { length buffer.old ≡ piece_bytes }
     requires bounded { FilesAreBounded }
     requires lasting { FaultsLast }
     ensures told { S.told shelf.new ≡ S.told shelf.old }
@@ -67,7 +67,7 @@ fn read_through<S: Shelf, I: Intake>(
 ) -> Result<Option<ChainFault>, FilesFault>
     requires front { I.took intake.old [] }
     requires allowed { AllowsBlocks (S.told shelf.old) (S.may_read shelf.old) name.now }
-    requires room { length buffer.old ≡ 65536 }
+    requires room { length buffer.old ≡ piece_bytes }
     ensures told { IfOk result (HasRead (S.told shelf.old) name.now (I.took intake.new)) }
     ensures counted { Counted result (Rose (S.faults shelf.old name.now) (S.faults shelf.new name.now)) (S.faults shelf.old) (S.faults shelf.new) }
 {

@@ -7,6 +7,7 @@ ghost use Rattle.bcdb.specs.Plan.{AllowsPlan, Counted, RoseAt, RoseIn, digests_p
 ghost use Rattle.bcdb.specs.ProgramAnswer.{says};
 ghost use Rattle.bcdb.specs.Reply.{Means, is_answer};
 ghost use Rattle.checkpoint.specs.Printed.{comparison};
+ghost use Rattle.proc_syntax.specs.Limits.{most_peers};
 
 use crate::fault::FilesFault;
 use crate::peers::read_peers;
@@ -53,7 +54,7 @@ pub fn answer_comparison<S: Shelf>(
     files: &str,
     count: u32,
 ) -> Result<Reply, FilesFault>
-    requires few { count ≤ 8 }
+    requires few { count ≤ most_peers }
     requires allowed { AllowsPlan (digests_plan files.now 1 count) (S.told shelf.old) (S.may_read shelf.old) }
     ensures told { IfOk result (λ reply. IfSome (S.told shelf.old) (λ all. Means (over_comparison (all_digests files.now 1 count all)) reply)) }
     ensures turn { IsErrOf result FilesFault.Failed → IfSome (S.told shelf.old) (λ all. RoseIn (digests_plan files.now 1 count) all (S.faults shelf.old) (S.faults shelf.new)) }

@@ -6,6 +6,7 @@ ghost use Rattle.bcdb.specs.Plan.{AllowsPlan, Counted, RoseAt, RoseIn, arrivals_
 ghost use Rattle.bcdb.specs.Reply.{is_answer};
 ghost use Rattle.bcdb.specs.Traced.{RepliesOrder};
 ghost use Rattle.order_queue.specs.Orders.{IsSubmission};
+ghost use Rattle.proc_syntax.specs.Limits.{most_clients, most_transactions};
 
 use crate::fault::FilesFault;
 use crate::node_arrivals::read_all_arrivals;
@@ -32,9 +33,9 @@ fn order_clients<R: Threads + Wait + Sync>(
     clients: List<List<Tx>>,
     most: u32,
 ) -> Result<Reply, NoMemory>
-    requires clients { (1 ≤ length clients) × (length clients ≤ 8) }
+    requires clients { (1 ≤ length clients) × (length clients ≤ most_clients) }
     requires submissions { All IsSubmission clients }
-    requires most { (1 ≤ most) × (most ≤ 1024) }
+    requires most { (1 ≤ most) × (most ≤ most_transactions) }
     ensures replies { IfOk result (RepliesOrder most (Ok clients)) }
     ensures kind { IfOk result (λ reply. is_answer reply.status ≡ true) }
 {
@@ -57,9 +58,9 @@ fn answer_clients<R: Threads + Wait + Sync>(
     read: Result<List<List<Tx>>, BadArrivals>,
     most: u32,
 ) -> Result<Reply, NoMemory>
-    requires clients { IfOk read (λ clients. (1 ≤ length clients) × (length clients ≤ 8)) }
+    requires clients { IfOk read (λ clients. (1 ≤ length clients) × (length clients ≤ most_clients)) }
     requires submissions { IfOk read (All IsSubmission) }
-    requires most { (1 ≤ most) × (most ≤ 1024) }
+    requires most { (1 ≤ most) × (most ≤ most_transactions) }
     ensures replies { IfOk result (RepliesOrder most read) }
     ensures kind { IfOk result (λ reply. is_answer reply.status ≡ true) }
 {
@@ -80,8 +81,8 @@ pub fn answer_order<R: Threads + Wait + Sync, S: Shelf>(
     count: u32,
     most: u32,
 ) -> Result<Reply, FilesFault>
-    requires count { (1 ≤ count) × (count ≤ 8) }
-    requires most { (1 ≤ most) × (most ≤ 1024) }
+    requires count { (1 ≤ count) × (count ≤ most_clients) }
+    requires most { (1 ≤ most) × (most ≤ most_transactions) }
     requires allowed { AllowsPlan (arrivals_plan clients.now 1 count) (S.told shelf.old) (S.may_read shelf.old) }
     ensures told { IfOk result (λ reply. IfSome (S.told shelf.old) (λ files. RepliesOrder most (all_arrived clients.now 1 count files) reply)) }
     ensures turn { IsErrOf result FilesFault.Failed → IfSome (S.told shelf.old) (λ files. RoseIn (arrivals_plan clients.now 1 count) files (S.faults shelf.old) (S.faults shelf.new)) }

@@ -6,6 +6,7 @@ ghost use Rattle.bcdb.specs.PeerFiles.{after_others, all_digests, digests_read};
 ghost use Rattle.bcdb.specs.Plan.{AllowsPlan, Counted, RoseAt, RoseIn, digests_plan};
 ghost use Rattle.checkpoint.specs.Files.{digests_of};
 ghost use Rattle.edge_traits.specs.Causes.{AllowsFront, Keeps, Rose};
+ghost use Rattle.proc_syntax.specs.Limits.{most_peers};
 
 use crate::fault::FilesFault;
 use crate::node_arrivals::node_file;
@@ -109,7 +110,7 @@ pub fn read_peers<S: Shelf>(
     prefix: &str,
     count: u32,
 ) -> Result<Result<List<List<[u8; 32]>>, BadDigests>, FilesFault>
-    requires few { count ≤ 8 }
+    requires few { count ≤ most_peers }
     requires allowed { AllowsPlan (digests_plan prefix.now 1 count) (S.told shelf.old) (S.may_read shelf.old) }
     ensures told { IfOk result (λ read. IfSome (S.told shelf.old) (λ files. all_digests prefix.now 1 count files ≡ read)) }
     ensures turn { IsErrOf result FilesFault.Failed → IfSome (S.told shelf.old) (λ files. RoseIn (digests_plan prefix.now 1 count) files (S.faults shelf.old) (S.faults shelf.new)) }

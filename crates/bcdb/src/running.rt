@@ -9,6 +9,7 @@ ghost use Rattle.bcdb.specs.Traced.{RepliesNodes, RepliesRun};
 ghost use Rattle.chain_file.specs.Numbered.{NumberedFrom};
 ghost use Rattle.edge_traits.specs.Shelf.{Files};
 ghost use Rattle.node_model.specs.Fold.{node_result};
+ghost use Rattle.proc_syntax.specs.Limits.{most_executors, most_nodes};
 
 use crate::fault::FilesFault;
 use crate::given::{BadSource, Given, read_given};
@@ -56,7 +57,7 @@ fn run_alone(
 fn run_by_itself(alloc: Global, look: &Look, given: Given) -> Result<Reply, NoMemory>
     requires silent { look.now.trace ≡ false }
     requires numbered { NumberedFrom 1 given.read.blocks }
-    ensures replies { IfOk result (RepliesNodes look.now 1 given.app.app given.read.blocks given.read.fault) }
+    ensures replies { IfOk result (RepliesNodes look.now 1 given.app.app given.read.blocks given.arrivals given.read.fault) }
     ensures kind { IfOk result (λ reply. is_answer reply.status ≡ true) }
 {
     let Given {
@@ -97,10 +98,10 @@ fn run_side_by_side<R: Threads + Wait + Sync, G: Gate>(
     given: Given,
     gate: &G,
 ) -> Result<Reply, NoMemory>
-    requires nodes { (1 ≤ length given.arrivals) × (length given.arrivals ≤ 8) }
-    requires executors { executors ≤ 16 }
+    requires nodes { (1 ≤ length given.arrivals) × (length given.arrivals ≤ most_nodes) }
+    requires executors { executors ≤ most_executors }
     requires numbered { NumberedFrom 1 given.read.blocks }
-    ensures replies { IfOk result (RepliesNodes look.now (length given.arrivals) given.app.app given.read.blocks given.read.fault) }
+    ensures replies { IfOk result (RepliesNodes look.now (length given.arrivals) given.app.app given.read.blocks given.arrivals given.read.fault) }
     ensures kind { IfOk result (λ reply. is_answer reply.status ≡ true) }
 {
     let Given {
@@ -151,11 +152,11 @@ fn run_nodes<R: Threads + Wait + Sync, G: Gate>(
     given: Given,
     gate: &G,
 ) -> Result<Reply, NoMemory>
-    requires nodes { (1 ≤ asked.now.nodes) × (asked.now.nodes ≤ 8) }
-    requires executors { executors ≤ 16 }
+    requires nodes { (1 ≤ asked.now.nodes) × (asked.now.nodes ≤ most_nodes) }
+    requires executors { executors ≤ most_executors }
     requires all { length given.arrivals ≡ asked.now.nodes }
     requires numbered { NumberedFrom 1 given.read.blocks }
-    ensures replies { IfOk result (RepliesNodes look.now asked.now.nodes given.app.app given.read.blocks given.read.fault) }
+    ensures replies { IfOk result (RepliesNodes look.now asked.now.nodes given.app.app given.read.blocks given.arrivals given.read.fault) }
     ensures kind { IfOk result (λ reply. is_answer reply.status ≡ true) }
 {
     if runs_alone(asked, executors, look) {
@@ -176,8 +177,8 @@ fn answer_given<R: Threads + Wait + Sync, G: Gate>(
     read: Result<Given, BadSource>,
     gate: &G,
 ) -> Result<Reply, NoMemory>
-    requires nodes { (1 ≤ asked.now.nodes) × (asked.now.nodes ≤ 8) }
-    requires executors { executors ≤ 16 }
+    requires nodes { (1 ≤ asked.now.nodes) × (asked.now.nodes ≤ most_nodes) }
+    requires executors { executors ≤ most_executors }
     requires unscheduled { asked.now.schedule ≡ None }
     requires all { IfOk read (λ given. length given.arrivals ≡ asked.now.nodes) }
     requires numbered { IfOk read (λ given. NumberedFrom 1 given.read.blocks) }
@@ -204,8 +205,8 @@ pub fn answer_run<R: Threads + Wait + Sync, S: Shelf, G: Gate>(
     executors: u32,
     gate: &G,
 ) -> Result<Reply, FilesFault>
-    requires nodes { (1 ≤ asked.now.nodes) × (asked.now.nodes ≤ 8) }
-    requires executors { executors ≤ 16 }
+    requires nodes { (1 ≤ asked.now.nodes) × (asked.now.nodes ≤ most_nodes) }
+    requires executors { executors ≤ most_executors }
     requires unscheduled { asked.now.schedule ≡ None }
     requires allowed { AllowsPlan (sources_plan asked.now) (S.told shelf.old) (S.may_read shelf.old) }
     ensures told { IfOk result (λ reply. IfSome (S.told shelf.old) (λ files. RepliesRun look.now asked.now (accepted (files asked.now.app)) files reply)) }

@@ -141,7 +141,7 @@ module _ {ghosts : Ghosts Core App Entry} (old new : Pass Core App Entry ghosts)
     deliver_has =
         let none = finds_none old new same has.true_to delivery.turn.journal delivery.turn.found has.none in
         let found : World = world (pass_base old) delivery.turn.journal in
-        step_none old new same ask answer has.true_to delivery.turn
+        step_none old new same ask answer has.true_to delivery.turn tt
         (subst (λ (w : World). HoldsNone w (pass_number old)) (sym (step_state old new same ask answer has.true_to delivery.turn (delivers found delivery.shared found.work).1 refl))
         (delivers_none (pass_base old) found (pass_number old) none delivery.shared found.work))
 
@@ -174,7 +174,7 @@ module _ {ghosts : Ghosts Core App Entry} (old new : Pass Core App Entry ghosts)
     commit_has =
         let none = finds_none old new same has.true_to turn.journal turn.found has.none in
         let found : World = world (pass_base old) turn.journal in
-        step_none old new same ToCommit answer has.true_to turn
+        step_none old new same ToCommit answer has.true_to turn tt
         (subst (λ (w : World). HoldsNone w (pass_number old)) (sym (step_state old new same ToCommit answer has.true_to turn (commits (pass_base old) found found.work).1 refl))
         (commits_none (pass_base old) found (pass_number old) none found.work))
 
@@ -191,7 +191,7 @@ module _ {ghosts : Ghosts Core App Entry} (old new : Pass Core App Entry ghosts)
     seal_has =
         let none = finds_none old new same has.true_to turn.journal turn.found has.none in
         let found : World = world (pass_base old) turn.journal in
-        step_none old new same ToSeal answer has.true_to turn
+        step_none old new same ToSeal answer has.true_to turn tt
         (subst (λ (w : World). HoldsNone w (pass_number old)) (sym (step_state old new same ToSeal answer has.true_to turn (seals (pass_base old) found found.work).1 refl))
         (seals_none (pass_base old) found (pass_number old) none found.work))
 

@@ -1,8 +1,9 @@
 -- What a pass tells as its node begins, and as it ends.
-use Rattle.std.proofs.Common.{Err, IfOk, List, Ok, Result, [], ap, length, refl, subst, sym, ◌∙◌, ◌≡◌}
+use Rattle.std.proofs.Common.{Err, IfOk, List, Ok, Result, [], ap, length, refl, subst, sym, ◌∙◌, ◌≡◌, ℕ}
 use Rattle.cluster_run.proofs.Blocks.{none_in}
+use Rattle.cluster_run.specs.Arrivals.{IsFedBy}
 use Rattle.cluster_run.specs.Nodes.{IsNodeOf}
-use Rattle.cluster_run.specs.Standing.{HasNone, delivered_by, in_work, state_seen}
+use Rattle.cluster_run.specs.Standing.{AllBring, HasNone, delivered_by, in_work, state_seen}
 use Rattle.node_core.specs.Core.{Core}
 use Rattle.node_core.specs.Looking.{closed}
 use Rattle.node_model.specs.Fold.{all_rows, fold, node_result, results_of}
@@ -13,6 +14,7 @@ use Rattle.node_model.specs.declared.result.NodeResult.{NodeResult}
 use Rattle.node_shared.specs.Turn.{node_seen}
 use Rattle.proc_syntax.specs.Declaring.{tables_of}
 use Rattle.proc_syntax.specs.declared.call.Block.{Block}
+use Rattle.proc_syntax.specs.declared.call.Tx.{Tx}
 use Rattle.proc_syntax.specs.declared.tree.App.{App}
 use Rattle.rel_base.specs.declared.storied.Storied.{Ghosts}
 use Rattle.schedule_laws.proofs.Asking.{fold_of_own, own_deliveries}
@@ -54,6 +56,17 @@ module _ {ghosts : Ghosts Core App Entry} (pass : Pass Core App Entry ghosts) (z
       replays = subst (EachInOrder (pass_base pass) (delivered_by pass)) (sym (ap (λ (one : NodeResult). one.blocks) (folds made told))) (results_run (pass_base pass) (delivered_by pass) numbered);
     }
     closed_node (Err refused) numbered is = tt
+
+-- the journal that is told is what the pass has seen
+pub journal_seen : {ghosts : Ghosts Core App Entry} {M : Type 0} (pass : Pass Core App Entry ghosts) (core : Core) → core ≡ node_seen pass → (r : Result NodeResult M) → IfOk r (λ made. made ≡ closed core) → IfOk r (λ made. made.journal ≡ seen pass)
+journal_seen pass core same (Ok made) is = ap (λ (one : NodeResult). one.journal) is ∙ ap (λ (one : Core). one.journal) same
+journal_seen pass core same (Err refused) is = tt
+
+-- what is told of arrivals for every list is told of one
+pub fed_of : {ghosts : Ghosts Core App Entry} {M : Type 0} (pass : Pass Core App Entry ghosts) (executors : ℕ) (handed : List Tx) → AllBring executors handed pass → (r : Result NodeResult M)
+    → IfOk r (λ told. (n : ℕ) (txs : List Tx) → AllBring n txs pass → IsFedBy told txs) → IfOk r (λ told. IsFedBy told handed)
+fed_of pass executors handed bring (Ok told) fed = fed executors handed bring
+fed_of pass executors handed bring (Err refused) fed = tt
 
 -- what is reported of blocks is reported of those that they are
 pub node_of_same : {M : Type 0} (base app : App) (given blocks : List Block) (r : Result NodeResult M) → base ≡ app → given ≡ blocks → IfOk r (IsNodeOf base given) → IfOk r (IsNodeOf app blocks)

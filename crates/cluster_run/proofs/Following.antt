@@ -18,6 +18,7 @@ module _ {ghosts : Ghosts Core App Entry} where
     same_base = then.same_base ∙ first.same_base;
     same_made = then.same_made ∙ first.same_made;
     same_left = then.same_left ∙ first.same_left;
+    same_joined = then.same_joined ∙ first.same_joined;
   }
 
   pub comes_then : {one two three : Pass Core App Entry ghosts} {work : Option InHand} → IsSamePass one two → Comes two three work → Comes one three work
@@ -58,7 +59,7 @@ module _ {ghosts : Ghosts Core App Entry} where
   -- before the first of them
 
   pub same_self : (pass : Pass Core App Entry ghosts) → IsSamePass pass pass
-  same_self pass = record { same_lock = refl; same_number = refl; same_base = refl; same_made = refl; same_left = refl }
+  same_self pass = record { same_lock = refl; same_number = refl; same_base = refl; same_made = refl; same_left = refl; same_joined = refl }
 
   pub blocks_self : (pass : Pass Core App Entry ghosts) → SameBlocks pass pass
   blocks_self pass = record { delivered_same = refl; in_work_same = refl }

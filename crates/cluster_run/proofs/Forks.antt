@@ -4,6 +4,7 @@ use Rattle.std.proofs.lemmas.List.Elements.{All-append, All-cons, All-nil}
 use Rattle.std.proofs.lemmas.Option.{none-some}
 use mathlib.Core.List.{IsPrefix}
 use Rattle.cluster_run.proofs.Following.{holder_goes}
+use Rattle.cluster_run.specs.Arrivals.{arrived}
 use Rattle.cluster_run.specs.Standing.{HasNone, SameBlocks, state_seen}
 use Rattle.node_core.specs.Core.{Core}
 use Rattle.node_model.specs.Journals.{IsLegal, delivered, world}
@@ -58,6 +59,7 @@ module _ {ghosts : Ghosts Core App Entry} where
       true_to = record {
         legal = subst (λ (a : App). IsLegal a (seen new)) (sym same.same_base) found.legal;
         own = subst (λ n. entries_by n (seen new) ≡ mine new) (sym same.same_number) (found.own ∙ sym mine_same);
+        brought = ap arrived mine_same ∙ has.true_to.brought;
       };
       none = subst (HoldsNone (state_seen new)) (sym same.same_number) (subst (λ (w : World). HoldsNone w (pass_number old)) (sym state_is) none_there);
     }
@@ -90,7 +92,7 @@ module _ {ghosts : Ghosts Core App Entry} where
       let legal : IsLegal (pass_base other) (seen other) =
       subst (λ (a : App). IsLegal a (seen other)) (sym new.base_is) (subst (IsLegal (pass_base old)) (sym new.seen_is) has.true_to.legal) in
       record {
-        true_to = record { legal = legal; own = own };
+        true_to = record { legal = legal; own = own; brought = ap arrived new.none_mine };
         none = quiet_none (pass_base other) (seen other) (pass_number other) legal (own ∙ new.none_mine);
       }
 

@@ -93,7 +93,7 @@ module _ {ghosts : Ghosts Core App Entry} (old new : Pass Core App Entry ghosts)
         let none = finds_none old new same has.true_to turn.journal turn.found has.none in
         let is = none_claimed (chosen (pass_base old) (world_of (record { app = pass_base old; journal = turn.journal })) pick) (answer_is old new same (ToClaim pick) steps.NoJob has.true_to turn) in
         let state = step_state old new same (ToClaim pick) steps.NoJob has.true_to turn None (ap (λ (o : Option ℕ). (claims o).1) is) in
-        step_none old new same (ToClaim pick) steps.NoJob has.true_to turn (subst (λ (w : World). HoldsNone w (pass_number old)) (sym state) none)
+        step_none old new same (ToClaim pick) steps.NoJob has.true_to turn tt (subst (λ (w : World). HoldsNone w (pass_number old)) (sym state) none)
 
     claimed_work : (work : InHand) → IsTurn old new (ToClaim pick) (steps.Claimed work.job) → IsHeld (node_seen new) work → IsClaimed (pass_number old) work → HasWork new work
     claimed_work work turn held fresh =
@@ -101,7 +101,7 @@ module _ {ghosts : Ghosts Core App Entry} (old new : Pass Core App Entry ghosts)
         let none = finds_none old new same has.true_to turn.journal turn.found has.none in
         let is = claimed_is (chosen (pass_base old) found pick) work.job (answer_is old new same (ToClaim pick) (steps.Claimed work.job) has.true_to turn) in
         let state = step_state old new same (ToClaim pick) (steps.Claimed work.job) has.true_to turn (Some (event_of.Claim work.job)) (ap (λ (o : Option ℕ). (claims o).1) is) in
-        step_job old new same (ToClaim pick) (steps.Claimed work.job) has.true_to turn work fresh.actor_is held
+        step_job old new same (ToClaim pick) (steps.Claimed work.job) has.true_to turn tt work fresh.actor_is held
         (subst (λ (w : World). HoldsOnly w (pass_number old) work.job) (sym state)
         (only_changed found.jobs (pass_number old) work.job (claimed (pass_number old)) (λ number job holds. absurd (none number job holds))))
         (λ gone. absurd (false≢true (sym fresh.not_gone ∙ gone)))
@@ -149,7 +149,7 @@ module _ {ghosts : Ghosts Core App Entry} (old new : Pass Core App Entry ghosts)
           let o : Option ℕ = settled_in work.told.tx.id found.sealed in
           let state = step_state old new same (ToRead work.job) (got_as got) has.true_to turn (reads_unless (pass_base old) found work.job (job_in work) o).1
           (ap (λ (job : Option Job). (reads (pass_base old) found work.job job).1) held_then.holds.stands) in
-          step_job old new same (ToRead work.job) (got_as got) has.true_to turn work' (answered.actor ∙ has.actor) held
+          step_job old new same (ToRead work.job) (got_as got) has.true_to turn tt work' (answered.actor ∙ has.actor) held
           (subst (HoldsOnly (state_seen new) (pass_number old)) (sym answered.job) (subst (λ (w : World). HoldsOnly w (pass_number old) work.job) (sym state) (only_read o)))
           (read_settled work' held answered)
 
@@ -159,7 +159,7 @@ module _ {ghosts : Ghosts Core App Entry} (old new : Pass Core App Entry ghosts)
         let found : World = world_of (record { app = pass_base old; journal = turn.journal }) in
         let held_then = finds_held old new same has.true_to turn.journal turn.found work has.actor has.held in
         let state = step_state old new same (ToFinish work.job) answer has.true_to turn (Some (event_of.Finish work.job)) (ap (λ (job : Option Job). (finishes found work.job job).1) held_then.holds.stands) in
-        step_none old new same (ToFinish work.job) answer has.true_to turn (subst (λ (w : World). HoldsNone w (pass_number old)) (sym state)
+        step_none old new same (ToFinish work.job) answer has.true_to turn tt (subst (λ (w : World). HoldsNone w (pass_number old)) (sym state)
         (lets_go found.jobs (pass_number old) work.job (finished (pass_base old) found.sealed) (job_in work) held_then.holds.stands
         (cond_held (pass_number old) (is_settled work.told.tx.id found.sealed) (dropped (job_in work)) (record { tx = work.told.tx; status = Done; recorded = ended (job_in work).recorded (run_at (pass_base old) found.sealed work.told.tx) })
         (λ e. false≢true (ap is_held e)) (λ e. false≢true (ap is_held e)))
@@ -181,7 +181,7 @@ module _ {ghosts : Ghosts Core App Entry} (old new : Pass Core App Entry ghosts)
         let found : World = world_of (record { app = pass_base old; journal = turn.journal }) in
         let held_then = finds_held old new same has.true_to turn.journal turn.found work has.actor has.held in
         let state = step_state old new same (ToRelease work.job) answer has.true_to turn (Some (event_of.Release work.job)) refl in
-        step_none old new same (ToRelease work.job) answer has.true_to turn (subst (λ (w : World). HoldsNone w (pass_number old)) (sym state)
+        step_none old new same (ToRelease work.job) answer has.true_to turn tt (subst (λ (w : World). HoldsNone w (pass_number old)) (sym state)
         (lets_go found.jobs (pass_number old) work.job (released found.sealed) (job_in work) held_then.holds.stands
         (cond_held (pass_number old) (is_settled work.told.tx.id found.sealed) (dropped (job_in work)) (new_job work.told.tx) (λ e. false≢true (ap is_held e)) (λ e. false≢true (ap is_held e)))
         (finds_only old new same has.true_to turn.journal turn.found work.job has.only)))

@@ -1,3 +1,4 @@
+pub mod Arriving
 pub mod Turning
 pub mod Hands
 pub mod Quiet

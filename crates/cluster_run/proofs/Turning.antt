@@ -2,6 +2,8 @@
 use Rattle.std.proofs.Common.{Bool, List, Option, Some, [], ap, cond, false, find, refl, subst, sym, true, ◌++◌, ◌∙◌, ◌≡◌, ◌∷◌, ℕ}
 use Rattle.std.proofs.lemmas.Bool.{false≢true}
 use Rattle.std.specs.Option.{is_some, option_map}
+use Rattle.cluster_run.proofs.Arriving.{BringsNone, arrived-append, brings_none}
+use Rattle.cluster_run.specs.Arrivals.{arrived}
 use Rattle.cluster_run.specs.Standing.{HasNone, HasWork, HoldsOnly, IsTrue, SameBlocks, delivered_by, state_seen}
 use Rattle.node_core.proofs.Journal.{world_grown}
 use Rattle.node_core.specs.Core.{Core, IsHeld, entries_for}
@@ -15,6 +17,7 @@ use Rattle.node_model.specs.declared.journal.Entry.{Entry}
 use Rattle.node_model.specs.declared.journal.Event.{Event}
 use Rattle.node_shared.proofs.Turns.{all_own, found_held, turns_find_own}
 use Rattle.node_shared.specs.Turn.{IsFound, IsLook, IsTurn, node_seen}
+use Rattle.proc_syntax.specs.declared.call.Tx.{Tx}
 use Rattle.proc_syntax.specs.declared.tree.App.{App}
 use Rattle.rel_base.proofs.Stories.{entries_grown}
 use Rattle.rel_base.specs.declared.storied.Storied.{Ghosts}
@@ -78,6 +81,7 @@ module _ {ghosts : Ghosts Core App Entry} (old new : Pass Core App Entry ghosts)
     look_true = record {
       legal = subst (λ (a : App). IsLegal a (seen new)) (sym app_new) look.found.legal;
       own = subst (λ n. entries_by n (seen new) ≡ mine new) (sym same.same_number) (look.found.own ∙ sym look.same);
+      brought = ap arrived look.same ∙ was.brought;
     }
 
     look_state : state_seen new ≡ world (pass_base old) (seen new)
@@ -114,11 +118,13 @@ module _ {ghosts : Ghosts Core App Entry} (old new : Pass Core App Entry ghosts)
     seen_is : seen new ≡ turn.journal ++ entries_for (pass_number old) event
     seen_is = ap (λ (p : Answer × Core). p.1.journal) turn.step
 
-    pub step_true : IsTrue new
-    step_true = record {
+    pub step_true : BringsNone ask → IsTrue new
+    step_true none = record {
       legal = subst (λ (a : App). IsLegal a (seen new)) (sym same.same_base) turn.legal;
       own = subst (λ n. entries_by n (seen new) ≡ mine new) (sym same.same_number)
           (entries_grown (λ (entry : Entry). entry.actor) (pass_number old) turn.journal (entries_for (pass_number old) event) (mine old) (seen new) seen_is (all_own (pass_number old) event) turn.found.own ∙ sym turn.own);
+      brought = ap arrived turn.own ∙ (arrived-append (mine old) (entries_for (pass_number old) event)
+          ∙ (ap (λ (txs : List Tx). txs ++ arrived (entries_for (pass_number old) event)) was.brought ∙ brings_none (pass_base old) at (pass_number old) ask none));
     }
 
     -- the state after it
@@ -135,9 +141,9 @@ module _ {ghosts : Ghosts Core App Entry} (old new : Pass Core App Entry ghosts)
     pub at_work : pass_number old ≡ 0 → at.work ≡ (state_seen old).work
     at_work zero = (found_later was turn.journal turn.found).own_work zero
 
-    pub step_none : HoldsNone (state_seen new) (pass_number old) → HasNone new
-    step_none none = none_new step_true none
+    pub step_none : BringsNone ask → HoldsNone (state_seen new) (pass_number old) → HasNone new
+    step_none quiet none = none_new (step_true quiet) none
 
-    pub step_job : (work : InHand) → work.actor ≡ pass_number old → IsHeld (node_seen new) work → HoldsOnly (state_seen new) (pass_number old) work.job
+    pub step_job : BringsNone ask → (work : InHand) → work.actor ≡ pass_number old → IsHeld (node_seen new) work → HoldsOnly (state_seen new) (pass_number old) work.job
         → (work.gone ≡ true → is_settled work.told.tx.id (state_seen new).sealed ≡ true) → HasWork new work
-    step_job work actor held only settled = work_new work step_true actor held only settled
+    step_job quiet work actor held only settled = work_new work (step_true quiet) actor held only settled

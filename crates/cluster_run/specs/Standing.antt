@@ -1,4 +1,5 @@
 -- What a pass tells between two of its turns.
+use Rattle.cluster_run.specs.Arrivals.{IsSubsequence, arrived}
 use Rattle.node_core.specs.Core.{Core, IsHeld, world_of}
 use Rattle.node_core.specs.InHand.{InHand}
 use Rattle.node_core.specs.declared.answers.Decided.TheVariants as decided
@@ -11,15 +12,22 @@ use Rattle.node_model.specs.declared.journal.Entry.{Entry}
 use Rattle.node_model.specs.declared.journal.Pick.{Pick}
 use Rattle.node_shared.specs.Turn.{node_seen}
 use Rattle.proc_syntax.specs.declared.call.Block.{Block}
+use Rattle.proc_syntax.specs.declared.call.Tx.{Tx}
 use Rattle.proc_syntax.specs.declared.tree.App.{App}
 use Rattle.rel_base.specs.declared.storied.Storied.{Ghosts}
 use Rattle.schedule_laws.specs.Scheduled.{block_in}
 use Rattle.schedule_laws.specs.Stable.{entries_by}
 use Rattle.std.specs.Option.{option_and_then}
-use Rattle.std.specs.Prelude.{Bool, Err, List, None, Ok, Option, Result, Some, [], false, true, ◌≡◌, ◌⊎◌, ℕ}
-use Rattle.turn_lock.specs.Passes.{HoldsNoTurn, IsPassOf, IsSameHolder, IsSamePass, left, mine, pass_base, pass_number, seen}
+use Rattle.std.specs.Prelude.{Bool, Err, List, None, Ok, Option, Result, Some, [], false, true, ◌+◌, ◌≡◌, ◌≢◌, ◌⊎◌, ℕ}
+use Rattle.turn_lock.specs.Ledger.{made_by}
+use Rattle.turn_lock.specs.Passes.{HoldsNoTurn, IsPassOf, IsSameHolder, IsSamePass, joined, left, mine, pass_base, pass_number, seen}
 use Rattle.turn_lock.specs.declared.lock.TurnLock.{TurnLock}
 use Rattle.turn_lock.specs.declared.pass.Pass.{Pass}
+
+-- What an actor may have brought, by its entries: it comes of what was handed to the node, in that order, and is nothing but for the actor that comes after the executors.
+pub record Brings (executors : ℕ) (handed : List Tx) (actor : ℕ) (entries : List Entry) : Type 0 where
+  pub in_order : IsSubsequence (arrived entries) handed
+  pub others : actor ≢ executors + 1 → arrived entries ≡ []
 
 -- an actor holds no job but one
 abbrev pub HoldsOnly : World → ℕ → ℕ → Type 0
@@ -32,10 +40,11 @@ module _ {ghosts : Ghosts Core App Entry} where
 
   -- ---- what it has in hand
 
-  -- what it has seen is a journal that steps can make, and its own entries there are those that it made
+  -- what it has seen is a journal that steps can make, its own entries there are those that it made, and none of them is an arrival
   pub record IsTrue (pass : Pass Core App Entry ghosts) : Type 0 where
     pub legal : IsLegal (pass_base pass) (seen pass)
     pub own : entries_by (pass_number pass) (seen pass) ≡ mine pass
+    pub brought : arrived (mine pass) ≡ []
 
   -- its actor holds no job
   pub record HasNone (pass : Pass Core App Entry ghosts) : Type 0 where
@@ -123,6 +132,10 @@ module _ {ghosts : Ghosts Core App Entry} where
     pub no_turn : HoldsNoTurn new
     pub hand : HasNone new
     pub blocks : SameBlocks old new
+
+  -- each pass that was joined has brought no more than its actor may
+  abbrev pub AllBring : (executors : ℕ) → List Tx → Pass Core App Entry ghosts → Type 0
+  AllBring executors handed pass = (actor : ℕ) → Brings executors handed actor (made_by actor (joined pass))
 
   -- the processor's pass, once no other is left, after it has processed these blocks of a node of this application
   pub record HasProcessed (turns : TurnLock Core App Entry) (app : App) (blocks : List Block) (pass : Pass Core App Entry ghosts) : Type 0 where

@@ -1,8 +1,10 @@
 //! Several nodes over the same blocks.
 
-ghost use Rattle.std.specs.Prelude.{◌≡◌, ◌≤◌, ◌<◌, All, IfOk, length};
+ghost use Rattle.std.specs.Prelude.{◌≡◌, ◌≤◌, ◌<◌, All, IfOk, [], length, slice_index_or};
+ghost use Rattle.cluster_run.specs.Arrivals.{AreFedBy, IsFedBy};
 ghost use Rattle.cluster_run.specs.Nodes.{IsNodeOf};
 ghost use Rattle.serial_laws.specs.Chained.{AreNumbered};
+ghost use Rattle.proc_syntax.specs.Limits.{most_executors, most_nodes};
 
 use crate::crew::Crew;
 use crate::gate::Gate;
@@ -29,14 +31,16 @@ pub fn run_cluster<V: Versions + Send, G: Gate, R: Threads + Wait + Sync>(
     gate: &G,
 ) -> Result<List<NodeResult>, NoMemory>
     requires numbered { AreNumbered 1 blocks.now }
-    requires nodes { (0 < length arrivals.now) × (length arrivals.now ≤ 8) }
-    requires few { executors ≤ 16 }
+    requires nodes { (0 < length arrivals.now) × (length arrivals.now ≤ most_nodes) }
+    requires few { executors ≤ most_executors }
     ensures counted { IfOk result (λ nodes. length nodes ≡ length arrivals.now) }
     ensures each { IfOk result (λ nodes. All (IsNodeOf app.now.value.app blocks.now) nodes) }
+    ensures fed { IfOk result (λ nodes. AreFedBy nodes arrivals.now) }
 {
     let run = move |i: usize| -> Result<NodeResult, NoMemory>
-        requires { (i < length arrivals.now) × (length arrivals.now ≤ 8) × AreNumbered 1 blocks.now × (executors ≤ 16) }
-        ensures { IfOk result (IsNodeOf app.entry.now.value.app blocks.entry.now) }
+        requires { (i < length arrivals.now) × (length arrivals.now ≤ most_nodes) × AreNumbered 1 blocks.now × (executors ≤ most_executors) }
+        ensures node { IfOk result (IsNodeOf app.entry.now.value.app blocks.entry.now) }
+        ensures fed { IfOk result (λ told. IsFedBy told (slice_index_or arrivals.entry.now i [])) }
     {
         let crew = Crew::new(
             i as u32 + 1,

@@ -1,6 +1,7 @@
 //! What the actors of a node share beside it.
 
-ghost use Rattle.std.specs.Prelude.{◌≡◌, ◌≤◌};
+ghost use Rattle.std.specs.Prelude.{◌+◌, ◌==◌, ◌≡◌, ◌≤◌};
+ghost use Rattle.proc_syntax.specs.Limits.{most_executors};
 
 use crate::bell::Bell;
 use crate::gate::{Gate, Point};
@@ -35,8 +36,11 @@ impl<'a, G: Gate> Crew<'a, G> {
         arrivals: &'a [Tx],
         gate: &'a G,
     ) -> Crew<'a, G>
+        ensures number { result.number ≡ number }
         ensures executors { result.executors ≡ executors }
         ensures blocks { result.blocks.now ≡ blocks.now }
+        ensures arrivals { result.arrivals.now ≡ arrivals.now }
+        ensures gate { result.gate.now ≡ gate.now }
     {
         Crew {
             number,
@@ -51,14 +55,22 @@ impl<'a, G: Gate> Crew<'a, G> {
 
     /// How many run beside the processor: nobody feeds a node at which nothing arrives.
     pub fn beside(&self) -> u32
-        requires few { self.now.executors ≤ 16 }
-        ensures { result ≤ 17 }
+        requires few { self.now.executors ≤ most_executors }
+        ensures { result ≤ most_executors + 1 }
     {
         if self.arrivals.is_empty() {
             self.executors
         } else {
             self.executors + 1
         }
+    }
+
+    /// Whether an actor is the one that makes the arrivals.
+    pub fn feeds(&self, actor: u32) -> bool
+        requires few { self.now.executors ≤ most_executors }
+        ensures { result ≡ (actor == self.now.executors + 1) }
+    {
+        actor == self.executors + 1
     }
 
     /// An actor comes to a point of a job.

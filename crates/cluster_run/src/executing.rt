@@ -1,14 +1,18 @@
 //! Actors beside the processor: executors, and the one that makes the arrivals.
 
-ghost use Rattle.std.specs.Prelude.{◌≡◌, None};
-ghost use Rattle.cluster_run.specs.Standing.{Comes, Stands};
-ghost use Rattle.turn_lock.specs.Passes.{HoldsNoTurn, IsIdle, IsSamePass};
+ghost use Rattle.std.specs.Prelude.{◌≡◌, ◌≤◌, ◌++◌, ◌∷◌, List, None, []};
+ghost use Rattle.cluster_run.specs.Arrivals.{IsSubsequence, arrived};
+ghost use Rattle.cluster_run.specs.Standing.{Brings, Comes, Stands};
+ghost use Rattle.proc_syntax.specs.declared.call.Tx.{Tx};
+ghost use Rattle.turn_lock.specs.Passes.{HoldsNoTurn, IsIdle, IsSamePass, mine, pass_number};
+ghost use Rattle.proc_syntax.specs.Limits.{most_executors};
 
 use crate::crew::Crew;
 use crate::gate::Gate;
 use crate::running_jobs::run_one;
 use node_model::Pick;
 use node_shared::{NodePass, SharedNode};
+use proc_syntax::Tx;
 use rel_base::NoMemory;
 use row_sets::Versions;
 use std::sync::Wait;
@@ -59,6 +63,25 @@ pub fn execute<V: Versions, G: Gate, R: Wait>(
     unreachable!()
 }
 
+// One transaction arrives, unless the flag is set. Answers whether it was made to arrive.
+fn bring<V: Versions, R: Wait>(
+    rt: &R,
+    node: &SharedNode<V>,
+    stopped: &AtomicBool,
+    pass: &mut NodePass<V>,
+    tx: &Tx,
+) -> bool
+    requires idle { IsIdle node.now.lock pass.old }
+    ensures same { IsSamePass pass.old pass.new }
+    ensures no_turn { HoldsNoTurn pass.new }
+    ensures in_order { (front : List Tx) → IsSubsequence (arrived (mine pass.old)) front → IsSubsequence (arrived (mine pass.new)) (front ++ tx.now ∷ []) }
+{
+    if stopped.load(Ordering::SeqCst) {
+        return false;
+    }
+    node.arrive(rt, pass, tx).is_ok()
+}
+
 /// Makes the arrivals in order, until the flag is set or memory runs out. The bell is rung now and then, and at the end.
 pub fn feed<V: Versions, G: Gate, R: Wait>(
     rt: &R,
@@ -68,12 +91,14 @@ pub fn feed<V: Versions, G: Gate, R: Wait>(
     mut pass: NodePass<V>,
 ) -> NodePass<V>
     requires idle { IsIdle node.now.lock pass }
+    requires new { arrived (mine pass) ≡ [] }
     ensures same { IsSamePass pass result }
     ensures no_turn { HoldsNoTurn result }
+    ensures in_order { IsSubsequence (arrived (mine result)) crew.now.arrivals.now }
 {
     let mut made: u32 = 0;
     for tx in crew.arrivals {
-        if stopped.load(Ordering::SeqCst) || node.arrive(rt, &mut pass, tx).is_err() {
+        if !bring(rt, node, stopped, &mut pass, tx) {
             crew.bell.ring();
             return pass;
         }
@@ -86,20 +111,21 @@ pub fn feed<V: Versions, G: Gate, R: Wait>(
     pass
 }
 
-/// What an actor beside the processor does: it feeds the node, or it executes.
+/// What an actor beside the processor does: the one after the executors feeds the node, and they execute.
 pub fn act<V: Versions, G: Gate, R: Wait>(
     rt: &R,
     node: &SharedNode<V>,
     crew: &Crew<'_, G>,
     stopped: &AtomicBool,
-    feeds: bool,
     pass: NodePass<V>,
 ) -> NodePass<V>
     requires stands { Stands node.now.lock pass None }
+    requires few { crew.now.executors ≤ most_executors }
     ensures same { IsSamePass pass result }
     ensures no_turn { HoldsNoTurn result }
+    ensures brings { Brings crew.now.executors crew.now.arrivals.now (pass_number result) (mine result) }
 {
-    if feeds {
+    if crew.feeds(pass.number()) {
         feed(rt, node, crew, stopped, pass)
     } else {
         execute(rt, node, crew, stopped, pass)

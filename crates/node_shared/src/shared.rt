@@ -1,9 +1,10 @@
 //! The shared node and its passes.
 
-ghost use Rattle.std.specs.Prelude.{◌≡◌, ◌+◌, ◌-◌, ◌<◌, ◌^◌, [], IfOk};
+ghost use Rattle.std.specs.Prelude.{◌≡◌, ◌≢◌, ◌+◌, ◌-◌, ◌<◌, ◌^◌, [], ◌∷◌, IfOk, ℕ};
 ghost use mathlib.Core.List.{IsPrefix};
 ghost use Rattle.schedule_laws.specs.Stable.{entries_by};
-ghost use Rattle.turn_lock.specs.Passes.{HoldsNoTurn, IsNewPass, IsPassOf, IsSameHolder, left, made, mine, pass_base, pass_number, seen};
+ghost use Rattle.turn_lock.specs.Ledger.{made_by};
+ghost use Rattle.turn_lock.specs.Passes.{HoldsNoTurn, IsNewPass, IsPassOf, IsSameHolder, joined, left, made, mine, pass_base, pass_number, seen};
 
 use node_core::NodeCore;
 use rel_base::NoMemory;
@@ -41,12 +42,14 @@ impl<V: Versions> SharedNode<V> {
         ensures same { IsSameHolder pass.old pass.new × HoldsNoTurn pass.new }
         ensures stories { (seen pass.new ≡ seen pass.old) × (mine pass.new ≡ mine pass.old) }
         ensures counts { (made pass.new ≡ made pass.old + 1) × (left pass.new ≡ left pass.old + 1) }
+        ensures ledger { joined pass.new ≡ joined pass.old }
         ensures fresh { IsNewPass self.now.lock result (made pass.old + 1) (pass_base pass.old) (seen pass.old) }
     {
         self.lock.split(pass)
     }
 
-    /// Takes back a pass that was split off. What it had seen, the processor's pass has seen from now on.
+    /// Takes back a pass that was split off. What it had seen, the processor's pass has seen from now on, and what it had made is noted
+    /// under its number.
     pub fn join(&self, pass: &mut NodePass<V>, other: NodePass<V>)
         requires locks { IsPassOf self.now.lock pass.old × IsPassOf self.now.lock other }
         requires processor { pass_number pass.old ≡ 0 }
@@ -56,11 +59,13 @@ impl<V: Versions> SharedNode<V> {
         ensures own { (mine pass.new ≡ mine pass.old) × (entries_by 0 (seen pass.new) ≡ mine pass.new) }
         ensures made { made pass.new ≡ made pass.old }
         ensures left { (0 < left pass.old) × (left pass.new ≡ left pass.old - 1) }
+        ensures ledger { joined pass.new ≡ (pass_number other, mine other) ∷ joined pass.old }
     {
         self.lock.join(pass, other);
     }
 
-    /// Ends the sharing, once each pass that was split off was joined: the node, whose journal is what the pass has seen.
+    /// Ends the sharing, once each pass that was split off was joined: the node, whose journal is what the pass has seen. The entries of each
+    /// actor in it are those that its pass had made when it was joined.
     pub fn close(self, pass: NodePass<V>) -> NodeCore<V>
         requires lock { IsPassOf self.lock pass }
         requires processor { pass_number pass ≡ 0 }
@@ -68,6 +73,7 @@ impl<V: Versions> SharedNode<V> {
         requires joined { left pass ≡ 0 }
         ensures node { result ≡ record { app = pass_base pass; journal = seen pass } }
         ensures own { entries_by 0 (seen pass) ≡ mine pass }
+        ensures others { (number : ℕ) → number ≢ 0 → entries_by number (seen pass) ≡ made_by number (joined pass) }
     {
         self.lock.close(pass)
     }

@@ -13,7 +13,7 @@ use Rattle.turn_lock.specs.declared.rule.View.{View}
 use Rattle.turn_lock.specs.Views.{at_stage}
 use Rattle.turn_lock.specs.Rule.{TurnWord, Fits, Home, TurnRule}
 use Rattle.turn_lock.specs.Steps.{Entering, Marking}
-use Rattle.turn_lock.proofs.Seats.{at_bound, fits_other, each_set, first_set, whole_set, lives_on}
+use Rattle.turn_lock.proofs.Seats.{at_bound, fits_other, each_set, first_set, whole_set, lives_on, ledger_set}
 
 -- a pass that finds the turn taken leaves word 0 as it is
 missed_word : (taken word : ℕ) → 0 < word → either (eqb word 0) taken word ≡ word
@@ -47,6 +47,7 @@ module _ {Value Base Entry : Type 0} (base_of : Value → Base) (story_of : Valu
     held = r.held;
     whole = r.whole;
     first = r.first;
+    ledger = r.ledger;
     others = r.others;
   })
 
@@ -72,6 +73,7 @@ module _ {Value Base Entry : Type 0} (base_of : Value → Base) (story_of : Valu
           held = (new, set_here s.views id new (at_bound s.views id view at), refl);
           whole = whole_set actor r.story s.views id view new at refl refl refl r.whole;
           first = first_set actor s.views id view new at refl refl refl refl r.first;
+          ledger = ledger_set actor r.story r.story s.views id view new at refl refl live (λ _ _. refl) r.ledger;
           others = λ k l. r.others k (omega arith);
         }
 

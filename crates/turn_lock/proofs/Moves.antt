@@ -13,7 +13,7 @@ use Rattle.turn_lock.specs.declared.rule.View.{View}
 use Rattle.turn_lock.specs.Views.{one_if, after_look, at_stage, published_view, looked_view}
 use Rattle.turn_lock.specs.Rule.{TurnWord, KnowsTurn, Fits, Home, TurnRule}
 use Rattle.turn_lock.specs.Steps.{TakingOut, PuttingBack, Publishing, Leaving, ReadingLength}
-use Rattle.turn_lock.proofs.Seats.{at_bound, fits_other, each_set, first_set, first_looked, whole_set, whole_here, some_live, holder_set, knows_idle, lives_on}
+use Rattle.turn_lock.proofs.Seats.{at_bound, fits_other, each_set, first_set, first_looked, whole_set, whole_here, some_live, holder_set, knows_idle, lives_on, ledger_set}
 
 append_cancel : {A : Type 0} (xs ys zs : List A) → xs ++ ys ≡ xs ++ zs → ys ≡ zs
 append_cancel [] ys zs e = e
@@ -58,6 +58,7 @@ module _ {Value Base Entry : Type 0} (base_of : Value → Base) (story_of : Valu
             held = (new, set_here s.views id new (at_bound s.views id view at), refl);
             whole = whole_set actor r.story s.views id view new at refl refl refl r.whole;
             first = first_set actor s.views id view new at refl refl refl refl r.first;
+            ledger = ledger_set actor r.story r.story s.views id view new at refl refl live (λ _ _. refl) r.ledger;
             others = λ j l. r.others j (omega arith);
           },
           record { value = home.0; slots = refl; view = refl; story = home.2 ∙ sym k.3; base = own.base_is ∙ ap Some (sym home.3) },
@@ -92,6 +93,7 @@ module _ {Value Base Entry : Type 0} (base_of : Value → Base) (story_of : Valu
             held = (new, set_here s.views id new (at_bound s.views id view at), refl);
             whole = whole_set actor r.story s.views id view new at refl refl refl r.whole;
             first = first_set actor s.views id view new at refl refl refl refl r.first;
+            ledger = ledger_set actor r.story r.story s.views id view new at refl refl live (λ _ _. refl) r.ledger;
             others = λ j l. r.others j (omega arith);
           },
           record { slots = refl; view = refl },
@@ -138,6 +140,7 @@ module _ {Value Base Entry : Type 0} (base_of : Value → Base) (story_of : Valu
             held = (new, set_here s.views id new inside, out);
             whole = whole_here actor story' s.views id new inside live refl;
             first = first_set actor s.views id view new at refl refl refl refl r.first;
+            ledger = ledger_set actor r.story story' s.views id view new at refl refl live theirs r.ledger;
             others = λ j l. theirs j (λ e. absurd (omega arith)) ∙ r.others j (omega arith);
           },
           λ other others hand' grown'.
@@ -172,6 +175,7 @@ module _ {Value Base Entry : Type 0} (base_of : Value → Base) (story_of : Valu
             held = tt;
             whole = whole_set actor r.story s.views id view new at refl refl refl r.whole;
             first = first_set actor s.views id view new at refl refl refl refl r.first;
+            ledger = ledger_set actor r.story r.story s.views id view new at refl refl live (λ _ _. refl) r.ledger;
             others = λ j l. r.others j (omega arith);
           },
           record { slots = refl; view = refl },
@@ -231,6 +235,7 @@ module _ {Value Base Entry : Type 0} (base_of : Value → Base) (story_of : Valu
             held = holder_set actor r.holder s.views id view new at (still ∙ sym idle) r.stage r.held;
             whole = whole_here actor r.story s.views id new (at_bound s.views id view at) live refl;
             first = first_looked actor s.views id view new at refl live refl refl refl r.first;
+            ledger = ledger_set actor r.story r.story s.views id view new at refl refl live (λ _ _. refl) r.ledger;
             others = λ k l. r.others k (omega arith);
           },
           look_tells s r live at,
@@ -269,6 +274,7 @@ module _ {Value Base Entry : Type 0} (base_of : Value → Base) (story_of : Valu
             held = (new, set_here s.views id new (at_bound s.views id view at), ready);
             whole = whole_here actor r.story s.views id new (at_bound s.views id view at) live refl;
             first = first_looked actor s.views id view new at refl live refl refl refl r.first;
+            ledger = ledger_set actor r.story r.story s.views id view new at refl refl live (λ _ _. refl) r.ledger;
             others = λ j l. r.others j (omega arith);
           },
           look_tells s r live at,

@@ -1,7 +1,7 @@
 -- The views of all passes, where the view of one of them changes, or where one more is added.
-use Rattle.std.proofs.Common.{◌≡◌, ◌≢◌, ◌⊎◌, ℕ, zero, suc, ◌+◌, ◌-◌, ◌<◌, true, false, List, [], ◌∷◌, ◌++◌, length, set, refl, sym, ap, ◌∙◌, subst, inl, inr, ⊎_elim, arith, length-set}
+use Rattle.std.proofs.Common.{◌≡◌, ◌≢◌, ◌⊎◌, ℕ, zero, suc, ◌+◌, ◌-◌, ◌<◌, ◌≤◌, true, false, true≢false, List, [], ◌∷◌, ◌++◌, length, set, length-append, refl, sym, ap, ◌∙◌, subst, inl, inr, ⊎_elim, arith, length-set}
 use mathlib.Core.Logic.{dite}
-use mathlib.Core.Option.{some, some-injective, some-ne-none}
+use mathlib.Core.Option.{none, some, some-injective, some-ne-none}
 use mathlib.Core.List.{IsPrefix}
 use native.Mathlib.Decide.{ℕ_discrete}
 use lib.ListN.{get_elem?}
@@ -11,14 +11,21 @@ use Rattle.rel_base.proofs.Stories.{prefix_trans, prefix_of_nil}
 use Rattle.turn_lock.specs.declared.rule.Stage.{Stage}
 use Rattle.turn_lock.specs.declared.rule.Stage.TheVariants.{Idle, Entered, Ready, Out}
 use Rattle.turn_lock.specs.declared.rule.View.{View}
+use Rattle.turn_lock.specs.Ledger.{Ledger}
 use Rattle.turn_lock.specs.Views.{one_if, at_stage}
-use Rattle.turn_lock.specs.Rule.{KnowsTurn, Lives, Fits, HasHolder, Whole, First, count_live}
+use Rattle.turn_lock.specs.Rule.{KnowsTurn, Lives, Fits, HasHolder, Whole, First, IsKept, HasLedger, count_live}
 
 -- a place that has an element is below the length
 pub at_bound : {A : Type 0} (l : List A) (i : ℕ) (a : A) → get_elem? l i ≡ some a → i < length l
 at_bound [] i a e = absurd (some-ne-none a (sym e))
 at_bound (x ∷ xs) zero a e = omega arith
 at_bound (x ∷ xs) (suc i) a e = let h = at_bound xs i a e in omega arith
+
+-- and one that has none is not
+pub at_none : {A : Type 0} (l : List A) (i : ℕ) → get_elem? l i ≡ none → length l ≤ i
+at_none [] i e = omega arith
+at_none (x ∷ xs) zero e = absurd (some-ne-none x e)
+at_none (x ∷ xs) (suc i) e = let h = at_none xs i e in omega arith
 
 -- an element of a list that was lengthened by one is one of the old list, or the last
 pub at_end : {A : Type 0} (l : List A) (a b : A) (j : ℕ) → get_elem? (l ++ a ∷ []) j ≡ some b → (get_elem? l j ≡ some b) ⊎ ((length l ≡ j) × (a ≡ b))
@@ -196,3 +203,34 @@ module _ {Base Entry : Type 0} (actor : Entry → ℕ) where
   -- what a pass shows stays, where it comes to another stage of its turn
   pub lives_on : (id : ℕ) (view : View Base Entry) (base : Base) (story : List Entry) (stage : Stage) → Lives actor base story id view → Lives actor base story id (at_stage stage view)
   lives_on id view base story stage own = record { number_is = own.number_is; base_is = own.base_is; all_mine = own.all_mine; all_seen = own.all_seen }
+
+  -- ---- what pass 0 has noted
+
+  kept_set : (story story' : List Entry) (views : List (View Base Entry)) (id : ℕ) (new : View Base Entry) → new.live ≡ true → ((other : ℕ) → other ≢ id → entries_of actor other story' ≡ entries_of actor other story) → (joined : Ledger Entry)
+      → IsKept actor story views joined → IsKept actor story' (set views id new) joined
+  kept_set story story' views id new live same joined kept = record {
+    spent = λ number view at dead. ⊎_elim (λ (t : (number ≡ id) × (new ≡ view)). absurd (true≢false (sym live ∙ (ap (λ (z : View Base Entry). z.live) t.1 ∙ dead))))
+        (λ (t : (number ≢ id) × (get_elem? views number ≡ some view)). same number t.0 ∙ kept.spent number view t.1 dead) (at_set views id number new view at);
+    unused = λ number above. let n = length-set views id new in kept.unused number (omega arith);
+  }
+
+  -- it stays so, where a pass that was not joined changes, and adds none but its own entries
+  pub ledger_set : (story story' : List Entry) (views : List (View Base Entry)) (id : ℕ) (old new : View Base Entry) → get_elem? views id ≡ some old → new.live ≡ old.live → new.joined ≡ old.joined → old.live ≡ true
+      → ((other : ℕ) → other ≢ id → entries_of actor other story' ≡ entries_of actor other story) → HasLedger actor story views → HasLedger actor story' (set views id new)
+  ledger_set story story' views id old new at live joined alive same ledger first there = ⊎_elim
+      (λ (t : (0 ≡ id) × (new ≡ first)). subst (IsKept actor story' (set views id new)) (sym joined ∙ ap (λ (z : View Base Entry). z.joined) t.1)
+      (kept_set story story' views id new (live ∙ alive) same old.joined (ledger old (ap (get_elem? views) t.0 ∙ at))))
+      (λ (t : (0 ≢ id) × (get_elem? views 0 ≡ some first)). kept_set story story' views id new (live ∙ alive) same first.joined (ledger first t.1))
+      (at_set views id 0 new first there)
+
+  kept_snoc : (story : List Entry) (views : List (View Base Entry)) (new : View Base Entry) → new.live ≡ true → (joined : Ledger Entry) → IsKept actor story views joined → IsKept actor story (views ++ new ∷ []) joined
+  kept_snoc story views new live joined kept = record {
+    spent = λ number view at dead. ⊎_elim (λ (t : get_elem? views number ≡ some view). kept.spent number view t dead)
+        (λ (t : (length views ≡ number) × (new ≡ view)). absurd (true≢false (sym live ∙ (ap (λ (z : View Base Entry). z.live) t.1 ∙ dead)))) (at_end views new view number at);
+    unused = λ number above. let n = length-append views (new ∷ []) in kept.unused number (omega arith);
+  }
+
+  -- and where one more pass is split off
+  pub ledger_snoc : (story : List Entry) (views : List (View Base Entry)) (new : View Base Entry) → new.live ≡ true → 0 < length views → HasLedger actor story views → HasLedger actor story (views ++ new ∷ [])
+  ledger_snoc story views new live some_yet ledger first there = ⊎_elim (λ (t : get_elem? views 0 ≡ some first). kept_snoc story views new live first.joined (ledger first t))
+      (λ (t : (length views ≡ 0) × (new ≡ first)). let none_yet = t.0 in absurd (omega arith)) (at_end views new first 0 there)

@@ -2,4 +2,5 @@ pub mod Views
 pub mod Rule
 pub mod Steps
 pub mod Standing
+pub mod Ledger
 pub mod Passes

@@ -2,6 +2,7 @@
 use Rattle.std.specs.Prelude.{◌≡◌, ℕ, List, [], ◌++◌, Option, Some, None, IsSome}
 use Rattle.std.proofs.Common.{sym, true≢false}
 use Rattle.rel_base.specs.declared.storied.Storied.{Ghosts}
+use Rattle.turn_lock.specs.Ledger.{Ledger}
 use Rattle.turn_lock.specs.declared.pass.Pass.{Pass}
 use Rattle.turn_lock.specs.declared.lock.TurnLock.{TurnLock}
 use Rattle.turn_lock.specs.declared.rule.Stage.TheVariants.{Idle, Out}
@@ -51,6 +52,10 @@ module _ {Value Base Entry : Type 0} {ghosts : Ghosts Value Base Entry} where
   abbrev pub left : Pass Value Base Entry ghosts → ℕ
   left pass = pass.seat.me.0.left
 
+  -- of number 0: the passes that it has joined, with what each had made
+  abbrev pub joined : Pass Value Base Entry ghosts → Ledger Entry
+  joined pass = pass.seat.me.0.joined
+
 -- one list of entries gains what another gains
 abbrev pub Gains : {Entry : Type 0} → List Entry → List Entry → List Entry → List Entry → Type 0
 Gains {Entry} story story' own own' = (news : List Entry) → story' ≡ story ++ news → own' ≡ own ++ news
@@ -61,13 +66,14 @@ pub record IsSameHolder {Value Base Entry : Type 0} {ghosts : Ghosts Value Base 
   pub same_number : new.number ≡ old.number
   pub same_base : pass_base new ≡ pass_base old
 
--- and so are the counts of passes that were made and that are left
+-- and so are the counts of passes that were made and that are left, and those that were joined
 pub record IsSamePass {Value Base Entry : Type 0} {ghosts : Ghosts Value Base Entry} (old new : Pass Value Base Entry ghosts) : Type 0 where
   pub same_lock : new.seat.table_id ≡ old.seat.table_id
   pub same_number : new.number ≡ old.number
   pub same_base : pass_base new ≡ pass_base old
   pub same_made : new.seat.me.0.made ≡ old.seat.me.0.made
   pub same_left : new.seat.me.0.left ≡ old.seat.me.0.left
+  pub same_joined : new.seat.me.0.joined ≡ old.seat.me.0.joined
 
 -- a pass that has made nothing yet: of this lock, with this number and base, it has seen this story and has no turn
 pub record IsNewPass {Value Base Entry : Type 0} {ghosts : Ghosts Value Base Entry} (lock : TurnLock Value Base Entry) (pass : Pass Value Base Entry ghosts) (number : ℕ) (base : Base) (story : List Entry) : Type 0 where
@@ -79,3 +85,4 @@ pub record IsNewPass {Value Base Entry : Type 0} {ghosts : Ghosts Value Base Ent
   pub no_turn : pass.seat.me.0.stage ≡ Idle
   pub none_made : pass.seat.me.0.made ≡ 0
   pub none_left : pass.seat.me.0.left ≡ 0
+  pub none_joined : pass.seat.me.0.joined ≡ []

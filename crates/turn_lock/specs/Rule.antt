@@ -1,12 +1,13 @@
 -- The rule of a lock: what holds of its table between any two atomic steps, whoever makes them.
 -- Word 0 is not 0 exactly while a pass has the turn: 1, or 2 where somebody may sleep until it ends. Word 1 is the length of the story. The one slot has the value while nobody has it out. A pass's number is the place of its view.
-use Rattle.std.specs.Prelude.{◌≡◌, ℕ, ◌+◌, ◌<◌, ◌≤◌, ◌⊎◌, true, List, [], ◌∷◌, length, Option, Some}
+use Rattle.std.specs.Prelude.{◌≡◌, ℕ, ◌+◌, ◌<◌, ◌≤◌, ◌⊎◌, true, false, List, [], ◌∷◌, length, Option, Some}
 use mathlib.Core.Option.{none, some}
 use mathlib.Core.Option as maybe
 use mathlib.Core.List.{IsPrefix}
 use lib.ListN.{get_elem?}
 use Rattle.atomic_table.specs.Table.{State}
 use Rattle.rel_base.specs.Stories.{entries_of}
+use Rattle.turn_lock.specs.Ledger.{Ledger, made_by}
 use Rattle.turn_lock.specs.Views.{one_if}
 use Rattle.turn_lock.specs.declared.rule.Stage.{Stage}
 use Rattle.turn_lock.specs.declared.rule.Stage.TheVariants.{Idle, Entered, Ready, Out}
@@ -70,6 +71,14 @@ pub record First {Base Entry : Type 0} (views : List (View Base Entry)) : Type 0
   pub count : length views ≡ view.made + 1
   pub unjoined : count_live views + one_if view.joining ≡ view.left + 1
 
+-- what pass 0 has noted of the passes that it joined: each has in the story the entries that it had made, and of a number that no pass has nothing is noted
+pub record IsKept {Base Entry : Type 0} (actor : Entry → ℕ) (story : List Entry) (views : List (View Base Entry)) (joined : Ledger Entry) : Type 0 where
+  pub spent : (number : ℕ) (view : View Base Entry) → get_elem? views number ≡ some view → view.live ≡ false → entries_of actor number story ≡ made_by number joined
+  pub unused : (number : ℕ) → length views ≤ number → made_by number joined ≡ []
+
+abbrev pub HasLedger : {Base Entry : Type 0} → (Entry → ℕ) → List Entry → List (View Base Entry) → Type 0
+HasLedger {Base} {Entry} actor story views = (first : View Base Entry) → get_elem? views 0 ≡ some first → IsKept actor story views first.joined
+
 -- the slot has a value with the base and the whole story
 abbrev pub InSlot : {Value Base Entry : Type 0} → (Value → Base) → (Value → List Entry) → Base → List Entry → List (maybe.Option (Option Value)) → Type 0
 InSlot {Value} base_of story_of base story homes = (value : Value) × (homes ≡ some (Some value) ∷ []) × (story_of value ≡ story) × (base_of value ≡ base)
@@ -95,4 +104,5 @@ pub record TurnRule {Value Base Entry : Type 0} (base_of : Value → Base) (stor
   pub held : HasHolder holder state.views stage
   pub whole : Whole story state.views
   pub first : First state.views
+  pub ledger : HasLedger actor story state.views
   pub others : (number : ℕ) → length state.views ≤ number → entries_of actor number story ≡ []

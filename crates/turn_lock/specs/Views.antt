@@ -1,5 +1,5 @@
 -- What a pass knows at the start, and after each kind of step.
-use Rattle.std.specs.Prelude.{ℕ, ◌+◌, ◌-◌, Bool, true, false, List, [], Some, None}
+use Rattle.std.specs.Prelude.{ℕ, ◌+◌, ◌-◌, Bool, true, false, List, [], ◌∷◌, Some, None}
 use Rattle.turn_lock.specs.declared.rule.Stage.{Stage}
 use Rattle.turn_lock.specs.declared.rule.Stage.TheVariants.{Idle, Entered, Ready, Out}
 use Rattle.turn_lock.specs.declared.rule.View.{View}
@@ -18,7 +18,7 @@ after_look Out = Out
 
 -- the first pass: number 0, the base of the value, and nothing seen
 abbrev pub first_view : {Base Entry : Type 0} → Base → View Base Entry
-first_view base = record { live = true; number = 0; base = Some base; seen = []; told = []; mine = []; stage = Idle; joining = false; made = 0; left = 0 }
+first_view base = record { live = true; number = 0; base = Some base; seen = []; told = []; mine = []; stage = Idle; joining = false; made = 0; left = 0; joined = [] }
 
 module _ {Base Entry : Type 0} where
   -- the pass comes to another stage of its turn, and knows what it knew
@@ -42,13 +42,13 @@ module _ {Base Entry : Type 0} where
 
   -- the pass that was split off: the next number, what pass 0 has seen, and no entry of its own
   abbrev pub new_view : View Base Entry → View Base Entry
-  new_view view = record { live = true; number = view.made + 1; base = view.base; seen = view.seen; told = []; mine = []; stage = Idle; joining = false; made = 0; left = 0 }
+  new_view view = record { live = true; number = view.made + 1; base = view.base; seen = view.seen; told = []; mine = []; stage = Idle; joining = false; made = 0; left = 0; joined = [] }
 
 module _ {Base Entry : Type 0} where
-  -- pass 0 after it has taken in another, which tells it what it had seen
+  -- pass 0 after it has taken in another, which tells it what it had seen and made
   abbrev pub joined_view : View Base Entry → View Base Entry → View Base Entry
-  joined_view view other = record view { told = other.seen; joining = true }
+  joined_view view other = record view { told = other.seen; joining = true; joined = (other.number, other.mine) ∷ view.joined }
 
   -- what stays of a pass that was joined
   abbrev pub spent_view : View Base Entry
-  spent_view = record { live = false; number = 0; base = None; seen = []; told = []; mine = []; stage = Idle; joining = false; made = 0; left = 0 }
+  spent_view = record { live = false; number = 0; base = None; seen = []; told = []; mine = []; stage = Idle; joining = false; made = 0; left = 0; joined = [] }

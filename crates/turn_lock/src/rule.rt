@@ -38,6 +38,8 @@ pub struct View<B, E> {
     pub made: u32,
     /// Of number 0: how many of these it had not joined when it last looked.
     pub left: u32,
+    /// Of number 0: the number and the entries of each pass that it has joined.
+    pub joined: LinkedList<(u32, LinkedList<E>)>,
 }
 
 /// The table of a lock: word 0 is not 0 while a pass has the turn, word 1 is the length of the story, and the one slot

@@ -8,10 +8,11 @@
 // sleeps, the word is AWAITED, or a `give` that found AWAITED is about to wake one, or a pass that has decided to sleep is
 // awake and on its way to the one or the other; each of the three lasts until the next holds. A pass that has not decided
 // to sleep gets the turn as TAKEN, and only where the word was FREE, so that it never hides an AWAITED.
-ghost use Rattle.std.specs.Prelude.{◌≡◌, ◌+◌, ◌-◌, ◌<◌, ◌^◌, [], ◌++◌, length, Some, IfOk};
+ghost use Rattle.std.specs.Prelude.{◌≡◌, ◌≢◌, ℕ, ◌+◌, ◌-◌, ◌<◌, ◌^◌, [], ◌∷◌, ◌++◌, length, Some, IfOk};
 ghost use mathlib.Core.List.{IsPrefix};
 ghost use Rattle.rel_base.specs.Stories.{entries_of, AddsOwn};
-ghost use Rattle.turn_lock.specs.Passes.{IsPassOf, pass_number, pass_base, seen, mine, HoldsTurn, HoldsNoTurn, made, left, IsSameHolder, IsSamePass, IsNewPass, Gains};
+ghost use Rattle.turn_lock.specs.Ledger.{made_by};
+ghost use Rattle.turn_lock.specs.Passes.{IsPassOf, pass_number, pass_base, seen, mine, HoldsTurn, HoldsNoTurn, made, left, joined, IsSameHolder, IsSamePass, IsNewPass, Gains};
 
 use crate::lock::TurnLock;
 use crate::pass::Pass;
@@ -167,6 +168,7 @@ impl<S: Storied> TurnLock<S> {
         ensures same { IsSameHolder pass.old pass.new × HoldsNoTurn pass.new }
         ensures stories { (seen pass.new ≡ seen pass.old) × (mine pass.new ≡ mine pass.old) }
         ensures counts { (made pass.new ≡ made pass.old + 1) × (left pass.new ≡ left pass.old + 1) }
+        ensures ledger { joined pass.new ≡ joined pass.old }
         ensures fresh { IsNewPass self.now result (made pass.old + 1) (pass_base pass.old) (seen pass.old) }
     {
         let seat = self.table.shared.split_seat::<Fork>(&mut pass.seat);
@@ -178,7 +180,8 @@ impl<S: Storied> TurnLock<S> {
         }
     }
 
-    /// Takes back a pass that was split off. What it had seen, the pass with number 0 has seen from now on.
+    /// Takes back a pass that was split off. What it had seen, the pass with number 0 has seen from now on, and what it had made is noted
+    /// under its number.
     pub fn join(&self, pass: &mut Pass<S>, other: Pass<S>)
         requires locks { IsPassOf self.now pass.old × IsPassOf self.now other }
         requires first { pass_number pass.old ≡ 0 }
@@ -188,6 +191,7 @@ impl<S: Storied> TurnLock<S> {
         ensures own { (mine pass.new ≡ mine pass.old) × (entries_of S.actor 0 (seen pass.new) ≡ mine pass.new) }
         ensures made { made pass.new ≡ made pass.old }
         ensures left { (0 < left pass.old) × (left pass.new ≡ left pass.old - 1) }
+        ensures ledger { joined pass.new ≡ (pass_number other, mine other) ∷ joined pass.old }
     {
         let Pass {
             number: _,
@@ -198,7 +202,8 @@ impl<S: Storied> TurnLock<S> {
         self.table.shared.load::<ReadLength>(&mut pass.seat, LENGTH);
     }
 
-    /// Ends the lock, once each pass that was split off was joined: the value, whose story is what the pass has seen.
+    /// Ends the lock, once each pass that was split off was joined: the value, whose story is what the pass has seen. The entries of each
+    /// number in it are those that the pass of that number had made when it was joined.
     pub fn close(self, pass: Pass<S>) -> S
         requires lock { IsPassOf self pass }
         requires first { pass_number pass ≡ 0 }
@@ -207,6 +212,7 @@ impl<S: Storied> TurnLock<S> {
         ensures base { S.base result ≡ pass_base pass }
         ensures story { S.story result ≡ seen pass }
         ensures own { entries_of S.actor 0 (S.story result) ≡ mine pass }
+        ensures others { (number : ℕ) → number ≢ 0 → entries_of S.actor number (S.story result) ≡ made_by number (joined pass) }
     {
         let TurnLock { table } = self;
         let Pass {

@@ -1,16 +1,17 @@
-use Rattle.std.proofs.Common.{IfSome, length, take, ◌+◌, ◌-◌, ◌≡◌, ◌≤◌}
+use Rattle.std.proofs.Common.{length, ◌-◌, ◌≡◌, ◌≤◌}
+use Rattle.bcdb.specs.ScheduleReading.{HasFed}
 use Rattle.edge_traits.specs.Causes.{Keeps}
 use Rattle.tx_text.specs.Listing.{longest_listing}
 use Rattle.bcdb.proofs.schedule.read_through.Given as goal
 
--- the text is a prefix of the file, and no read has failed
-abbrev pub invariant-loop-shelf : goal.invariant-loop-shelf
-invariant-loop-shelf g l = (length l.text.items ≤ longest_listing + 65536)
+-- so many bytes of the file were read, no read has failed, and the shelf stands as at first
+abbrev pub invariant-loop-count : goal.invariant-loop-count
+invariant-loop-count g l = (l.at ≤ longest_listing)
     × (length l.buffer ≡ 65536)
     × (g.S.Shelf.told l.shelf ≡ g.S.Shelf.told l.fn.shelf)
     × Keeps (g.S.Shelf.may_read l.fn.shelf) (g.S.Shelf.may_read l.shelf)
     × (g.S.Shelf.faults l.shelf ≡ g.S.Shelf.faults l.fn.shelf)
-    × IfSome (g.S.Shelf.told l.fn.shelf) (λ files. l.text.items ≡ take (length l.text.items) (files l.name))
+    × HasFed (g.S.Shelf.told l.fn.shelf) l.name l.at l.reader
 
-abbrev pub decreases-loop-shelf : goal.decreases-loop-shelf
-decreases-loop-shelf g l = longest_listing + 65536 - length l.text.items
+abbrev pub decreases-loop-count : goal.decreases-loop-count
+decreases-loop-count g l = longest_listing - l.at

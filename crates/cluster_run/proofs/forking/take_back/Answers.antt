@@ -1,3 +1,4 @@
+use Rattle.std.proofs.Common.{◌∙◌}
 use Rattle.cluster_run.proofs.Following.{holder_goes}
 use Rattle.cluster_run.proofs.Forks.{join_blocks, join_none}
 use Rattle.cluster_run.proofs.forking.take_back.Goals as goal
@@ -9,3 +10,6 @@ returns-clause-keeps g c = record {
   hand = join_none c.args.pass.now c.join.new.pass c.height.new.pass c.join.ensures.same.0 c.height.ensures.same c.requires.stands.hand c.join.ensures.later.0 c.join.ensures.own.0 c.height.ensures.turn;
   blocks = join_blocks c.args.pass.now c.join.new.pass c.height.new.pass c.join.ensures.same.0 c.height.ensures.same c.requires.stands.hand c.join.ensures.later.0 c.join.ensures.own.0 c.height.ensures.turn c.requires.processor;
 }
+
+pub returns-clause-ledger : goal.returns-clause-ledger
+returns-clause-ledger g c = c.height.ensures.same.same_joined ∙ c.join.ensures.ledger

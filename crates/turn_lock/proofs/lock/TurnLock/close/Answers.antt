@@ -44,3 +44,13 @@ returns-clause-own g c =
     let is : Some e.0 ≡ c.take-value.result = some-injective _ _ (sym there ∙ c.take-value.ensures.value) in
     let same : e.0 ≡ c.in-Some.state = cc (is ∙ c.in-Some.is) in
     ap (entries_of g.S.Storied.actor 0) (ap g.S.Storied.story (sym same) ∙ e.2) ∙ (ap (λ (k : ℕ). entries_of g.S.Storied.actor k c.args.pass.seat.me.0.seen) (sym c.requires.first) ∙ p.own)
+
+pub returns-clause-others : goal.returns-clause-others
+returns-clause-others g c = λ number apart.
+    let p = c.args.pass.stands in
+    let fin = c.close_with-closed.ensures.values.2 in
+    let e = closes g.S.Storied.base g.S.Storied.story g.S.Storied.actor fin.0 fin.1.0 _ _ fin.1.1 (p.number_is ∙ c.requires.first) p.live c.requires.no_turn p.untold p.settled c.requires.joined in
+    let there = fin.4 0 (Some e.0) (ap (λ h. get_elem? h 0) e.1) in
+    let is : Some e.0 ≡ c.take-value.result = some-injective _ _ (sym there ∙ c.take-value.ensures.value) in
+    let same : e.0 ≡ c.in-Some.state = cc (is ∙ c.in-Some.is) in
+    ap (λ value. entries_of g.S.Storied.actor number (g.S.Storied.story value)) (sym same) ∙ e.4 number apart

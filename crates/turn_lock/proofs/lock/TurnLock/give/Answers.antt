@@ -86,6 +86,7 @@ returns-clause-same g c =
       same_base = same_base _ _ _ _ (ap (λ v. v.base) all.1);
       same_made = ap (λ v. v.made) all.1;
       same_left = ap (λ v. v.left) all.1;
+      same_joined = ap (λ v. v.joined) all.1;
     }
 
 pub returns-clause-seen : goal.returns-clause-seen
