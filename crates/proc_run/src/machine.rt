@@ -69,6 +69,9 @@ impl Model for Machine {
     ghost invariant = { λ m. IsSound m.app.value.app m.tx m.time m.number m.phase m.spots.items m.run m.told };
 }
 
+/// Room for the path of a call whose statements are nested four deep, as most are.
+const SPOTS: usize = 8;
+
 /// An application and a call to be kept, with the path to the first statement of a procedure.
 fn hold_call(
     alloc: Global,
@@ -79,7 +82,7 @@ fn hold_call(
     ensures tx { IfOk result (λ held. held.1 ≡ tx.now) }
     ensures spots { IfOk result (λ held. held.2.items ≡ Block 0 Whole 0 ∷ []) }
 {
-    let mut spots = Vec::new(alloc);
+    let mut spots = Vec::with_capacity(alloc, SPOTS)?;
     spots.push(Spot::Block {
         at: 0,
         branch: Branch::Whole,

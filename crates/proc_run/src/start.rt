@@ -24,6 +24,9 @@ use rel_base::{List, Name, NoMemory, Twin, Value};
 use row_sets::Overlay;
 use std::alloc::Global;
 
+/// Room for the four reads of a call that changes two rows, and for the two that are reserved before the next.
+const READS: usize = 6;
+
 /// A call before its first step: the number of its procedure, how the run stands, and what it has.
 #[derive(Drop)]
 pub struct BegunCall {
@@ -60,11 +63,11 @@ fn accepts(params: &[Param], values: &[Value]) -> bool
 fn no_bindings(alloc: Global, slots: usize) -> Result<List<Option<Binding>>, NoMemory>
     ensures { IfOk result (λ list. list ≡ replicate slots None) }
 {
-    let mut list = List::new(alloc);
+    let mut list = Vec::with_capacity(alloc, slots)?;
     for _i in 0..slots {
         list.push(None)?;
     }
-    Ok(list)
+    Ok(List::from_vec(list))
 }
 
 /// The parameters stand for the arguments from now on.
@@ -98,7 +101,7 @@ fn begin(alloc: Global, procedure: &ProcCode, values: &[Value], now: i64) -> Res
     Ok(Run {
         environment: Environment { slots, time: now },
         own: Overlay::new(alloc),
-        made: Vec::new(alloc),
+        made: Vec::with_capacity(alloc, READS)?,
         steps: 0,
     })
 }

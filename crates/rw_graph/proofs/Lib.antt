@@ -11,6 +11,7 @@ pub mod Ways
 pub mod Different
 pub mod Least
 pub mod Pairs
+pub mod Points
 pub mod Merged
 pub mod Below
 pub mod Found

@@ -13,8 +13,8 @@ use crate::edges::{Edges, no_edges};
 use node_model::Committed;
 use rel_base::{List, Made, Read, TableDef, Write};
 
-// Whether a read hits a write.
-fn hits(tables: &[TableDef], read: &Read, write: &Write) -> bool
+// Whether a read hits a write, by the rows of the write.
+fn hits_rows(tables: &[TableDef], read: &Read, write: &Write) -> bool
     requires read { ReadFitsIn tables.now read.now }
     requires write { WriteFitsIn tables.now write.now }
     ensures { result ≡ hits_in tables.now read.now write.now }
@@ -22,6 +22,18 @@ fn hits(tables: &[TableDef], read: &Read, write: &Write) -> bool
     match tables.get(read.table() as usize) {
         None => false,
         Some(def) => read.hits(def, write),
+    }
+}
+
+// Whether a read hits a write. A point hits the writes of its key, which stands in the write beside the rows.
+fn hits(tables: &[TableDef], read: &Read, write: &Write) -> bool
+    requires read { ReadFitsIn tables.now read.now }
+    requires write { WriteFitsIn tables.now write.now }
+    ensures { result ≡ hits_in tables.now read.now write.now }
+{
+    match read {
+        Read::Point { table, key } => *table == write.table && write.key == *key,
+        Read::Span { .. } => hits_rows(tables, read, write),
     }
 }
 

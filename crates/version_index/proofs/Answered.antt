@@ -1,5 +1,5 @@
 -- The answers to reads are those of the definitions.
-use Rattle.std.proofs.Common.{◌≡◌, ◌∙◌, ℕ, List, [], ◌∷◌, ◌++◌, ◌||◌, ◌&&◌, ◌==◌, true, false, cond, Option, Some, None, All, refl, ap, append_assoc, sym, subst, slice_get, slice_index_or, nat_lt, nat_le}
+use Rattle.std.proofs.Common.{◌≡◌, ◌∙◌, ℕ, List, [], ◌∷◌, ◌++◌, ◌||◌, ◌&&◌, ◌==◌, append-nil, option_to_list, true, false, cond, Option, Some, None, All, refl, ap, append_assoc, sym, subst, slice_get, slice_index_or, nat_lt, nat_le}
 use Rattle.std.specs.Borrow.{Bor}
 use Rattle.std.specs.List.Sorted.{IsStrictlySortedBy}
 use Rattle.std.specs.Ordering.{eq_by_cmp, is_eq}
@@ -12,12 +12,12 @@ use Rattle.rel_base.specs.declared.access.Read.TheVariants.{Point, Span}
 use Rattle.rel_base.specs.declared.access.Seen.{Seen}
 use Rattle.rel_base.specs.declared.schema.TableDef.{TableDef}
 use Rattle.rel_base.specs.declared.value.Value.{Value}
-use Rattle.rel_base.specs.Access.{covers_some, hits_write, read_table}
+use Rattle.rel_base.specs.Access.{covers_row, covers_some, hits_write, read_table}
 use Rattle.rel_base.specs.Among.{rows_by, rows_in}
 use Rattle.rel_base.specs.Late.{where_declared, hits_in, least_hit}
 use Rattle.rel_base.specs.Schema.{key_of_row}
 use Rattle.rel_base.specs.Tables.{Tables, Stamped, ref_cmp, ref_cmp-total, ref_cmp-exact, rows, tables_at, writes_between}
-use Rattle.rel_base.specs.Value.{key_cmp, key_cmp-exact}
+use Rattle.rel_base.specs.Value.{key_cmp, key_cmp-exact, key_cmp-total, key_eq}
 use Rattle.rel_base.proofs.Bits.{first_true, second_true, is_Equal}
 use Rattle.rel_base.proofs.KeyOrder.{Stands, all_stand}
 use Rattle.row_sets.specs.Versions.{Hit, hit_by}
@@ -59,12 +59,31 @@ unfolding IsStrictlySortedBy
 one_key key = (tt, tt)
 
 -- the row at the key of a point is what it gets
-pub point_rows : (def : TableDef) (view : TableView) (key : List Value) (height : ℕ) (read : Read) → read ≡ Point view.table key → IsAsked def read view
+point_rows : (def : TableDef) (view : TableView) (key : List Value) (height : ℕ) (read : Read) → read ≡ Point view.table key → IsAsked def read view
     → rows_of_keys def read (tables_at height (history_in view)) view.table (key ∷ []) ≡ rows def read (tables_at height (history_in view))
 point_rows def view key height read is asked =
     let tables = tables_at height (history_in view) in
     subst (λ r. rows_of_keys def r tables view.table (key ∷ []) ≡ rows def r tables) (sym is)
     (rows_of_all def (Point view.table key) tables (key ∷ []) (one_key key) (point_among def view.table key tables (all_stand def view.table asked.defs asked.declared height (history_in view) asked.history)))
+
+-- a point covers the row at its key
+point_covered : (def : TableDef) (table : ℕ) (key : List Value) (tables : Tables) → All (Stands def table) (entries tables) → (found : Option Seen) → get tables (table, key) ≡ found
+    → covered_row def (Point table key) found ≡ option_to_list found
+point_covered def table key tables stand None is = refl
+point_covered def table key tables stand (Some seen) is =
+    let own : key_of_row def seen.row ≡ key = (All-found ref_cmp ref_cmp-exact (Stands def table) (table, key) (entries tables) seen stand (sym (get-entries tables (table, key)) ∙ is) refl).1 in
+    let covers : covers_row def (Point table key) seen.row ≡ true = ap (λ k. key_eq k key) own ∙ ap is_eq (tied_itself key_cmp-total key) in
+    ap (λ b. cond b (seen ∷ []) []) covers
+
+-- so the row at the key of a point, where there is one, is all that it gets
+pub point_row : (def : TableDef) (view : TableView) (key : List Value) (height : ℕ) (read : Read) → read ≡ Point view.table key → IsAsked def read view
+    → option_to_list (get (tables_at height (history_in view)) (view.table, key)) ≡ rows def read (tables_at height (history_in view))
+point_row def view key height read is asked =
+    let tables = tables_at height (history_in view) in
+    let found = get tables (view.table, key) in
+    sym (point_covered def view.table key tables (all_stand def view.table asked.defs asked.declared height (history_in view) asked.history) found refl)
+    ∙ sym (append-nil (covered_row def (Point view.table key) found))
+    ∙ ap (λ r. rows_of_keys def r tables view.table (key ∷ [])) (sym is) ∙ point_rows def view key height read is asked
 
 -- ---- a span
 

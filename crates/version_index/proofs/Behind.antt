@@ -36,6 +36,7 @@ module _ (history more : List Stamped) (noted : ℕ) (within : noted ≤ length 
         within = is.within;
         own = is.own;
         keyed = is.keyed;
+        all_in = is.all_in;
       }
 
   -- a noted write touches the same values
@@ -49,8 +50,7 @@ module _ (history more : List Stamped) (noted : ℕ) (within : noted ≤ length 
   pub column_behind : (table : ℕ) (chains : Chains) (column : ColumnIndex) → IsColumn table history noted chains column → IsColumn table (history ++ more) noted chains column
   column_behind table chains column is =
       record {
-        living = λ key slot value own. is.living key slot value own ∙ ap (λ xs. has value (cell column.column (left_at (table, key) xs))) (sym front);
-        within = is.within;
+        living = λ key slot value own here. is.living key slot value own (ap (λ xs. has value (cell column.column (left_at (table, key) xs))) (sym front) ∙ here);
         touched = λ value. is.touched value ∙ passing_alike (touches_at table column.column value history) (touches_at table column.column value (history ++ more)) noted (touches_front table column.column value);
       }
 

@@ -8,7 +8,7 @@ use Rattle.rel_base.specs.Tables.{Stamped}
 use Rattle.row_sets.specs.Log.{history_of, stamped_of}
 use Rattle.row_sets.specs.declared.entry.LogEntry.{LogEntry}
 use Rattle.version_index.specs.Chains.{AreChains, IsNoted, IsSame, lists_of, numbers_at, slot_of, slot_or}
-use Rattle.version_index.specs.Columns.{IsColumn, IsNotedIn, IsSameColumn, cell, has, has_slot}
+use Rattle.version_index.specs.Columns.{IsColumn, IsNotedIn, IsSameColumn}
 use Rattle.version_index.specs.Index.{IsIndex, IsIndexOf, row_by}
 use Rattle.version_index.specs.Left.{left_at}
 use Rattle.version_index.specs.declared.chains.Chains.{Chains}
@@ -19,7 +19,7 @@ use Rattle.version_index.proofs.Logged.{get_history}
 use Rattle.version_index.proofs.Noting.{chains_next, chains_stay}
 use Rattle.version_index.proofs.Passing.{left_by_numbers}
 use Rattle.version_index.proofs.Slots.{below_got}
-use Rattle.version_index.proofs.Touching.{all_zip, column_next, column_stays, column_with, was_at}
+use Rattle.version_index.proofs.Touching.{all_zip, column_next, column_stays, column_with}
 
 -- what holds in any case holds where memory is wanting
 pub in_any_case : {A E P : Type 0} (result : Result A E) → P → OnErr result P
@@ -81,18 +81,6 @@ module _ (entries : List LogEntry) (number : ℕ) (entry : LogEntry) (there : sl
           all_weaker columns all = All-weaker (IsColumn table history number old.chains) (IsColumn table history number chains) (λ c. column_with table history number old.chains chains kept c) columns all
 
       module _ (found : Option (List Value)) (is_found : found ≡ left_at (table, key) (take number history)) (own : ℕ) (is_own : own ≡ slot_or (length (lists_of old.chains)) (slot_of old.chains key)) where
-        -- in each column the slot is at the value of the row that was found alone
-        pub was_held : All (λ c. (v : Value) → has_slot c.living.entries v own ≡ has v (cell c.column found)) held
-        was_held = all_held held held_columns
-          where
-            all_held : (columns : List ColumnIndex) → All (IsColumn table history number old.chains) columns → All (λ c. (v : Value) → has_slot c.living.entries v own ≡ has v (cell c.column found)) columns
-            all_held columns are = All-weaker (IsColumn table history number old.chains) (λ c. (v : Value) → has_slot c.living.entries v own ≡ has v (cell c.column found)) step columns are
-              where
-                step : (c : ColumnIndex) → IsColumn table history number old.chains c → (v : Value) → has_slot c.living.entries v own ≡ has v (cell c.column found)
-                step c column v =
-                    ap (has_slot c.living.entries v) is_own ∙ was_at table history number (stamped_of entry) stamped_there refl old.chains old.chains is.chains c column v
-                    ∙ ap (λ row. has v (cell c.column row)) (sym is_found)
-
         -- the index with the write noted
         pub noted_index : (chains : Chains) → IsNoted key (is_some entry.placed.write.after) number old.chains chains → (noted : List ColumnIndex) → AllZip (IsNotedIn own found entry.placed.write number) held noted
             → (index : TableIndex) → index.chains ≡ chains → index.columns.items ≡ noted → IsIndex table history (suc number) index

@@ -16,7 +16,7 @@ use Rattle.row_sets.proofs.Histories.{fits_next, unwrapped}
 use Rattle.row_sets.specs.Log.{history_of, stamped_of}
 use Rattle.row_sets.specs.declared.entry.LogEntry.{LogEntry}
 use Rattle.version_index.specs.Chains.{AreChains, lists_in, lists_of, numbers_at, slot_by, slot_in, slot_of}
-use Rattle.version_index.specs.Columns.{IsColumn, has_slot, touched_at}
+use Rattle.version_index.specs.Columns.{IsColumn, touched_at}
 use Rattle.version_index.specs.Index.{AreNoted, HasColumns, IsEmptyColumn, IsEmptyIndex, IsIndex, columns_in, index_columns}
 use Rattle.version_index.specs.Kept.{IsStore}
 use Rattle.version_index.specs.Log.{InOrder}
@@ -140,13 +140,13 @@ module _ (table : ℕ) (index : TableIndex) (empty : IsEmptyIndex index) where
         within = λ key slot is. absurd (some_slot key slot is);
         own = λ one other slot is same. absurd (some_slot one slot is);
         keyed = λ slot below. let none = ap (λ xs. length (lists_in xs)) empty.numbers in absurd (omega (arith, below, none));
+        all_in = λ key some. absurd (no_both (is_some (slot_of index.chains key)) some (ap is_some (no_slots key)));
       }
 
   empty_column : (column : ColumnIndex) → IsEmptyColumn column → IsColumn table [] 0 index.chains column
   empty_column column none =
       record {
-        living = λ key slot value is. absurd (some_slot key slot is);
-        within = λ value slot is. absurd (no_both (has_slot column.living.entries value slot) is (ap (λ es. has_slot es value slot) none.0));
+        living = λ key slot value is has. absurd (some_slot key slot is);
         touched = λ value. ap (λ es. touched_at es value) none.1;
       }
 

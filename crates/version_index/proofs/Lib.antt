@@ -6,7 +6,7 @@ pub mod Held
 pub mod KeyRows
 pub mod LeastHits
 pub mod Ended
-pub mod Marks
+pub mod AtValues
 pub mod Slots
 pub mod Cells
 pub mod Adding
@@ -23,6 +23,7 @@ pub mod Offered
 pub mod Guessed
 pub mod Ranges
 pub mod Marked
+pub mod PutIn
 pub mod Distinct
 pub mod Story
 pub mod Wanted

@@ -1,24 +1,25 @@
--- The keys of marked slots.
-use Rattle.std.proofs.Common.{◌≡◌, ◌∙◌, ℕ, List, ◌∷◌, ◌++◌, Bool, true, false, Contains, Option, Some, None, refl, ap, arith, subst, sym}
-use Rattle.std.specs.BTreeMap.{BTreeMap, is_at}
+-- The keys of slots.
+use Rattle.std.proofs.Common.{◌≡◌, ◌∙◌, ℕ, List, ◌∷◌, ◌++◌, Bool, true, Contains, Option, Some, None, is_some, refl, ap, arith, subst, sym}
+use Rattle.std.specs.BTreeMap.{is_at}
+use Rattle.std.specs.BTreeSet.{BTreeSet}
 use Rattle.std.specs.List.Sorted.{IsStrictlySortedBy}
 use Rattle.std.specs.Map.{keys_of, lookup}
-use Rattle.std.specs.Ordering.{nat_cmp}
+use Rattle.std.specs.Ordering.{is_eq, nat_cmp}
 use Rattle.std.specs.declared.alloc.Global.{Global}
 use Rattle.std.specs.declared.vec.Vec.{Vec}
 use Rattle.std.specs.declared.ops.Bound.{Bound}
 use Rattle.std.specs.BTreeMap.Range.{range_contains}
 use Rattle.std.specs.List.{filter}
 use Rattle.std.proofs.lemmas.Map.Lookups.{exact_unsigned}
-use Rattle.std.proofs.lemmas.Map.Views.{Contains-from_lookup}
+use Rattle.std.proofs.lemmas.Map.Views.{Contains-from_any, Contains-from_lookup}
 use Rattle.rel_base.specs.Tables.{Stamped}
 use Rattle.rel_base.specs.Value.{key_cmp, key_cmp-exact, value_cmp, value_cmp-exact, value_cmp-total}
 use Rattle.rel_base.specs.declared.value.Value.{Value}
 use Rattle.rel_base.proofs.Bits.{is_Equal}
-use Rattle.version_index.specs.Candidates.{HasSlot, IsBetween, IsListedAbove, IsMarked, IsMarkedBetween, IsTouchedAbove, StandsBetween, end_of}
-use Rattle.version_index.specs.Chains.{lists_of, numbers_at}
+use Rattle.version_index.specs.Candidates.{HasSlot, IsBetween, IsAtBetween, IsAtOne, IsListedAbove, IsTouchedAbove, StandsBetween, end_of}
+use Rattle.version_index.specs.Chains.{lists_of, numbers_at, slot_in}
 use Rattle.version_index.specs.Hits.{IsNumberBetween}
-use Rattle.version_index.specs.Columns.{IsColumn, has_mark, items_in, mark_in, touched_at, touches_at}
+use Rattle.version_index.specs.Columns.{IsColumn, has_in, items_in, touched_at, touches_at}
 use Rattle.version_index.specs.Numbers.{ArePassing}
 use Rattle.version_index.specs.declared.chains.Chains.{Chains}
 use Rattle.version_index.specs.declared.column.ColumnIndex.{ColumnIndex}
@@ -28,33 +29,22 @@ use Rattle.version_index.proofs.Adding.{ByOne}
 use Rattle.version_index.proofs.Passing.{passing_all}
 use Rattle.version_index.proofs.Ranges.{found_next, in_range, passes_filter, some_there}
 
--- a key has a slot that has a mark
-abbrev pub WantsMark : TableView → ℕ × Bool → List Value → Type 0
-WantsMark view e key = (e.1 ≡ true) × HasSlot view e.0 key
+-- a slot that is one of some is one of the entries
+pub by_slot : (view : TableView) (slots : BTreeSet ℕ) (key : List Value) → IsAtOne view slots key → ByOne slots.keys (HasSlot view) key
+by_slot view slots key (slot, has, is) = (slot, Contains-from_any {eq = λ x y. is_eq (nat_cmp x y)} (λ x y tied. exact_unsigned x y (is_Equal (nat_cmp x y) tied)) slot slots.keys is, has)
 
--- a mark is there
-mark_there : (found : Option Bool) → has_mark found ≡ true → found ≡ Some true
-mark_there None is = cc
-mark_there (Some true) is = refl
-mark_there (Some false) is = cc
-
--- a marked slot is one of the entries
-pub by_marks : (view : TableView) (marks : BTreeMap ℕ Bool) (key : List Value) → IsMarked view marks key → ByOne marks.entries (WantsMark view) key
-by_marks view marks key (slot, has, is) =
-    ((slot, true), Contains-from_lookup (λ x y tied. exact_unsigned x y (is_Equal (nat_cmp x y) tied)) slot true marks.entries (mark_there (mark_in (Some marks) slot) is), (refl, has))
-
--- marks at a value between two ends are among the entries between them
-pub by_values : (view : TableView) (living : List (Value × BTreeMap ℕ Bool)) (low high : Option Value) (key : List Value) → IsMarkedBetween view living low high key
-    → ByOne (filter (λ e. range_contains value_cmp (end_of low) (end_of high) e.0) living) (λ e k. IsMarked view e.1 k) key
+-- slots at a value between two ends are among the entries between them
+pub by_values : (view : TableView) (living : List (Value × BTreeSet ℕ)) (low high : Option Value) (key : List Value) → IsAtBetween view living low high key
+    → ByOne (filter (λ e. range_contains value_cmp (end_of low) (end_of high) e.0) living) (λ e k. IsAtOne view e.1 k) key
 by_values view living low high key (slot, value, has, between, is) = go (lookup (is_at (value_cmp value)) living) refl is
   where
-    go : (found : Option (BTreeMap ℕ Bool)) → lookup (is_at (value_cmp value)) living ≡ found → has_mark (mark_in found slot) ≡ true
-        → ByOne (filter (λ e. range_contains value_cmp (end_of low) (end_of high) e.0) living) (λ e k. IsMarked view e.1 k) key
+    go : (found : Option (BTreeSet ℕ)) → lookup (is_at (value_cmp value)) living ≡ found → has_in found slot ≡ true
+        → ByOne (filter (λ e. range_contains value_cmp (end_of low) (end_of high) e.0) living) (λ e k. IsAtOne view e.1 k) key
     go None there is = cc
-    go (Some marks) there is = (
-      (value, marks),
-      passes_filter (λ e. range_contains value_cmp (end_of low) (end_of high) e.0) living (value, marks)
-          (Contains-from_lookup (λ x y tied. value_cmp-exact x y (is_Equal (value_cmp x y) tied)) value marks living there) (in_range low high value between),
+    go (Some slots) there is = (
+      (value, slots),
+      passes_filter (λ e. range_contains value_cmp (end_of low) (end_of high) e.0) living (value, slots)
+          (Contains-from_lookup (λ x y tied. value_cmp-exact x y (is_Equal (value_cmp x y) tied)) value slots living there) (in_range low high value between),
       (slot, has, is),
     )
 
@@ -66,6 +56,12 @@ by_keys slots low high key stands =
       passes_filter (λ e. range_contains key_cmp low high e.0) slots (key, found.0) (Contains-from_lookup (λ x y tied. key_cmp-exact x y (is_Equal (key_cmp x y) tied)) key found.0 slots found.1) stands.0,
       refl,
     )
+
+-- and so is a key that stands there anywhere
+pub by_key : (slots : List (List Value × ℕ)) (key : List Value) → is_some (slot_in slots key) ≡ true → ByOne slots (λ e k. k ≡ e.0) key
+by_key slots key stands =
+    let found = some_there (lookup (is_at (key_cmp key)) slots) stands in
+    ((key, found.0), Contains-from_lookup (λ x y tied. key_cmp-exact x y (is_Equal (key_cmp x y) tied)) key found.0 slots found.1, refl)
 
 -- and so is a number of one
 pub by_slots : (chains : Chains) (slots : List (List Value × ℕ)) (low high : Bound (List Value)) (number : ℕ) → IsNumberBetween chains slots low high number

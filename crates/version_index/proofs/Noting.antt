@@ -102,6 +102,7 @@ module _ (table : ℕ) (history : List Stamped) (number : ℕ) (stamped : Stampe
           within = within_next;
           own = own_next;
           keyed = keyed_next;
+          all_in = noted.all_in are.all_in;
         }
       where
         slot_within : (s : ℕ) → slot_of old key ≡ Some s → s < length (lists_of old)
@@ -185,6 +186,7 @@ module _ (table : ℕ) (history : List Stamped) (number : ℕ) (stamped : Stampe
         within = are.within;
         own = are.own;
         keyed = are.keyed;
+        all_in = are.all_in;
       }
 
 -- ---- nothing changed
@@ -203,4 +205,5 @@ chains_stay table history noted old new same are =
       keyed = λ slot below.
           let was = are.keyed slot (subst (λ lists. slot < length lists) same.lists below) in
           (was.0, slot_stays old new same was.0 ∙ was.1);
+      all_in = same.all_in are.all_in;
     }

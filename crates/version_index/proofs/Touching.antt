@@ -1,5 +1,5 @@
 -- One more write that is noted: what becomes of an index by the values of a column.
-use Rattle.std.proofs.Common.{◌≡◌, ◌∙◌, ℕ, suc, ◌<◌, List, [], ◌∷◌, ◌++◌, Bool, true, false, ◌&&◌, ◌||◌, ◌==◌, All, cond, Option, Some, None, is_some, refl, ap, sym, subst, arith, slice_get, take, length, map}
+use Rattle.std.proofs.Common.{◌≡◌, ◌∙◌, ℕ, suc, List, [], ◌∷◌, ◌++◌, Bool, true, false, ◌&&◌, ◌||◌, ◌==◌, All, cond, not, Option, Some, None, is_some, refl, ap, sym, arith, slice_get, take, length, map}
 use Rattle.std.specs.List.{AllZip}
 use Rattle.std.proofs.lemmas.Bool.Decides.{Decides-eqb}
 use Rattle.std.proofs.lemmas.List.{append-nil}
@@ -7,16 +7,16 @@ use Rattle.std.proofs.lemmas.List.Elements.{All-cons, All-head, All-nil, All-tai
 use Rattle.rel_base.specs.declared.value.Value.{Value}
 use Rattle.rel_base.specs.Tables.{Stamped, write_ref}
 use Rattle.rel_base.specs.Value.{key_eq}
-use Rattle.rel_base.proofs.Bits.{not_true}
+use Rattle.rel_base.proofs.Bits.{no_both, not_true}
 use Rattle.row_sets.proofs.Histories.{unwrapped}
-use Rattle.version_index.specs.Chains.{AreChains, IsNoted, IsSame, lists_of, numbers_at, slot_of, slot_or, with_number}
+use Rattle.version_index.specs.Chains.{AreChains, IsNoted, IsSame, lists_of, numbers_at, slot_of, slot_or}
 use Rattle.version_index.specs.Index.{row_by}
 use Rattle.version_index.specs.Columns.{IsColumn, IsNotedIn, IsSameColumn, cell, has, has_slot, touched_at, touches, touches_at}
 use Rattle.version_index.specs.Left.{left_at}
 use Rattle.version_index.specs.Numbers.{passing}
 use Rattle.version_index.specs.declared.chains.Chains.{Chains}
 use Rattle.version_index.specs.declared.column.ColumnIndex.{ColumnIndex}
-use Rattle.version_index.proofs.Noting.{on_none, on_own, others_within, own_within, place_apart, slot_stays}
+use Rattle.version_index.proofs.Noting.{on_none, on_own, place_apart, slot_stays}
 use Rattle.version_index.proofs.Passing.{left_by_numbers, left_next}
 use Rattle.version_index.proofs.Slots.{below_got}
 
@@ -41,16 +41,15 @@ module _ (table : ℕ) (history : List Stamped) (noted : ℕ) where
   pub column_stays : (chains : Chains) (old new : ColumnIndex) → IsColumn table history noted chains old → IsSameColumn old new → IsColumn table history noted chains new
   column_stays chains old new is same =
       record {
-        living = λ key slot value own. same.living value slot ∙ is.living key slot value own ∙ ap (λ column. has value (cell column (left_at (table, key) (take noted history)))) (sym same.column);
-        within = λ value slot there. is.within value slot (sym (same.living value slot) ∙ there);
+        living = λ key slot value own here.
+            same.living value slot (is.living key slot value own (ap (λ column. has value (cell column (left_at (table, key) (take noted history)))) (sym same.column) ∙ here));
         touched = λ value. same.touched value ∙ is.touched value ∙ ap (λ column. passing (touches_at table column value history) noted) (sym same.column);
       }
 
   pub column_with : (old new : Chains) → IsSame old new → (column : ColumnIndex) → IsColumn table history noted old column → IsColumn table history noted new column
   column_with old new same column is =
       record {
-        living = λ key slot value own. is.living key slot value (sym (slot_stays old new same key) ∙ own);
-        within = λ value slot there. subst (λ lists. slot < length lists) (sym same.lists) (is.within value slot there);
+        living = λ key slot value own here. is.living key slot value (sym (slot_stays old new same key) ∙ own) here;
         touched = is.touched;
       }
 
@@ -69,20 +68,18 @@ module _ (table : ℕ) (history : List Stamped) (number : ℕ) (stamped : Stampe
     abbrev found : Option (List Value)
     found = left_at (table, key) (take number history)
 
-    -- the slot of the write is at the value of the row that it found alone
-    pub was_at : (column : ColumnIndex) → IsColumn table history number old column → (value : Value) → has_slot column.living.entries value place ≡ has value (cell column.column found)
-    was_at column is value = go (slot_of old key) refl
+    -- the slot of the write is at the value of the row that it found
+    was_at : (column : ColumnIndex) → IsColumn table history number old column → (value : Value) → has value (cell column.column found) ≡ true → has_slot column.living.entries value place ≡ true
+    was_at column is value had = go (slot_of old key) refl
       where
         none_at : slot_of old key ≡ None → found ≡ None
         none_at none =
             sym (left_by_numbers (table, key) history number (let below = below_got history number stamped there in omega (arith, below)))
             ∙ ap (row_by history) (sym (are.numbers key) ∙ ap (numbers_at (lists_of old)) none)
 
-        go : (slot : Option ℕ) → slot_of old key ≡ slot → has_slot column.living.entries value (slot_or (length (lists_of old)) slot) ≡ has value (cell column.column found)
-        go (Some s) here = is.living key s value here
-        go None none =
-            not_true (has_slot column.living.entries value (length (lists_of old))) (λ marked. let below = is.within value (length (lists_of old)) marked in omega (arith, below))
-            ∙ sym (ap (λ row. has value (cell column.column row)) (none_at none))
+        go : (slot : Option ℕ) → slot_of old key ≡ slot → has_slot column.living.entries value (slot_or (length (lists_of old)) slot) ≡ true
+        go (Some s) here = is.living key s value here had
+        go None none = absurd (no_both (has value (cell column.column found)) had (ap (λ row. has value (cell column.column row)) (none_at none)))
 
     -- which values it touches
     touch_is : (column : ℕ) (value : Value) → touches_at table column value history number ≡ (has value (cell column found) || has value (cell column stamped.1.write.before) || has value (cell column stamped.1.write.after))
@@ -99,30 +96,30 @@ module _ (table : ℕ) (history : List Stamped) (number : ℕ) (stamped : Stampe
       slot_here : (k : List Value) (b : Bool) → key_eq k key ≡ b → slot_of new k ≡ cond b (Some place) (slot_of old k)
       slot_here k b test = noted.slots k ∙ ap (λ t. cond t (Some place) (slot_of old k)) test
 
-      at_place : (slot : ℕ) (b : Bool) → (slot == place) ≡ b → (value : Value) → has_slot two.living.entries value slot ≡ cond b (has value (cell one.column stamped.1.write.after)) (has_slot one.living.entries value slot)
-      at_place slot b test value = more.living value slot ∙ ap (λ t. cond t (has value (cell one.column stamped.1.write.after)) (has_slot one.living.entries value slot)) test
+      -- no slot is lost but where the key had another value
+      stays_at : (value : Value) (slot : ℕ) (b a : Bool) → (slot == place) ≡ b → has value (cell one.column stamped.1.write.after) ≡ a → (b && not a) ≡ false → has_slot one.living.entries value slot ≡ true → has_slot two.living.entries value slot ≡ true
+      stays_at value slot b a here now off had = more.kept value slot had ((λ i. here i && not (now i)) ∙ off)
 
-      living_next : (k : List Value) (slot : ℕ) (value : Value) → slot_of new k ≡ Some slot → has_slot two.living.entries value slot ≡ has value (cell two.column (left_at (table, k) (take (suc number) history)))
-      living_next k slot value here = go (key_eq k key) refl
+      -- the slot of the write is at the value of the row that it left
+      own_next : (value : Value) → has value (cell one.column stamped.1.write.after) ≡ true → has_slot two.living.entries value place ≡ true
+      own_next value now = go (has value (cell one.column found)) refl
         where
-          go : (b : Bool) → key_eq k key ≡ b → has_slot two.living.entries value slot ≡ has value (cell two.column (left_at (table, k) (take (suc number) history)))
+          go : (b : Bool) → has value (cell one.column found) ≡ b → has_slot two.living.entries value place ≡ true
+          go true had = stays_at value place true true ((Decides-eqb place place).1 refl) now refl (was_at one is value had)
+          go false other = more.own value (λ i. now i && not (other i))
+
+      living_next : (k : List Value) (slot : ℕ) (value : Value) → slot_of new k ≡ Some slot → has value (cell two.column (left_at (table, k) (take (suc number) history))) ≡ true → has_slot two.living.entries value slot ≡ true
+      living_next k slot value here has_it = go (key_eq k key) refl
+        where
+          go : (b : Bool) → key_eq k key ≡ b → has_slot two.living.entries value slot ≡ true
           go true tied =
               let same : slot ≡ place = unwrapped slot place (sym here ∙ slot_here k true tied) in
-              at_place slot true ((Decides-eqb slot place).1 same) value ∙ sym (λ i. has value (cell (more.column i) (left_here k true tied i)))
+              ap (has_slot two.living.entries value) same ∙ own_next value ((λ i. has value (cell (sym more.column i) (sym (left_here k true tied) i))) ∙ has_it)
           go false other =
               let was : slot_of old k ≡ Some slot = sym (slot_here k false other) ∙ here in
               let apart : (slot == place) ≡ false = not_true (slot == place) (λ same. place_apart table history number old are key k other slot was (sym ((Decides-eqb slot place).0 same))) in
-              at_place slot false apart value ∙ is.living k slot value was ∙ sym (λ i. has value (cell (more.column i) (left_here k false other i)))
-
-      slot_within : (s : ℕ) → slot_of old key ≡ Some s → s < length (lists_of old)
-      slot_within s found_it = are.within key s found_it
-
-      within_next : (value : Value) (slot : ℕ) → has_slot two.living.entries value slot ≡ true → slot < length (lists_of new)
-      within_next value slot marked = subst (λ lists. slot < length lists) (sym noted.lists) (go (slot == place) refl)
-        where
-          go : (b : Bool) → (slot == place) ≡ b → slot < length (with_number number (slot_of old key) (lists_of old))
-          go true same = subst (λ s. s < length (with_number number (slot_of old key) (lists_of old))) (sym ((Decides-eqb slot place).0 same)) (own_within number (slot_of old key) (lists_of old) slot_within)
-          go false apart = others_within number (slot_of old key) (lists_of old) slot (is.within value slot (sym (at_place slot false apart value) ∙ marked))
+              stays_at value slot false (has value (cell one.column stamped.1.write.after)) apart refl refl
+              (is.living k slot value was ((λ i. has value (cell (sym more.column i) (sym (left_here k false other) i))) ∙ has_it))
 
       more_if : (b : Bool) (xs : List ℕ) → cond b (xs ++ number ∷ []) xs ≡ xs ++ cond b (number ∷ []) []
       more_if true xs = refl
@@ -135,17 +132,16 @@ module _ (table : ℕ) (history : List Stamped) (number : ℕ) (stamped : Stampe
           ∙ ap (λ column. passing (touches_at table column value history) (suc number)) (sym more.column)
 
       pub column_next : IsColumn table history (suc number) new two
-      column_next = record { living = living_next; within = within_next; touched = touched_next }
+      column_next = record { living = living_next; touched = touched_next }
 
   -- ---- a write of another table
 
   pub column_skip : (table ≡ stamped.1.write.table → ⊥) → (chains : Chains) (column : ColumnIndex) → IsColumn table history number chains column → IsColumn table history (suc number) chains column
   column_skip other chains column is =
       record {
-        living = λ key slot value here.
+        living = λ key slot value here has_it.
             is.living key slot value here
-            ∙ ap (λ row. has value (cell column.column row)) (sym (left_next (table, key) history number stamped there ∙ ap (λ b. cond b stamped.1.write.after (left_at (table, key) (take number history))) (on_none table stamped key other)));
-        within = is.within;
+            (ap (λ row. has value (cell column.column row)) (sym (left_next (table, key) history number stamped there ∙ ap (λ b. cond b stamped.1.write.after (left_at (table, key) (take number history))) (on_none table stamped key other))) ∙ has_it);
         touched = λ value.
             is.touched value ∙ sym (append-nil (passing (touches_at table column.column value history) number))
             ∙ ap (λ b. passing (touches_at table column.column value history) number ++ cond b (number ∷ []) []) (sym (none column.column value));

@@ -21,7 +21,7 @@ use Rattle.rel_base.proofs.Bits.{both_true, first_true, no_both, second_true}
 use Rattle.rel_base.proofs.Columns.{span_column_below}
 use Rattle.rel_base.proofs.KeyOrder.{Stands, all_stand}
 use Rattle.row_sets.proofs.Histories.{unwrapped}
-use Rattle.version_index.specs.Candidates.{IsBetween, IsMarkedBetween, IsTouchedAbove, IsWrittenFrom, only_value}
+use Rattle.version_index.specs.Candidates.{IsBetween, IsAtBetween, IsTouchedAbove, IsWrittenFrom, only_value}
 use Rattle.version_index.specs.Chains.{lives_in, slot_in, slot_of}
 use Rattle.version_index.specs.Columns.{IsColumn, cell, has, touches, touches_at}
 use Rattle.version_index.specs.Index.{HasColumns, index_columns}
@@ -33,7 +33,7 @@ use Rattle.version_index.specs.declared.column.ColumnIndex.{ColumnIndex}
 use Rattle.version_index.specs.declared.view.TableView.{TableView}
 use Rattle.version_index.proofs.KeyRows.{All-found}
 use Rattle.version_index.proofs.Logged.{same_ref}
-use Rattle.version_index.proofs.Marks.{same_value}
+use Rattle.version_index.proofs.AtValues.{same_value}
 use Rattle.version_index.proofs.Story.{Story, TookBack, seen_story}
 
 -- a value is one with itself
@@ -94,7 +94,7 @@ module _ (view : TableView) (is : IsView view) (height : ℕ) where
 
   module _ (column : ColumnIndex) (own : IsColumn view.table (history_in view) view.noted view.index.now.chains column) (low high : Option Value) (key : List Value) where
     marked_still : (row : List Value) (value : Value) → cell column.column (Some row) ≡ Some value → IsBetween low high value → left_at (view.table, key) (take view.noted history) ≡ Some row
-        → IsMarkedBetween view column.living.entries low high key
+        → IsAtBetween view column.living.entries low high key
     marked_still row value here between left =
         let lives = lives_still key row left in
         let slot = has_a_slot key lives in (
@@ -102,7 +102,7 @@ module _ (view : TableView) (is : IsView view) (height : ℕ) where
           value,
           (ap is_some left, slot.1),
           between,
-          own.living key slot.0 value slot.1 ∙ ap (λ r. has value (cell column.column r)) left ∙ ap (has value) here ∙ value_itself value,
+          own.living key slot.0 value slot.1 (ap (λ r. has value (cell column.column r)) left ∙ ap (has value) here ∙ value_itself value),
         )
 
     touched_back : (row : List Value) (value : Value) → cell column.column (Some row) ≡ Some value → TookBack (view.table, key) height history row view.noted → IsTouchedAbove view column.column value height key
@@ -126,11 +126,11 @@ module _ (view : TableView) (is : IsView view) (height : ℕ) where
             (ap (λ b. b || has value (cell column.column took.stamped.1.write.before) || has value (cell column.column took.stamped.1.write.after))
             (ap (λ r. has value (cell column.column (left_at r (take took.at history)))) ref_is ∙ ap (λ r. has value (cell column.column r)) took.found ∙ ap (has value) here ∙ value_itself value))
 
-    pub cell_found : HasCellAt view column.column low high height key → IsMarkedBetween view column.living.entries low high key ⊎ IsChangedBetween view column.column low high height key
+    pub cell_found : HasCellAt view column.column low high height key → IsAtBetween view column.living.entries low high key ⊎ IsChangedBetween view column.column low high height key
     cell_found wanted = go (seen_story view is height key wanted.seen wanted.is)
       where
         go : Story (view.table, key) height history wanted.seen.row view.noted ⊎ IsWrittenFrom view view.noted key
-            → IsMarkedBetween view column.living.entries low high key ⊎ IsChangedBetween view column.column low high height key
+            → IsAtBetween view column.living.entries low high key ⊎ IsChangedBetween view column.column low high height key
         go (inl (inl left)) = inl (marked_still wanted.seen.row wanted.value wanted.has wanted.between left)
         go (inl (inr took)) = inr (wanted.value, wanted.between, inl (touched_back wanted.seen.row wanted.value wanted.has took))
         go (inr written) = inr (wanted.value, wanted.between, inr written)

@@ -4,7 +4,7 @@ use Rattle.std.specs.Borrow.{Bor}
 use Rattle.std.specs.List.{list_any}
 use Rattle.std.specs.declared.ops.Bound.{Bound}
 use Rattle.std.specs.declared.ops.Bound.TheVariants.{Included, Unbounded}
-use Rattle.std.specs.BTreeMap.{BTreeMap}
+use Rattle.std.specs.BTreeSet.{BTreeSet}
 use Rattle.std.specs.BTreeMap.Range.{range_contains}
 use Rattle.std.specs.Option.{IsSomeAnd}
 use Rattle.std.specs.Ordering.{is_le}
@@ -13,7 +13,7 @@ use Rattle.rel_base.specs.Tables.{Stamped}
 use Rattle.rel_base.specs.Value.{key_cmp, key_eq, value_cmp, value_eq}
 use Rattle.rel_base.specs.declared.value.Value.{Value}
 use Rattle.version_index.specs.Chains.{slot_in, slot_of}
-use Rattle.version_index.specs.Columns.{has_mark, has_slot, mark_in, touches_at}
+use Rattle.version_index.specs.Columns.{has_in, has_slot, touches_at}
 use Rattle.version_index.specs.Left.{left_at}
 use Rattle.version_index.specs.View.{history_in}
 use Rattle.version_index.specs.declared.chains.Chains.{Chains}
@@ -53,17 +53,17 @@ HasRow view key = is_some (left_at (view.table, key) (take view.noted (history_i
 abbrev pub HasSlot : TableView → ℕ → List Value → Type 0
 HasSlot view slot key = HasRow view key × (slot_of view.index.now.chains key ≡ Some slot)
 
--- its slot is marked
-abbrev pub IsMarked : TableView → BTreeMap ℕ Bool → List Value → Type 0
-IsMarked view marks key = (slot : ℕ) × HasSlot view slot key × (has_mark (mark_in (Some marks) slot) ≡ true)
+-- its slot is one of some
+abbrev pub IsAtOne : TableView → BTreeSet ℕ → List Value → Type 0
+IsAtOne view slots key = (slot : ℕ) × HasSlot view slot key × (has_in (Some slots) slot ≡ true)
 
 -- a value lies between the ends that are given
 abbrev pub IsBetween : Option Value → Option Value → Value → Type 0
 IsBetween low high value = (is_from low value ≡ true) × (is_up_to high value ≡ true)
 
--- its slot is marked at a value between the ends that are given
-abbrev pub IsMarkedBetween : TableView → List (Value × BTreeMap ℕ Bool) → Option Value → Option Value → List Value → Type 0
-IsMarkedBetween view living low high key = (slot : ℕ) × (value : Value) × HasSlot view slot key × IsBetween low high value × (has_slot living value slot ≡ true)
+-- its slot is at a value between the ends that are given
+abbrev pub IsAtBetween : TableView → List (Value × BTreeSet ℕ) → Option Value → Option Value → List Value → Type 0
+IsAtBetween view living low high key = (slot : ℕ) × (value : Value) × HasSlot view slot key × IsBetween low high value × (has_slot living value slot ≡ true)
 
 -- a key stands in a map between two ends
 abbrev pub StandsBetween : List (List Value × ℕ) → Bound (List Value) → Bound (List Value) → List Value → Type 0

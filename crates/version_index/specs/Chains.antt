@@ -12,6 +12,7 @@ use Rattle.rel_base.specs.declared.value.Value.{Value}
 use Rattle.row_sets.specs.Log.{history_of}
 use Rattle.row_sets.specs.declared.entry.LogEntry.{LogEntry}
 use Rattle.version_index.specs.Chain.{is_on}
+use Rattle.version_index.specs.Hashing.{key_hash, may_be_in}
 use Rattle.version_index.specs.Left.{left_at}
 use Rattle.version_index.specs.Numbers.{passes_at, passing}
 use Rattle.version_index.specs.declared.chains.Chains.{Chains}
@@ -41,6 +42,14 @@ pub record IsPlaced (key : List Value) (slot : ℕ) (lives : Bool) (living ended
 abbrev pub lives_in : Chains → List Value → Bool
 lives_in chains key = is_some (slot_in chains.living.entries key)
 
+-- the keys of two maps are all among those that were put in, by their hashes
+abbrev pub AreIn : List (List Value × ℕ) → List (List Value × ℕ) → List ℕ → Type 0
+AreIn living ended marks = (key : List Value) → is_some (slot_by living ended key) ≡ true → may_be_in marks (key_hash key) ≡ true
+
+-- all keys with a slot are
+abbrev pub AreAllIn : Chains → Type 0
+AreAllIn chains = AreIn chains.living.entries chains.ended.entries chains.guesses.marks.items
+
 -- the lists of numbers, by slot
 abbrev pub lists_in : List (Vec ℕ Global) → List (List ℕ)
 lists_in lists = map (λ numbers. numbers.items) lists
@@ -67,7 +76,7 @@ abbrev pub numbers_of : Chains → List Value → List ℕ
 numbers_of chains key = numbers_at (lists_of chains) (slot_of chains key)
 
 -- the maps and the lists of a table tell the writes on its keys among the first of a history, as many as are noted: for each key the
--- numbers of the writes on it, and whether they left it a row. Each slot is of one key
+-- numbers of the writes on it, and whether they left it a row. Each slot is of one key, and each key with a slot was put in
 pub record AreChains (table : ℕ) (history : List Stamped) (noted : ℕ) (chains : Chains) : Type 0 where
   pub numbers : (key : List Value) → numbers_of chains key ≡ passing (passes_at (is_on (table, key)) history) noted
   pub lives : (key : List Value) → lives_in chains key ≡ is_some (left_at (table, key) (take noted history))
@@ -75,6 +84,7 @@ pub record AreChains (table : ℕ) (history : List Stamped) (noted : ℕ) (chain
   pub within : (key : List Value) (slot : ℕ) → slot_of chains key ≡ Some slot → slot < length (lists_of chains)
   pub own : (one other : List Value) (slot : ℕ) → slot_of chains one ≡ Some slot → slot_of chains other ≡ Some slot → one ≡ other
   pub keyed : (slot : ℕ) → slot < length (lists_of chains) → (key : List Value) × (slot_of chains key ≡ Some slot)
+  pub all_in : AreAllIn chains
 
 -- they tell those of some table among the first of a log
 abbrev pub AreChainsOf : List LogEntry → Chains → Type 0
@@ -85,6 +95,7 @@ pub record IsSame (old new : Chains) : Type 0 where
   pub living : new.living.entries ≡ old.living.entries
   pub ended : new.ended.entries ≡ old.ended.entries
   pub lists : lists_of new ≡ lists_of old
+  pub all_in : AreAllIn old → AreAllIn new
 
 -- a slot that may be there, and else the next one
 abbrev pub slot_or : ℕ → Option ℕ → ℕ
@@ -102,3 +113,4 @@ pub record IsNoted (key : List Value) (lives : Bool) (number : ℕ) (old new : C
   pub lives_now : (k : List Value) → lives_in new k ≡ cond (key_eq k key) lives (lives_in old k)
   pub apart : AreApart new.living.entries new.ended.entries
   pub lists : lists_of new ≡ with_number number (slot_of old key) (lists_of old)
+  pub all_in : AreAllIn old → AreAllIn new

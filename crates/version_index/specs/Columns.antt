@@ -1,6 +1,7 @@
 -- What an index by the values of a column keeps.
-use Rattle.std.specs.Prelude.{◌≡◌, ◌<◌, IsSomeAnd, ◌==◌, ◌&&◌, ◌||◌, ◌++◌, ◌∷◌, ℕ, List, [], Bool, true, false, not, IsTrue, Option, Some, None, cond, is_some, length, slice_get, take}
-use Rattle.std.specs.BTreeMap.{BTreeMap, is_at}
+use Rattle.std.specs.Prelude.{◌≡◌, ◌<◌, IsSomeAnd, ◌==◌, ◌&&◌, ◌||◌, ◌++◌, ◌∷◌, ℕ, List, [], Bool, true, false, not, Option, Some, None, cond, slice_get, take}
+use Rattle.std.specs.BTreeMap.{is_at}
+use Rattle.std.specs.BTreeSet.{BTreeSet, contains}
 use Rattle.std.specs.Map.{lookup}
 use Rattle.std.specs.Option.{option_and_then}
 use Rattle.std.specs.Ordering.{nat_cmp}
@@ -11,7 +12,7 @@ use Rattle.rel_base.specs.Tables.{Stamped, write_ref}
 use Rattle.rel_base.specs.Value.{value_cmp, value_eq}
 use Rattle.rel_base.specs.declared.access.Write.{Write}
 use Rattle.rel_base.specs.declared.value.Value.{Value}
-use Rattle.version_index.specs.Chains.{lists_of, slot_of}
+use Rattle.version_index.specs.Chains.{slot_of}
 use Rattle.version_index.specs.Left.{left_at}
 use Rattle.version_index.specs.Numbers.{passing}
 use Rattle.version_index.specs.declared.chains.Chains.{Chains}
@@ -35,33 +36,22 @@ has_same (Some value) other = has value other
 
 -- ---- slots by values
 
--- the mark of a slot among marked slots that may be there. A slot is held with no mark before it is put
-abbrev pub mark_in : Option (BTreeMap ℕ Bool) → ℕ → Option Bool
-mark_in None slot = None
-mark_in (Some slots) slot = lookup (is_at (nat_cmp slot)) slots.entries
+-- whether a slot is one of some that may be there
+abbrev pub has_in : Option (BTreeSet ℕ) → ℕ → Bool
+has_in None slot = false
+has_in (Some slots) slot = contains nat_cmp slots slot
 
-abbrev pub mark_of : List (Value × BTreeMap ℕ Bool) → Value → ℕ → Option Bool
-mark_of living value slot = mark_in (lookup (is_at (value_cmp value)) living) slot
+-- whether a slot is one of those at a value
+abbrev pub has_slot : List (Value × BTreeSet ℕ) → Value → ℕ → Bool
+has_slot living value slot = has_in (lookup (is_at (value_cmp value)) living) slot
 
-abbrev pub has_mark : Option Bool → Bool
-has_mark None = false
-has_mark (Some mark) = mark
+-- a slot is at each value that a row may have
+abbrev pub IsHeld : List (Value × BTreeSet ℕ) → Option Value → ℕ → Type 0
+IsHeld living row slot = (value : Value) → has value row ≡ true → has_slot living value slot ≡ true
 
--- whether a slot is marked at a value
-abbrev pub has_slot : List (Value × BTreeMap ℕ Bool) → Value → ℕ → Bool
-has_slot living value slot = has_mark (mark_of living value slot)
-
--- whether a slot is held at a value
-abbrev pub holds_slot : List (Value × BTreeMap ℕ Bool) → Value → ℕ → Bool
-holds_slot living value slot = is_some (mark_of living value slot)
-
--- a slot is held at each value that a row may have
-abbrev pub IsHeld : List (Value × BTreeMap ℕ Bool) → Option Value → ℕ → Type 0
-IsHeld living row slot = (value : Value) → has value row ≡ true → IsTrue (holds_slot living value slot)
-
--- a slot is held at each value that a row may have, where it is another value than one that may be there
-abbrev pub IsHeldUnless : List (Value × BTreeMap ℕ Bool) → Option Value → Option Value → ℕ → Type 0
-IsHeldUnless living row other slot = (value : Value) → (has value row && not (has value other)) ≡ true → IsTrue (holds_slot living value slot)
+-- a slot is at each value that a row may have, where it is another value than one that may be there
+abbrev pub IsHeldUnless : List (Value × BTreeSet ℕ) → Option Value → Option Value → ℕ → Type 0
+IsHeldUnless living row other slot = (value : Value) → (has value row && not (has value other)) ≡ true → has_slot living value slot ≡ true
 
 -- ---- numbers by values
 
@@ -94,31 +84,33 @@ touches table column value past (Some stamped) =
 abbrev pub touches_at : ℕ → ℕ → Value → List Stamped → ℕ → Bool
 touches_at table column value history number = touches table column value (take number history) (slice_get history number)
 
--- an index tells of the first writes of a history, as many as are noted, which keys have a row with each value, and which writes touched it
+-- an index tells of the first writes of a history, as many as are noted, which keys have a row with each value, and which writes touched
+-- it. Of the slots of the keys none is missing; whether a slot is there that should not, is not said
 pub record IsColumn (table : ℕ) (history : List Stamped) (noted : ℕ) (chains : Chains) (column : ColumnIndex) : Type 0 where
-  pub living : (key : List Value) (slot : ℕ) (value : Value) → slot_of chains key ≡ Some slot
-      → has_slot column.living.entries value slot ≡ has value (cell column.column (left_at (table, key) (take noted history)))
-  pub within : (value : Value) (slot : ℕ) → has_slot column.living.entries value slot ≡ true → slot < length (lists_of chains)
+  pub living : (key : List Value) (slot : ℕ) (value : Value) → slot_of chains key ≡ Some slot → has value (cell column.column (left_at (table, key) (take noted history))) ≡ true
+      → has_slot column.living.entries value slot ≡ true
   pub touched : (value : Value) → touched_at column.touched.entries value ≡ passing (touches_at table column.column value history) noted
 
 -- ---- one more write
 
--- nothing that an index tells has changed
+-- nothing that an index tells has changed, but for slots that are at more values
 pub record IsSameColumn (old new : ColumnIndex) : Type 0 where
   pub column : new.column ≡ old.column
-  pub living : (value : Value) (slot : ℕ) → has_slot new.living.entries value slot ≡ has_slot old.living.entries value slot
+  pub living : (value : Value) (slot : ℕ) → has_slot old.living.entries value slot ≡ true → has_slot new.living.entries value slot ≡ true
   pub touched : (value : Value) → touched_at new.touched.entries value ≡ touched_at old.touched.entries value
 
--- a write on the key of a slot, which found a row, can be noted without memory: its slot stands at the value that was found already
+-- a write on the key of a slot, which found a row, can be noted without memory: its slot is at its new value already, where that is
+-- another one than the one that was found
 pub record IsReady (slot : ℕ) (found : Option (List Value)) (write : Write) (column : ColumnIndex) : Type 0 where
   pub held : IsHeldUnless column.living.entries (cell column.column write.after) (cell column.column found) slot
   pub found_room : IsRoomy column.touched.entries (cell column.column found)
   pub before_room : IsRoomy column.touched.entries (cell column.column write.before)
   pub after_room : IsRoomy column.touched.entries (cell column.column write.after)
 
--- the slot of its key is at the value of its row after alone, and its number is the last one at each value that it touches
+-- the slot of its key is at the value of its row after, no other slot is lost, and its number is the last one at each value that it touches
 pub record IsNotedIn (slot : ℕ) (found : Option (List Value)) (write : Write) (number : ℕ) (old new : ColumnIndex) : Type 0 where
   pub column : new.column ≡ old.column
-  pub living : (value : Value) (s : ℕ) → has_slot new.living.entries value s ≡ cond (s == slot) (has value (cell old.column write.after)) (has_slot old.living.entries value s)
+  pub own : IsHeldUnless new.living.entries (cell old.column write.after) (cell old.column found) slot
+  pub kept : (value : Value) (s : ℕ) → has_slot old.living.entries value s ≡ true → (s == slot && not (has value (cell old.column write.after))) ≡ false → has_slot new.living.entries value s ≡ true
   pub touched : (value : Value) → touched_at new.touched.entries value
       ≡ cond (has value (cell old.column found) || has value (cell old.column write.before) || has value (cell old.column write.after)) (touched_at old.touched.entries value ++ number ∷ []) (touched_at old.touched.entries value)

@@ -1,5 +1,6 @@
 pub mod Numbers
 pub mod Chain
+pub mod Hashing
 pub mod Log
 pub mod Left
 pub mod Chains

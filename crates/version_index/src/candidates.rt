@@ -2,14 +2,15 @@
 
 ghost use Rattle.std.specs.Prelude.{◌≡◌, ◌<◌, OnOk, length, true};
 ghost use Rattle.std.specs.Range.Bound.{bound_map};
-ghost use Rattle.version_index.specs.Candidates.{Adds, HasSlot, HasSlotAt, IsKeyOf, IsListedAbove, IsMarked, IsMarkedBetween, IsOwnKeyOf, IsWrittenFrom, end_of, is_forward};
+ghost use Rattle.version_index.specs.Candidates.{Adds, HasSlot, HasSlotAt, IsKeyOf, IsListedAbove, IsAtBetween, IsAtOne, IsOwnKeyOf, IsWrittenFrom, end_of, is_forward};
 ghost use Rattle.version_index.specs.Numbers.{ArePassing};
 ghost use Rattle.version_index.specs.View.{IsView};
 
-use crate::living::{Living, Marks};
+use crate::living::Living;
 use crate::view::TableView;
 use rel_base::{Key, NoMemory, Value};
 use row_sets::entry::entry_at;
+use std::collections::BTreeSet;
 use std::ops::Bound;
 
 /// A key that may have a row, with its slot, where it has one.
@@ -62,34 +63,32 @@ fn add_slot<'a>(
     }
 }
 
-/// Adds the keys of the slots that are marked.
-fn add_marked<'a>(
+/// Adds the keys of some slots.
+fn add_slots<'a>(
     view: &TableView<'a>,
     found: &mut Vec<Candidate<'a>>,
-    marks: &Marks,
+    slots: &BTreeSet<usize>,
 ) -> Result<(), NoMemory>
     requires { IsView view.now }
-    ensures { OnOk result (Adds view.now.index.now.chains found.old.items found.new.items (IsMarked view.now marks.now)) }
+    ensures { OnOk result (Adds view.now.index.now.chains found.old.items found.new.items (IsAtOne view.now slots.now)) }
 {
-    for (slot, mark) in marks.iter() {
-        if *mark {
-            add_slot(view, found, *slot)?;
-        }
+    for slot in slots.iter() {
+        add_slot(view, found, *slot)?;
     }
     Ok(())
 }
 
-/// Adds the keys of the slots that are marked. Room for all of them is taken at once.
-fn add_all_marked<'a>(
+/// Adds the keys of some slots. Room for all of them is taken at once.
+fn add_all_slots<'a>(
     view: &TableView<'a>,
     found: &mut Vec<Candidate<'a>>,
-    marks: &Marks,
+    slots: &BTreeSet<usize>,
 ) -> Result<(), NoMemory>
     requires { IsView view.now }
-    ensures { OnOk result (Adds view.now.index.now.chains found.old.items found.new.items (IsMarked view.now marks.now)) }
+    ensures { OnOk result (Adds view.now.index.now.chains found.old.items found.new.items (IsAtOne view.now slots.now)) }
 {
-    found.reserve(marks.len())?;
-    add_marked(view, found, marks)
+    found.reserve(slots.len())?;
+    add_slots(view, found, slots)
 }
 
 /// The end of a span that may be there.
@@ -112,7 +111,7 @@ pub fn is_in_order(low: &Option<Value>, high: &Option<Value>) -> bool
     }
 }
 
-/// Adds the keys of the slots that are marked at a value between the ends of a span, which is in order.
+/// Adds the keys of the slots at a value between the ends of a span, which is in order.
 pub fn add_living<'a>(
     view: &TableView<'a>,
     found: &mut Vec<Candidate<'a>>,
@@ -122,10 +121,10 @@ pub fn add_living<'a>(
 ) -> Result<(), NoMemory>
     requires view { IsView view.now }
     requires forward { is_forward low.now high.now ≡ true }
-    ensures { OnOk result (Adds view.now.index.now.chains found.old.items found.new.items (IsMarkedBetween view.now living.now.entries low.now high.now)) }
+    ensures { OnOk result (Adds view.now.index.now.chains found.old.items found.new.items (IsAtBetween view.now living.now.entries low.now high.now)) }
 {
-    for (_, marks) in living.range((end(low), end(high))) {
-        add_all_marked(view, found, marks)?;
+    for (_, slots) in living.range((end(low), end(high))) {
+        add_all_slots(view, found, slots)?;
     }
     Ok(())
 }

@@ -5,9 +5,11 @@ ghost use Rattle.std.specs.Option.{option_map};
 ghost use Rattle.std.specs.Vec.{vec_len, vec_capacity};
 ghost use Rattle.rel_base.specs.Value.{key_eq};
 ghost use Rattle.rel_base.specs.declared.value.Value.{Value as Cell};
-ghost use Rattle.version_index.specs.Chains.{AreApart, IsNoted, IsPlaced, IsSame, lists_of, lives_in, numbers_at, slot_by, slot_in, slot_of};
+ghost use Rattle.version_index.specs.Hashing.{key_hash};
+ghost use Rattle.version_index.specs.Chains.{AreAllIn, AreApart, IsNoted, IsPlaced, IsSame, lists_of, lives_in, numbers_at, slot_by, slot_in, slot_of};
 
 use crate::guesses::{Guesses, hold_guess};
+use crate::key_hash::hash_of;
 use crate::lists::{hold_room, list_at, one_number, push_at};
 use rel_base::{Key, NoMemory, Twin};
 use std::alloc::Global;
@@ -22,7 +24,7 @@ pub struct Chains {
     pub ended: BTreeMap<Key, usize>,
     /// For each slot the numbers of the writes on its key, rising.
     pub numbers: Vec<Vec<usize>>,
-    /// Guesses at the slots of the keys, of which nothing is promised.
+    /// Guesses at the slots of the keys, of which nothing is promised, and marks of all keys that have one.
     pub guesses: Guesses,
 }
 
@@ -176,6 +178,21 @@ impl Chains {
         }
     }
 
+    /// Where a key stands, where it was ever written. The maps are not asked where the marks tell, by the hash of the key, that it
+    /// was not.
+    pub fn spot_if_in(&self, key: &Key, hash: u64) -> Option<KeySlot>
+        requires hash { hash ≡ key_hash key.now }
+        requires known { AreAllIn self.now }
+        ensures slot { option_map (λ spot. spot.slot) result ≡ slot_of self.now key.now }
+        ensures lives { IfSome result (λ spot. spot.lives ≡ lives_in self.now key.now) }
+    {
+        if self.guesses.may_be_in(hash) {
+            self.spot(key)
+        } else {
+            None
+        }
+    }
+
     /// The slot of a key, where it was ever written.
     pub fn slot(&self, key: &Key) -> Option<usize>
         ensures { result ≡ slot_of self.now key.now }
@@ -218,7 +235,7 @@ impl Chains {
         let slot = self.numbers.len();
         settle_key(&mut self.living, &mut self.ended, alloc, key, slot, lives)?;
         self.numbers.push_reserved(numbers);
-        self.guesses.put(key, slot);
+        self.guesses.put(hash_of(key), slot);
         Ok(())
     }
 

@@ -3,9 +3,9 @@
 ghost use Rattle.std.specs.Prelude.{◌≡◌, ◌&&◌, ◌||◌, ◌==◌, ◌++◌, ◌∷◌, [], OnOk, cond, false, not, true, ℕ};
 ghost use Rattle.std.specs.Option.{option_copied};
 ghost use Rattle.rel_base.specs.declared.value.Value.{Value as Cell};
-ghost use Rattle.version_index.specs.Columns.{HasRoomAt, IsHeld, IsHeldUnless, IsNotedIn, IsReady, IsRoomy, IsSameColumn, cell, has, has_same, has_slot, touched_at};
+ghost use Rattle.version_index.specs.Columns.{HasRoomAt, IsHeld, IsNotedIn, IsReady, IsRoomy, IsSameColumn, cell, has, has_same, has_slot, touched_at};
 
-use crate::living::{Living, hold_slot, put_slot, take_slot};
+use crate::living::{Living, hold_slot, take_slot};
 use crate::touched::{Touched, hold_number, touch};
 use rel_base::{NoMemory, Row, Value, Write};
 use std::alloc::Global;
@@ -16,7 +16,7 @@ use std::collections::BTreeMap;
 pub struct ColumnIndex {
     /// The number of the column.
     pub column: u32,
-    /// For each value the slots of the keys that have a row with it.
+    /// For each value at least the slots of the keys that have a row with it.
     pub living: Living,
     /// For each value the numbers of the writes that found it, or have it in their row before or their row after.
     pub touched: Touched,
@@ -77,16 +77,16 @@ fn hold_values(
     alloc: Global,
     found: Option<&Value>,
     before: Option<&Value>,
-    after: Option<&Value>,
+    other: Option<&Value>,
 ) -> Result<(), NoMemory>
     ensures same { (v : Cell) → touched_at touched.new.entries v ≡ touched_at touched.old.entries v }
     ensures found { OnOk result (IsRoomy touched.new.entries (option_copied found.entry)) }
     ensures before { OnOk result (IsRoomy touched.new.entries (option_copied before.entry)) }
-    ensures after { OnOk result (IsRoomy touched.new.entries (option_copied after.entry)) }
+    ensures other { OnOk result (IsRoomy touched.new.entries (option_copied other.entry)) }
 {
     hold_value(touched, alloc, found)?;
     hold_value(touched, alloc, unless(before, found))?;
-    hold_value(touched, alloc, unless(unless(after, found), before))
+    hold_value(touched, alloc, unless(other, before))
 }
 
 /// Adds a number at a value that may be there, where there is room for it.
@@ -100,26 +100,27 @@ fn touch_value(touched: &mut Touched, value: Option<&Value>, number: usize)
     }
 }
 
-/// Adds a number at each of three values, where there is room for it.
+/// Adds a number at each of three values, where there is room for it. Of the last one is passed whether it is another than the first.
 fn touch_values(
     touched: &mut Touched,
     found: Option<&Value>,
     before: Option<&Value>,
-    after: Option<&Value>,
+    other: Option<&Value>,
     number: usize,
 )
     requires found { IsRoomy touched.old.entries (option_copied found) }
     requires before { IsRoomy touched.old.entries (option_copied before) }
-    requires after { IsRoomy touched.old.entries (option_copied after) }
+    requires other { IsRoomy touched.old.entries (option_copied other) }
+    requires apart { (v : Cell) → has v (option_copied other) ≡ true → has v (option_copied found) ≡ false }
     ensures { (v : Cell) → touched_at touched.new.entries v
-        ≡ cond (has v (option_copied found.entry) || has v (option_copied before.entry) || has v (option_copied after.entry)) (touched_at touched.old.entries v ++ number ∷ []) (touched_at touched.old.entries v) }
+        ≡ cond (has v (option_copied found.entry) || has v (option_copied before.entry) || has v (option_copied other.entry)) (touched_at touched.old.entries v ++ number ∷ []) (touched_at touched.old.entries v) }
 {
     touch_value(touched, found, number);
     touch_value(touched, unless(before, found), number);
-    touch_value(touched, unless(unless(after, found), before), number);
+    touch_value(touched, unless(other, before), number);
 }
 
-/// Holds a slot at a value that may be there.
+/// Puts a slot in at a value that may be there.
 fn hold_at(
     living: &mut Living,
     alloc: Global,
@@ -127,21 +128,11 @@ fn hold_at(
     slot: usize,
 ) -> Result<(), NoMemory>
     ensures held { OnOk result (IsHeld living.new.entries (option_copied value.entry) slot) }
-    ensures same { (v : Cell) (s : ℕ) → has_slot living.new.entries v s ≡ has_slot living.old.entries v s }
+    ensures kept { (v : Cell) (s : ℕ) → has_slot living.old.entries v s ≡ true → has_slot living.new.entries v s ≡ true }
 {
     match value {
         None => Ok(()),
         Some(value) => hold_slot(living, alloc, value, slot),
-    }
-}
-
-/// Marks a slot at a value that may be there, where it is held.
-fn enter(living: &mut Living, value: Option<&Value>, slot: usize)
-    requires { IsHeld living.old.entries (option_copied value) slot }
-    ensures { (v : Cell) (s : ℕ) → has_slot living.new.entries v s ≡ ((has v (option_copied value.entry) && s == slot) || has_slot living.old.entries v s) }
-{
-    if let Some(value) = value {
-        put_slot(living, value, slot);
     }
 }
 
@@ -154,15 +145,20 @@ fn leave(living: &mut Living, value: Option<&Value>, slot: usize)
     }
 }
 
-/// Moves a slot from the value that its key had to the one that it has now. It is held there, where that is another value: a slot
-/// whose key keeps its value stays where it is, and is not looked up.
-fn move_slot(living: &mut Living, found: Option<&Value>, after: Option<&Value>, slot: usize)
-    requires held { IsHeldUnless living.old.entries (option_copied after) (option_copied found) slot }
-    requires was { (v : Cell) → has_slot living.old.entries v slot ≡ has v (option_copied found) }
-    ensures { (v : Cell) (s : ℕ) → has_slot living.new.entries v s ≡ cond (s == slot) (has v (option_copied after.entry)) (has_slot living.old.entries v s) }
+/// The value that a key had, where it has it no more. What is passed besides is the value that it has now, and the same again where it
+/// is another one.
+fn gone<'a>(
+    found: Option<&'a Value>,
+    after: Option<&Value>,
+    other: Option<&Value>,
+) -> Option<&'a Value>
+    requires { (v : Cell) → has v (option_copied other) ≡ (has v (option_copied after) && not (has v (option_copied found))) }
+    ensures { (v : Cell) → has v (option_copied after.entry) ≡ true → has v (option_copied result) ≡ false }
 {
-    enter(living, unless(after, found), slot);
-    leave(living, unless(found, after), slot);
+    match (after, other) {
+        (Some(_), None) => None,
+        _ => found,
+    }
 }
 
 impl ColumnIndex {
@@ -189,7 +185,8 @@ impl ColumnIndex {
         }
     }
 
-    /// Takes the memory that a write on the key of a slot needs, which found a row. What the index tells stays as it is.
+    /// Takes the memory that a write on the key of a slot needs, which found a row. What the index tells stays as it is, but for the slot,
+    /// which is put in at its new value already.
     pub fn hold(
         &mut self,
         alloc: Global,
@@ -203,20 +200,21 @@ impl ColumnIndex {
         let found = value_in(found, self.column);
         let before = value_in(write.before.as_ref(), self.column);
         let after = value_in(write.after.as_ref(), self.column);
-        hold_values(&mut self.touched, alloc, found, before, after)?;
-        hold_at(&mut self.living, alloc, unless(after, found), slot)
+        let other = unless(after, found);
+        hold_values(&mut self.touched, alloc, found, before, other)?;
+        hold_at(&mut self.living, alloc, other, slot)
     }
 
     /// Notes the write of a number on the key of a slot, which found a row. Takes no memory.
     pub fn note(&mut self, slot: usize, found: Option<&Row>, write: &Write, number: usize)
-        requires ready { IsReady slot (option_copied found) write.now self.old }
-        requires was { (v : Cell) → has_slot self.old.living.entries v slot ≡ has v (cell self.old.column (option_copied found)) }
+        requires { IsReady slot (option_copied found) write.now self.old }
         ensures { IsNotedIn slot (option_copied found.entry) write.now number self.old self.new }
     {
         let found = value_in(found, self.column);
         let before = value_in(write.before.as_ref(), self.column);
         let after = value_in(write.after.as_ref(), self.column);
-        touch_values(&mut self.touched, found, before, after, number);
-        move_slot(&mut self.living, found, after, slot);
+        let other = unless(after, found);
+        touch_values(&mut self.touched, found, before, other, number);
+        leave(&mut self.living, gone(found, after, other), slot);
     }
 }

@@ -7,6 +7,7 @@ ghost use Rattle.version_index.specs.Chains.{AreChainsOf, lives_in, slot_of};
 ghost use Rattle.version_index.specs.View.{IsView};
 
 use crate::chains::{Chains, KeySlot, slot_at};
+use crate::key_hash::hash_of;
 use crate::view::TableView;
 use rel_base::{Key, Write};
 use row_sets::entry::{LogEntry, entry_at};
@@ -40,26 +41,27 @@ fn spot_at(entries: &[LogEntry], chains: &Chains, key: &Key, slot: usize) -> Opt
 }
 
 /// Where a key stands, where the guess at its slot is right.
-fn guessed_spot(entries: &[LogEntry], chains: &Chains, key: &Key) -> Option<KeySlot>
+fn guessed_spot(entries: &[LogEntry], chains: &Chains, key: &Key, hash: u64) -> Option<KeySlot>
     requires { AreChainsOf entries.now chains.now }
     ensures slot { IfSome result (λ spot. slot_of chains.now key.now ≡ Some spot.slot) }
     ensures lives { IfSome result (λ spot. spot.lives ≡ lives_in chains.now key.now) }
 {
-    match chains.guesses.get(key) {
+    match chains.guesses.get(hash) {
         None => None,
         Some(slot) => spot_at(entries, chains, key, slot),
     }
 }
 
-/// Where a key stands, where it was ever written: by a guess, and by the maps where that is wrong. The guess tells it in fewer looks into
-/// memory, and most of what it looks at is read next.
+/// Where a key stands, where it was ever written: by a guess, and where that is wrong by the maps, unless the marks tell that it was
+/// never written. The guess tells it in fewer looks into memory, and most of what it looks at is read next.
 pub fn spot_of(entries: &[LogEntry], chains: &Chains, key: &Key) -> Option<KeySlot>
     requires { AreChainsOf entries.now chains.now }
     ensures slot { option_map (λ spot. spot.slot) result ≡ slot_of chains.now key.now }
     ensures lives { IfSome result (λ spot. spot.lives ≡ lives_in chains.now key.now) }
 {
-    match guessed_spot(entries, chains, key) {
-        None => chains.spot(key),
+    let hash = hash_of(key);
+    match guessed_spot(entries, chains, key, hash) {
+        None => chains.spot_if_in(key, hash),
         Some(spot) => Some(spot),
     }
 }

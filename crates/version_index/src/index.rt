@@ -3,10 +3,9 @@
 ghost use Rattle.std.specs.Prelude.{◌≡◌, ◌+◌, ◌++◌, ◌<◌, All, IfOk, OnErr, OnOk, length, map, slice_get, take};
 ghost use Rattle.std.specs.List.{AllZip};
 ghost use Rattle.std.specs.Option.{option_copied};
-ghost use Rattle.rel_base.specs.declared.value.Value.{Value as Cell};
 ghost use Rattle.row_sets.specs.Log.{history_of};
 ghost use Rattle.version_index.specs.Chains.{slot_or};
-ghost use Rattle.version_index.specs.Columns.{IsNotedIn, IsReady, IsSameColumn, cell, has, has_slot};
+ghost use Rattle.version_index.specs.Columns.{IsNotedIn, IsReady, IsSameColumn};
 ghost use Rattle.version_index.specs.Index.{HasColumns, IsEmptyColumn, IsEmptyIndex, IsIndexOf, index_columns, last_in, row_after, row_by};
 
 use crate::chains::{Chains, slot_at};
@@ -128,8 +127,7 @@ fn note_all(
     write: &Write,
     number: usize,
 )
-    requires ready { All (IsReady slot (option_copied found) write.now) columns.old.items }
-    requires was { All (λ c. (v : Cell) → has_slot c.living.entries v slot ≡ has v (cell c.column (option_copied found))) columns.old.items }
+    requires { All (IsReady slot (option_copied found) write.now) columns.old.items }
     ensures { AllZip (IsNotedIn slot (option_copied found.entry) write.now number) columns.old.items columns.new.items }
 {
     for column in columns.iter_mut() {

@@ -12,6 +12,7 @@ pub mod guessing;
 pub mod heads;
 pub mod hits;
 pub mod index;
+pub mod key_hash;
 pub mod key_spans;
 pub mod keyed;
 pub mod lifespans;

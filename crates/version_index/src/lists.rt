@@ -6,11 +6,11 @@ ghost use Rattle.version_index.specs.Chains.{HasRoomForNumber, list_or_none, lis
 use rel_base::NoMemory;
 use std::alloc::Global;
 
-/// A list of one number.
+/// A list of one number. Three take no more memory than one, since that is the least that is given.
 pub fn one_number(alloc: Global, number: usize) -> Result<Vec<usize>, NoMemory>
     ensures { IfOk result (λ numbers. numbers.items ≡ number ∷ []) }
 {
-    let mut numbers = Vec::with_capacity(alloc, 1)?;
+    let mut numbers = Vec::with_capacity(alloc, 3)?;
     numbers.push_reserved(number);
     Ok(numbers)
 }

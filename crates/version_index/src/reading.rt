@@ -1,6 +1,7 @@
 //! Answers to reads.
 
-ghost use Rattle.std.specs.Prelude.{◌≡◌, ◌∷◌, [], IfOk, Some};
+ghost use Rattle.std.specs.Prelude.{◌≡◌, IfOk, Some, option_to_list};
+ghost use Rattle.std.specs.FinMap.{get};
 ghost use Rattle.std.specs.Option.{option_map};
 ghost use Rattle.rel_base.specs.Access.{ReadFits, WriteFits};
 ghost use Rattle.rel_base.specs.Tables.{rows, tables_at};
@@ -10,14 +11,13 @@ ghost use Rattle.row_sets.specs.Watched.{is_watched};
 ghost use Rattle.row_sets.specs.Log.{stamped_of};
 ghost use Rattle.version_index.specs.Chain.{IsFirst};
 ghost use Rattle.version_index.specs.Hits.{TellsFirst};
-ghost use Rattle.version_index.specs.Rows.{rows_of_keys};
 ghost use Rattle.version_index.specs.View.{IsAsked, IsView, history_in, hit_told};
 
 use crate::guessing::slot_near;
 use crate::hits::first_by_column;
 use crate::key_spans::first_by_key;
-use crate::keyed::first_late;
-use crate::rows::add_key;
+use crate::keyed::{first_late, last_up_to};
+use crate::rows::row_left;
 use crate::span::{column_of, rows_of_span};
 use crate::view::{ReadAtHeight, TableView};
 use rel_base::{Key, List, NoMemory, Read, Seen, TableDef, Value};
@@ -26,21 +26,21 @@ use row_sets::entry::{LogEntry, entry_at, place_at};
 use row_sets::hits::{Watch, covers_part};
 use std::alloc::Global;
 
-/// The row of one key after the block of a height, as a list of none or one.
-fn rows_of_key(
+/// The row of a key after the block of a height, as a list of none or one.
+fn row_of_key(
     alloc: Global,
     view: &TableView<'_>,
-    look: &ReadAtHeight<'_>,
     key: &Key,
+    height: u64,
 ) -> Result<List<Seen>, NoMemory>
-    requires view { IsView view.now }
-    requires look { IsAsked look.now.def.now look.now.read.now view.now }
-    ensures { IfOk result (λ seen. seen ≡ rows_of_keys look.now.def.now look.now.read.now (tables_at look.now.height (history_in view.now)) view.now.table (key.now ∷ [])) }
+    requires { IsView view.now }
+    ensures { IfOk result (λ seen. seen ≡ option_to_list (get (tables_at height (history_in view.now)) (view.now.table, key.now))) }
 {
-    let mut rows = List::new(alloc);
     let slot = slot_near(view, key);
-    add_key(alloc, &mut rows, view, look, key, slot)?;
-    Ok(rows)
+    match last_up_to(view, key, slot, height) {
+        None => Ok(List::new(alloc)),
+        Some(number) => row_left(alloc, entry_at(view.entries, number)),
+    }
 }
 
 /// The rows that a read gets of the tables after the block of a height.
@@ -54,7 +54,8 @@ pub fn rows_at(
     ensures { IfOk result (λ seen. seen ≡ rows look.now.def.now look.now.read.now (tables_at look.now.height (history_in view.now))) }
 {
     match look.read {
-        Read::Point { key, .. } => rows_of_key(alloc, view, look, key),
+        // The row at a point's key has that key, so it needs no second look.
+        Read::Point { key, .. } => row_of_key(alloc, view, key, look.height),
         Read::Span {
             column,
             low,

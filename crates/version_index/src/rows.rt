@@ -1,6 +1,6 @@
 //! The rows of keys at a height.
 
-ghost use Rattle.std.specs.Prelude.{◌≡◌, ◌<◌, ◌++◌, IfSome, OnOk, length};
+ghost use Rattle.std.specs.Prelude.{◌≡◌, ◌<◌, ◌++◌, IfOk, IfSome, OnOk, length, option_to_list};
 ghost use Rattle.std.specs.FinMap.{get};
 ghost use Rattle.std.specs.Option.{option_copied};
 ghost use Rattle.rel_base.specs.Access.{ReadFits, covers_row};
@@ -10,14 +10,13 @@ ghost use Rattle.rel_base.specs.Tables.{tables_at};
 ghost use Rattle.rel_base.specs.Value.{value_eq};
 ghost use Rattle.row_sets.specs.Log.{stamped_of};
 ghost use Rattle.version_index.specs.Candidates.{IsCandidate};
-ghost use Rattle.version_index.specs.Chains.{slot_of};
 ghost use Rattle.version_index.specs.Rows.{IsValueOf, covered_row, seen_of, seen_row};
 ghost use Rattle.version_index.specs.View.{IsAsked, IsView, history_in};
 
 use crate::candidates::Candidate;
 use crate::keyed::last_up_to;
 use crate::view::{ReadAtHeight, TableView};
-use rel_base::{Key, List, NoMemory, Place, Read, Row, Seen, Twin, Value};
+use rel_base::{List, NoMemory, Place, Read, Row, Seen, Twin, Value};
 use row_sets::entry::{LogEntry, entry_at, place_at};
 use std::alloc::Global;
 
@@ -107,19 +106,18 @@ pub fn add_key_with(
     }
 }
 
-/// Adds the row of a key after the block of a height to rows, where there is one and a read covers it.
-pub fn add_key(
-    alloc: Global,
-    rows: &mut List<Seen>,
-    view: &TableView<'_>,
-    look: &ReadAtHeight<'_>,
-    key: &Key,
-    slot: Option<usize>,
-) -> Result<(), NoMemory>
-    requires view { IsView view.now }
-    requires look { IsAsked look.now.def.now look.now.read.now view.now }
-    requires slot { slot ≡ slot_of view.now.index.now.chains key.now }
-    ensures { OnOk result (rows.new ≡ rows.old ++ covered_row look.now.def.now look.now.read.now (get (tables_at look.now.height (history_in view.now)) (view.now.table, key.now))) }
+/// The row that a committed write left, with its place, as a list of none or one.
+pub fn row_left(alloc: Global, entry: &LogEntry) -> Result<List<Seen>, NoMemory>
+    ensures { IfOk result (λ rows. rows ≡ option_to_list (seen_of (stamped_of entry.now))) }
 {
-    add_key_with(alloc, rows, view, look, None, (key, slot))
+    let Some(row) = &entry.placed.write.after else {
+        return Ok(List::new(alloc));
+    };
+    let mut rows = Vec::with_capacity(alloc, 1)?;
+    let row = row.copy(alloc)?;
+    rows.push_reserved(Seen {
+        row,
+        place: place_at(entry),
+    });
+    Ok(List::from_vec(rows))
 }

@@ -32,7 +32,7 @@ pub fn hold_number(touched: &mut Touched, alloc: Global, value: &Value) -> Resul
     if let Some(numbers) = touched.get_mut(value) {
         return hold_one(numbers);
     }
-    let numbers = Vec::with_capacity(alloc, 1)?;
+    let numbers = Vec::with_capacity(alloc, 3)?;
     let value = value.copy(alloc)?;
     let _ = touched.insert(value, numbers)?;
     Ok(())

@@ -16,14 +16,13 @@ returns-clause-before c =
     let second : IsRoomy touched (option_copied c.unless.result) = λ v there. c.hold_value-3.ensures.kept v (c.in_ok-hold_value-2.ensures.room v there) in
     on_ok_then c.hold_value-3.result (λ third. roomy_unless touched (option_copied c.args.before) (option_copied c.args.found) (option_copied c.unless.result) c.unless.ensures first second) c.hold_value-3.ensures.room
 
-pub returns-clause-after : goal.returns-clause-after
-returns-clause-after c =
+pub returns-clause-other : goal.returns-clause-other
+returns-clause-other c =
     let touched = c.hold_value-3.new.touched.entries in
     let found = option_copied c.args.found in
     let before = option_copied c.args.before in
     let first : IsRoomy touched found = λ v there. c.hold_value-3.ensures.kept v (c.in_ok-hold_value-2.ensures.kept v (c.in_ok-hold_value.ensures.room v there)) in
     let second : IsRoomy touched (option_copied c.unless.result) = λ v there. c.hold_value-3.ensures.kept v (c.in_ok-hold_value-2.ensures.room v there) in
-    let other = option_copied c.unless-2.result in
     on_ok_then c.hold_value-3.result (λ third.
-    roomy_unless touched (option_copied c.args.after) found other c.unless-2.ensures first
-    (roomy_unless touched other before (option_copied c.unless-3.result) c.unless-3.ensures (roomy_unless touched before found (option_copied c.unless.result) c.unless.ensures first second) third)) c.hold_value-3.ensures.room
+    roomy_unless touched (option_copied c.args.other) before (option_copied c.unless-2.result) c.unless-2.ensures (roomy_unless touched before found (option_copied c.unless.result) c.unless.ensures first second) third)
+    c.hold_value-3.ensures.room

@@ -4,7 +4,7 @@ use Rattle.version_index.specs.Columns.{touched_at, touches_at}
 use Rattle.version_index.specs.Numbers.{passes_at}
 use Rattle.version_index.specs.View.{history_in}
 use Rattle.version_index.proofs.Lowering.{first_of_lowers, lowers_from, lowers_then}
-use Rattle.version_index.proofs.Marks.{same_value}
+use Rattle.version_index.proofs.AtValues.{same_value}
 use Rattle.version_index.proofs.Points.{below_or}
 use Rattle.version_index.proofs.Wanted.{pinned}
 use Rattle.version_index.proofs.Watching.{read_fits_table, watched_noted}

@@ -1,27 +1,17 @@
 use Rattle.std.proofs.Common.{◌≡◌, ◌+◌, ◌<◌, arith, drop, length, subst, suc, slice_set, sym, take}
 use Rattle.std.specs.List.{AllZip}
 use Rattle.std.specs.Option.{option_copied}
-use Rattle.rel_base.specs.declared.value.Value.{Value}
-use Rattle.version_index.specs.Columns.{IsNotedIn, IsReady, cell, has, has_slot}
-use Rattle.version_index.specs.declared.column.ColumnIndex.{ColumnIndex}
+use Rattle.version_index.specs.Columns.{IsNotedIn, IsReady}
 use Rattle.version_index.proofs.Zipped.{left_first, left_next, zip_next}
 use Rattle.version_index.proofs.index.note_all.Goals as goal
 
 -- the column is as it was
-pub note-requires-clause-ready : goal.note-requires-clause-ready
-note-requires-clause-ready c =
+pub note-requires : goal.note-requires
+note-requires c =
     let old = c.args.columns.now.items in
     let index = c.loop-column.column-index in
     let below = subst (λ xs. index < length xs) c.deref_mut-column-items.ensures.value c.loop-column-test.true in
-    subst (IsReady c.args.slot (option_copied c.args.found) c.args.write.now) (sym (left_first old c.loop-column.column-items index c.column-item.result c.loop-column.invariant.1)) (c.requires.ready index c.column-item.result below)
-
-pub note-requires-clause-was : goal.note-requires-clause-was
-note-requires-clause-was c =
-    let old = c.args.columns.now.items in
-    let index = c.loop-column.column-index in
-    let Was : ColumnIndex → Type 0 = λ column. (v : Value) → has_slot column.living.entries v c.args.slot ≡ has v (cell column.column (option_copied c.args.found)) in
-    let below = subst (λ xs. index < length xs) c.deref_mut-column-items.ensures.value c.loop-column-test.true in
-    subst Was (sym (left_first old c.loop-column.column-items index c.column-item.result c.loop-column.invariant.1)) (c.requires.was index c.column-item.result below)
+    subst (IsReady c.args.slot (option_copied c.args.found) c.args.write.now) (sym (left_first old c.loop-column.column-items index c.column-item.result c.loop-column.invariant.1)) (c.requires index c.column-item.result below)
 
 pub loop-column-preserved : goal.loop-column-preserved
 loop-column-preserved c =

@@ -1,7 +1,7 @@
 use Rattle.std.proofs.Common.{◌≡◌, ◌∙◌, IfOk, ap, subst, sym}
 use Rattle.rel_base.specs.Access.{read_table}
 use Rattle.rel_base.specs.declared.access.Read.TheVariants.{Point}
-use Rattle.version_index.proofs.Answered.{point_rows}
+use Rattle.version_index.proofs.Answered.{point_row}
 use Rattle.version_index.proofs.reading.rows_at.Goals as goal
 
 -- the row at the key of a point is what it gets
@@ -11,4 +11,4 @@ returns-in-Point c =
     let look = c.args.look.now in
     let asked = c.requires.look in
     let is = c.in-Point.is ∙ ap (λ t. Point t c.in-Point.key) (sym (asked.table ∙ ap read_table c.in-Point.is)) in
-    subst (λ rows. IfOk c.rows_of_key.result (λ seen. seen ≡ rows)) (point_rows look.def.now view c.in-Point.key look.height look.read.now is asked) c.rows_of_key.ensures
+    subst (λ rows. IfOk c.row_of_key.result (λ seen. seen ≡ rows)) (point_row look.def.now view c.in-Point.key look.height look.read.now is asked) c.row_of_key.ensures

@@ -5,7 +5,7 @@ use Rattle.std.specs.declared.alloc.Global.{Global}
 use Rattle.std.specs.declared.vec.Vec.{Vec}
 use Rattle.rel_base.specs.Value.{value_cmp}
 use Rattle.rel_base.specs.declared.value.Value.{Value}
-use Rattle.version_index.proofs.Marks.{SetAt, room_kept, touched_same}
+use Rattle.version_index.proofs.AtValues.{SetAt, room_kept, touched_same}
 use Rattle.version_index.proofs.touched.hold_number.Goals as goal
 
 pub returns-in-Some-clause-same : goal.returns-in-Some-clause-same

@@ -2,7 +2,7 @@ use Rattle.std.proofs.Common.{◌≡◌, ◌∙◌, Some, ap, is_some, sym}
 use Rattle.std.specs.BTreeMap.{get_by}
 use Rattle.std.specs.Option.{option_copied_mut}
 use Rattle.rel_base.specs.Value.{value_cmp}
-use Rattle.version_index.proofs.Marks.{room_apart, touched_more}
+use Rattle.version_index.proofs.AtValues.{room_apart, touched_more}
 use Rattle.version_index.proofs.touched.touch.Goals as goal
 
 pub returns-in-Some-clause-touched : goal.returns-in-Some-clause-touched

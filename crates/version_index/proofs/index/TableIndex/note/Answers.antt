@@ -4,7 +4,7 @@ use Rattle.version_index.specs.Chains.{IsNoted, lists_of, slot_of}
 use Rattle.version_index.specs.Columns.{IsNotedIn, IsSameColumn}
 use Rattle.version_index.specs.Index.{IsIndexOf}
 use Rattle.version_index.specs.declared.index.TableIndex.{TableIndex}
-use Rattle.version_index.proofs.Indexed.{finds, held_index, in_any_case, index_from, index_of, noted_index, own_place, spot_within, was_held}
+use Rattle.version_index.proofs.Indexed.{finds, held_index, in_any_case, index_from, index_of, noted_index, own_place, spot_within}
 use Rattle.version_index.proofs.Touching.{map_zip}
 use Rattle.version_index.proofs.index.TableIndex.note.Goals as goal
 
@@ -16,7 +16,7 @@ returns-in_err-hold_all-clause-same c =
     let is = index_from c.args.entries.now c.args.number entry c.entry_at.ensures c.args.number old c.requires.old in
     in_any_case c.from_residual.result
     (index_of c.args.entries.now c.args.number entry c.entry_at.ensures c.args.number _
-    (held_index c.args.entries.now c.args.number entry c.entry_at.ensures old is c.hold_all.new.columns.items c.hold_all.ensures.same old.chains (record { living = refl; ended = refl; lists = refl }) _ refl refl))
+    (held_index c.args.entries.now c.args.number entry c.entry_at.ensures old is c.hold_all.new.columns.items c.hold_all.ensures.same old.chains (record { living = refl; ended = refl; lists = refl; all_in = λ all. all }) _ refl refl))
 
 pub returns-in_err-hold_all-clause-columns : goal.returns-in_err-hold_all-clause-columns
 returns-in_err-hold_all-clause-columns c = map_zip (λ column. column.column) IsSameColumn (λ one two same. same.column) c.args.self.now.columns.items c.hold_all.new.columns.items c.hold_all.ensures.same
@@ -49,15 +49,6 @@ note-requires-clause-within c =
     let old = c.args.self.now in
     let is = index_from c.args.entries.now c.args.number entry c.entry_at.ensures c.args.number old c.requires.old in
     spot_within c.spot_of-spot.result (slot_of old.chains entry.placed.write.key) (length (lists_of old.chains)) c.spot_of-spot.ensures.slot (is.chains.within entry.placed.write.key)
-
-pub note_all-requires-clause-was : goal.note_all-requires-clause-was
-note_all-requires-clause-was c =
-    let entry = c.entry_at.result.now in
-    let old = c.args.self.now in
-    let is = index_from c.args.entries.now c.args.number entry c.entry_at.ensures c.args.number old c.requires.old in
-    let own = own_place c.args.entries.now c.args.number entry c.entry_at.ensures old is c.slot_at-slot.result c.count.result c.own_slot-own.result (c.slot_at-slot.ensures ∙ c.spot_of-spot.ensures.slot) c.count.ensures c.own_slot-own.ensures in
-    let found = c.found_row-found.ensures ∙ finds c.args.entries.now c.args.number entry c.entry_at.ensures old is c.numbers.result.now c.slot_at-slot.result (c.slot_at-slot.ensures ∙ c.spot_of-spot.ensures.slot) c.numbers.ensures in
-    was_held c.args.entries.now c.args.number entry c.entry_at.ensures old is c.hold_all.new.columns.items c.hold_all.ensures.same (option_copied c.found_row-found.result) found c.own_slot-own.result own
 
 -- all parts with the write noted
 pub returns-clause-new : goal.returns-clause-new

@@ -1,16 +1,18 @@
--- What becomes of the marked slots and of the numbers at each value when those at one value change.
+-- What becomes of the slots and of the numbers at each value when those at one value change.
 use Rattle.std.proofs.Common.{◌≡◌, ◌∙◌, ℕ, ◌<◌, List, [], ◌∷◌, ◌++◌, Bool, true, false, ◌&&◌, ◌||◌, ◌==◌, cond, Option, Some, None, refl, ap, subst, sym}
-use Rattle.std.specs.BTreeMap.{BTreeMap, is_at}
-use Rattle.std.specs.Cmp.{eq_by_cmp_equiv}
+use Rattle.std.specs.BTreeMap.{is_at}
+use Rattle.std.specs.BTreeSet.{BTreeSet}
+use Rattle.std.specs.Cmp.{eq_by_cmp_equiv, tied_itself}
 use Rattle.std.specs.Map.{lookup}
 use Rattle.std.specs.Option.{IsSomeAnd}
+use Rattle.std.specs.Ordering.{is_eq}
 use Rattle.std.specs.Vec.{vec_capacity, vec_len}
 use Rattle.std.specs.declared.alloc.Global.{Global}
 use Rattle.std.specs.declared.vec.Vec.{Vec}
 use Rattle.rel_base.specs.declared.value.Value.{Value}
 use Rattle.rel_base.specs.Value.{value_cmp, value_cmp-exact, value_cmp-total, value_eq}
-use Rattle.rel_base.proofs.Bits.{is_Equal}
-use Rattle.version_index.specs.Columns.{HasRoomAt, has_mark, has_slot, items_in, mark_in, touched_at}
+use Rattle.rel_base.proofs.Bits.{is_Equal, no_both}
+use Rattle.version_index.specs.Columns.{HasRoomAt, has_in, has_slot, items_in, touched_at}
 
 -- values that are one in the order are one
 pub same_value : (a b : Value) → value_eq a b ≡ true → a ≡ b
@@ -38,45 +40,57 @@ module _ {X : Type 0} where
   pub had_at : (old : List (Value × X)) (value : Value) (was : Option X) (v : Value) → lookup (is_at (value_cmp value)) old ≡ was → value_eq v value ≡ true → lookup (is_at (value_cmp v)) old ≡ was
   had_at old value was v there tied = ap (λ w. lookup (is_at (value_cmp w)) old) (same_value v value tied) ∙ there
 
-module _ (old new : List (Value × BTreeMap ℕ Bool)) (value : Value) where
-  -- what a test of the mark of a slot tells at each value
-  marks_told : (now : Option (BTreeMap ℕ Bool)) → SetAt old new value now → (v : Value) (s : ℕ) → has_slot new v s ≡ cond (value_eq v value) (has_mark (mark_in now s)) (has_slot old v s)
-  marks_told now sets v s = told_at (λ found. has_mark (mark_in found s)) old new value now sets v
+module _ (old new : List (Value × BTreeSet ℕ)) (value : Value) where
+  -- whether a slot is at each value
+  slots_told : (now : Option (BTreeSet ℕ)) → SetAt old new value now → (v : Value) (s : ℕ) → has_slot new v s ≡ cond (value_eq v value) (has_in now s) (has_slot old v s)
+  slots_told now sets v s = told_at (λ found. has_in found s) old new value now sets v
 
   -- the same at each value, where it is the same at the one that changed
-  pub marks_same : (was now : Option (BTreeMap ℕ Bool)) → lookup (is_at (value_cmp value)) old ≡ was → SetAt old new value now → ((s : ℕ) → has_mark (mark_in now s) ≡ has_mark (mark_in was s))
+  pub slots_same : (was now : Option (BTreeSet ℕ)) → lookup (is_at (value_cmp value)) old ≡ was → SetAt old new value now → ((s : ℕ) → has_in now s ≡ has_in was s)
       → (v : Value) (s : ℕ) → has_slot new v s ≡ has_slot old v s
-  marks_same was now there sets same v s =
-      marks_told now sets v s ∙ elim (value_eq v value) as (λ b. value_eq v value ≡ b → cond b (has_mark (mark_in now s)) (has_slot old v s) ≡ has_slot old v s) [
-        | true ↦ λ tied. same s ∙ ap (λ found. has_mark (mark_in found s)) (sym (had_at old value was v there tied))
+  slots_same was now there sets same v s =
+      slots_told now sets v s ∙ elim (value_eq v value) as (λ b. value_eq v value ≡ b → cond b (has_in now s) (has_slot old v s) ≡ has_slot old v s) [
+        | true ↦ λ tied. same s ∙ ap (λ found. has_in found s) (sym (had_at old value was v there tied))
         | false ↦ λ apart. refl
       ] refl
 
-  -- one slot more
-  pub marks_put : (was now : BTreeMap ℕ Bool) (slot : ℕ) → lookup (is_at (value_cmp value)) old ≡ Some was → SetAt old new value (Some now)
-      → ((s : ℕ) → has_mark (mark_in (Some now) s) ≡ (s == slot || has_mark (mark_in (Some was) s))) → (v : Value) (s : ℕ) → has_slot new v s ≡ ((value_eq v value && s == slot) || has_slot old v s)
-  marks_put was now slot there sets put v s =
-      marks_told (Some now) sets v s ∙ elim (value_eq v value) as (λ b. value_eq v value ≡ b → cond b (has_mark (mark_in (Some now) s)) (has_slot old v s) ≡ ((b && s == slot) || has_slot old v s)) [
-        | true ↦ λ tied. put s ∙ ap (λ found. s == slot || has_mark (mark_in found s)) (sym (had_at old value (Some was) v there tied))
-        | false ↦ λ apart. refl
-      ] refl
+  -- none is lost
+  pub slots_kept : (was now : BTreeSet ℕ) → lookup (is_at (value_cmp value)) old ≡ Some was → SetAt old new value (Some now) → ((s : ℕ) → has_in (Some was) s ≡ true → has_in (Some now) s ≡ true)
+      → (v : Value) (s : ℕ) → has_slot old v s ≡ true → has_slot new v s ≡ true
+  slots_kept was now there sets kept v s had = slots_told (Some now) sets v s ∙ go (value_eq v value) refl
+    where
+      go : (b : Bool) → value_eq v value ≡ b → cond b (has_in (Some now) s) (has_slot old v s) ≡ true
+      go true tied = kept s (sym (ap (λ found. has_in found s) (had_at old value (Some was) v there tied)) ∙ had)
+      go false apart = had
+
+  -- and one that was put in is there
+  pub slots_held : (now : BTreeSet ℕ) (slot : ℕ) → SetAt old new value (Some now) → has_in (Some now) slot ≡ true → has_slot new value slot ≡ true
+  slots_held now slot sets put = slots_told (Some now) sets value slot ∙ ap (λ b. cond b (has_in (Some now) slot) (has_slot old value slot)) (ap is_eq (tied_itself value_cmp-total value)) ∙ put
+
+  -- a value that no slot was at
+  pub slots_new : (now : BTreeSet ℕ) → lookup (is_at (value_cmp value)) old ≡ None → SetAt old new value (Some now) → (v : Value) (s : ℕ) → has_slot old v s ≡ true → has_slot new v s ≡ true
+  slots_new now there sets v s had = slots_told (Some now) sets v s ∙ go (value_eq v value) refl
+    where
+      go : (b : Bool) → value_eq v value ≡ b → cond b (has_in (Some now) s) (has_slot old v s) ≡ true
+      go true tied = absurd (no_both (has_slot old v s) had (ap (λ found. has_in found s) (had_at old value None v there tied)))
+      go false apart = had
 
   -- one slot less
-  pub marks_taken : (was now : BTreeMap ℕ Bool) (slot : ℕ) → lookup (is_at (value_cmp value)) old ≡ Some was → SetAt old new value (Some now)
-      → ((s : ℕ) → has_mark (mark_in (Some now) s) ≡ cond (s == slot) false (has_mark (mark_in (Some was) s)))
+  pub slots_taken : (was now : BTreeSet ℕ) (slot : ℕ) → lookup (is_at (value_cmp value)) old ≡ Some was → SetAt old new value (Some now)
+      → ((s : ℕ) → has_in (Some now) s ≡ cond (s == slot) false (has_in (Some was) s))
       → (v : Value) (s : ℕ) → has_slot new v s ≡ cond (value_eq v value && s == slot) false (has_slot old v s)
-  marks_taken was now slot there sets taken v s =
-      marks_told (Some now) sets v s ∙ elim (value_eq v value) as (λ b. value_eq v value ≡ b → cond b (has_mark (mark_in (Some now) s)) (has_slot old v s) ≡ cond (b && s == slot) false (has_slot old v s)) [
-        | true ↦ λ tied. taken s ∙ ap (λ found. cond (s == slot) false (has_mark (mark_in found s))) (sym (had_at old value (Some was) v there tied))
+  slots_taken was now slot there sets taken v s =
+      slots_told (Some now) sets v s ∙ elim (value_eq v value) as (λ b. value_eq v value ≡ b → cond b (has_in (Some now) s) (has_slot old v s) ≡ cond (b && s == slot) false (has_slot old v s)) [
+        | true ↦ λ tied. taken s ∙ ap (λ found. cond (s == slot) false (has_in found s)) (sym (had_at old value (Some was) v there tied))
         | false ↦ λ apart. refl
       ] refl
 
 -- where no slot is at a value, none is taken out there
-pub marks_absent : (old : List (Value × BTreeMap ℕ Bool)) (value : Value) (slot : ℕ) → lookup (is_at (value_cmp value)) old ≡ None → (v : Value) (s : ℕ) → has_slot old v s ≡ cond (value_eq v value && s == slot) false (has_slot old v s)
-marks_absent old value slot there v s =
+pub slots_absent : (old : List (Value × BTreeSet ℕ)) (value : Value) (slot : ℕ) → lookup (is_at (value_cmp value)) old ≡ None → (v : Value) (s : ℕ) → has_slot old v s ≡ cond (value_eq v value && s == slot) false (has_slot old v s)
+slots_absent old value slot there v s =
     elim (value_eq v value) as (λ b. value_eq v value ≡ b → has_slot old v s ≡ cond (b && s == slot) false (has_slot old v s)) [
       | true ↦ λ tied.
-          let none : has_slot old v s ≡ false = ap (λ found. has_mark (mark_in found s)) (had_at old value None v there tied) in
+          let none : has_slot old v s ≡ false = ap (λ found. has_in found s) (had_at old value None v there tied) in
           none ∙ sym (ap (cond (s == slot) false) none ∙ either (s == slot))
       | false ↦ λ apart. refl
     ] refl
