@@ -12,12 +12,13 @@ use Rattle.node_core.specs.contracts.index.JobIndex as JobIndex
 use Rattle.node_core.specs.contracts.jobs.Jobs as Jobs
 use Rattle.node_core.specs.contracts.jobs.JobRow as JobRow
 use Rattle.node_core.specs.contracts.node.NodeCore as NodeCore
-use Rattle.node_core.specs.contracts.node.NodeCoreStoried.TheImpl as storied
 use Rattle.node_core.proofs.delivered_block.IndexedBlock.TheSendSync as indexed
 use Rattle.node_core.specs.contracts.delivered_block.DeliveredBlock as DeliveredBlock
 use Rattle.node_model.proofs.journal.Entry.TheSendSync as entry
 use Rattle.node_model.proofs.result.BlockResult.TheSendSync as result
 use Rattle.node_model.specs.contracts.journal.Entry as Entry
+use Rattle.node_shared.specs.contracts.held_node.HeldNode as HeldNode
+use Rattle.node_shared.specs.contracts.held_node.HeldNodeStoried.TheImpl as storied
 use Rattle.node_shared.specs.contracts.shared.SharedNode as SharedNode
 use Rattle.proc_syntax.proofs.call.Block.TheSendSync as block
 use Rattle.proc_syntax.proofs.call.Tx.TheSendSync as tx
@@ -65,13 +66,19 @@ module _ (V : RattleType) (g : Ghosts V.Denot) where
   core_send : IsSend V → IsSend (NodeCore.the_row V g)
   core_send v = let core = core_field_send v in search sendable depth 60 fits 20000
 
+  held_field_send : IsSend V → IsSend (HeldNode.the_field V g).row
+  held_field_send v = let core = core_send v in search (crosses, sendable) depth 60 fits 20000
+
+  held_send : IsSend V → IsSend (HeldNode.the_row V g)
+  held_send v = let held = held_field_send v in search sendable depth 60 fits 20000
+
   node_field_sync : IsSend V → IsSync (SharedNode.the_field V g).row
-  node_field_sync v = let core = core_send v in search (lock.the_field_sync, crosses, sendable) depth 60 fits 20000
+  node_field_sync v = let held = held_send v in search (lock.the_field_sync, crosses, sendable) depth 60 fits 20000
 
   -- a node that threads share
   pub node_sync : IsSend V → IsSync (SharedNode.the_row V g)
   node_sync v = let node = node_field_sync v in search sendable depth 60 fits 20000
 
   -- a pass to it
-  pub pass_send : IsSend V → IsSend (Pass.the_row (NodeCore.the_row V g) App.the_row Entry.the_row (storied.ghosts V g storied.no_dict storied.no_dict))
-  pass_send v = pass.the_send (NodeCore.the_row V g) App.the_row Entry.the_row (storied.ghosts V g storied.no_dict storied.no_dict) (core_send v)
+  pub pass_send : IsSend V → IsSend (Pass.the_row (HeldNode.the_row V g) App.the_row Entry.the_row (storied.ghosts V g storied.no_dict storied.no_dict))
+  pass_send v = pass.the_send (HeldNode.the_row V g) App.the_row Entry.the_row (storied.ghosts V g storied.no_dict storied.no_dict) (held_send v)

@@ -150,3 +150,45 @@ walk_ends tx rows found walk = walk.first
 -- all jobs have a link
 pub links_all : (rows : List JobRow) (index : JobIndex) → Indexes index (ids_of rows) → length index.older.items ≡ length rows
 links_all rows index indexed = ap length indexed.older ∙ olders_length [] (ids_of rows) ∙ length-map rows (λ (row : JobRow). row.tx.value.id)
+
+-- ---- a job that is looked at without a walk
+
+id_at : (rows : List JobRow) (place : ℕ) (row : JobRow) → slice_get rows place ≡ Some row → slice_get (ids_of rows) place ≡ Some row.tx.value.id
+id_at [] place row here = absurd (none-some row here)
+id_at (first ∷ rows) zero row here = ap (λ (r : JobRow). Some r.tx.value.id) (same_Some first row here)
+id_at (first ∷ rows) (suc place) row here = id_at rows place row here
+
+-- a job of a transaction has its id
+for_same_id : (tx : Tx) (row : JobRow) → row_is_for tx row ≡ true → row.tx.value.id ≡ tx.id
+for_same_id tx row is = by (bytes_eq tx.id row.tx.value.id) refl
+  where
+    by : (b : Bool) → bytes_eq tx.id row.tx.value.id ≡ b → row.tx.value.id ≡ tx.id
+    by true same = sym ((bytes_eq-Decides tx.id row.tx.value.id).0 same)
+    by false differs = let not : row_is_for tx row ≡ false = for_has_id tx row differs in absurd (let both : true ≡ false = sym is ∙ not in cc)
+
+-- where none before it passes, the first that passes is the one at a place
+position_at : (test : JobRow → Bool) (number : ℕ) (rows : List JobRow) (place : ℕ) (row : JobRow) → slice_get rows place ≡ Some row → test row ≡ true
+    → position_from test number (take place rows) ≡ None → position_from test number rows ≡ Some (number + place)
+position_at test number [] place row here passes none = absurd (none-some row here)
+position_at test number (first ∷ rows) zero row here passes none =
+    ap (λ b. cond b (Some number) (position_from test (number + 1) rows)) (ap test (same_Some first row here) ∙ passes) ∙ ap Some (let same : number ≡ number + 0 = omega arith in same)
+position_at test number (first ∷ rows) (suc place) row here passes none =
+    by (test first) (position_at test (number + 1) rows place row here passes) none
+  where
+    next : number + 1 + place ≡ number + suc place
+    next = omega arith
+
+    by : (b : Bool) → (position_from test (number + 1) (take place rows) ≡ None → position_from test (number + 1) rows ≡ Some (number + 1 + place))
+        → cond b (Some number) (position_from test (number + 1) (take place rows)) ≡ None → cond b (Some number) (position_from test (number + 1) rows) ≡ Some (number + suc place)
+    by true rest none = absurd (none-some number (sym none))
+    by false rest none = rest none ∙ ap Some next
+
+-- a job of a transaction before which no job has its id is the first
+pub first_at : (tx : Tx) (rows : List JobRow) (index : JobIndex) (place : ℕ) (row : JobRow) → Indexes index (ids_of rows) → slice_get rows place ≡ Some row → slice_get index.older.items place ≡ Some 0
+    → row_is_for tx row ≡ true → position_from (row_is_for tx) 1 rows ≡ Some (place + 1)
+first_at tx rows index place row indexed here link is =
+    let own : slice_get (ids_of rows) place ≡ Some tx.id = id_at rows place row here ∙ ap Some (for_same_id tx row is) in
+    let none : newest tx.id (ids_of (take place rows)) ≡ 0 = ap (newest tx.id) (sym (ids_front place rows)) ∙ sym (link_is tx.id rows index place 0 indexed own link) in
+    let before : position_from (row_is_for tx) 1 (take place rows) ≡ None =
+    sym (up_to_newest tx 1 (take place rows)) ∙ ap (λ n. position_from (row_is_for tx) 1 (take n (take place rows))) none in
+    position_at (row_is_for tx) 1 rows place row here is before ∙ ap Some (let next : 1 + place ≡ place + 1 = omega arith in next)

@@ -9,7 +9,7 @@ use crate::dropping::drop_all;
 use crate::index::{JobIndex, hold_all};
 use crate::job_rows::{change_stage, is_waiting, one_held, push_row, push_rows};
 use crate::kept_record::KeptRecord;
-use crate::lookup::find_number;
+use crate::lookup::find_near;
 use proc_syntax::Tx;
 use proc_syntax::run::Ran;
 use rel_base::NoMemory;
@@ -55,6 +55,8 @@ pub struct Jobs {
     // Where a claim looks for a job.
     bounds: WaitBounds,
     index: JobIndex,
+    // The place after the job that was decided last, where the next one that is due mostly stands.
+    guess: usize,
 }
 
 impl Model for Jobs {
@@ -84,6 +86,7 @@ impl Jobs {
             held: 0,
             bounds: WaitBounds::new(),
             index: JobIndex::new(alloc),
+            guess: 0,
         }
     }
 
@@ -106,7 +109,7 @@ impl Jobs {
     pub fn find(&self, tx: &Tx) -> Option<u64>
         ensures { result ≡ number_of_job tx.now (shown_all self.now) }
     {
-        find_number(self.rows.as_slice(), &self.index, tx)
+        find_near(self.rows.as_slice(), &self.index, tx, self.guess)
     }
 
     /// Of the jobs that wait and whose height is at most the given one, in order of number, the one at `n` modulo their count. The jobs
@@ -217,6 +220,7 @@ impl Jobs {
         ensures record { option_map (λ row. row.stage) (row_at self.old number) ≡ Some (Done result) }
         ensures now { self.new ≡ put_row self.old number Taken }
     {
+        self.guess = number as usize;
         match self.set(number, Stage::Taken) {
             Stage::Done(recorded) => recorded.into_record(),
             _ => unreachable!(),

@@ -1,6 +1,6 @@
 //! The job of a transaction.
 
-ghost use Rattle.std.specs.Prelude.{◌≡◌, ◌+◌, ◌<◌, ◌^◌, Some, cond};
+ghost use Rattle.std.specs.Prelude.{◌≡◌, ◌+◌, ◌<◌, ◌^◌, Some, cond, length, true};
 ghost use Rattle.std.specs.List.{position_from};
 ghost use Rattle.node_core.specs.ById.{Indexes, ids_of};
 ghost use Rattle.node_core.specs.Rows.{row_is_for};
@@ -39,8 +39,8 @@ fn found_at(row: &JobRow, place: usize, tx: &Tx, found: Option<u64>) -> Option<u
     found
 }
 
-/// The number of a transaction's job, by a walk over the jobs of its id, from the newest back.
-pub fn find_number(rows: &[JobRow], index: &JobIndex, tx: &Tx) -> Option<u64>
+// The number of a transaction's job, by a walk over the jobs of its id, from the newest back.
+fn find_number(rows: &[JobRow], index: &JobIndex, tx: &Tx) -> Option<u64>
     requires { Indexes index.now (ids_of rows.now) }
     ensures { result ≡ position_from (row_is_for tx.now) 1 rows.now }
 {
@@ -52,4 +52,28 @@ pub fn find_number(rows: &[JobRow], index: &JobIndex, tx: &Tx) -> Option<u64>
         number = index.older(place);
     }
     found
+}
+
+// Whether the job at a place is that of a transaction and no job before it has its id, so that it is the first.
+fn is_first_for(rows: &[JobRow], index: &JobIndex, place: usize, tx: &Tx) -> bool
+    requires within { place < length rows.now }
+    requires indexed { Indexes index.now (ids_of rows.now) }
+    ensures { result ≡ true → position_from (row_is_for tx.now) 1 rows.now ≡ Some (place + 1) }
+{
+    if index.older(place) != 0 {
+        return false;
+    }
+    is_for(&rows[place], tx)
+}
+
+/// The number of a transaction's job. The one at a place that is guessed is looked at first; where that is not it, the jobs of its id are
+/// walked.
+pub fn find_near(rows: &[JobRow], index: &JobIndex, tx: &Tx, guess: usize) -> Option<u64>
+    requires { Indexes index.now (ids_of rows.now) }
+    ensures { result ≡ position_from (row_is_for tx.now) 1 rows.now }
+{
+    if guess < rows.len() && is_first_for(rows, index, guess, tx) {
+        return Some(guess as u64 + 1);
+    }
+    find_number(rows, index, tx)
 }

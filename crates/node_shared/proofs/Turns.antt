@@ -10,7 +10,7 @@ use Rattle.node_model.specs.World.{Holds}
 use Rattle.node_model.specs.declared.journal.Entry.{Entry}
 use Rattle.node_model.specs.declared.journal.Event.{Event}
 use Rattle.node_shared.specs.Laws.{TurnsFindOwn}
-use Rattle.node_shared.specs.Turn.{IsFound, IsTurn}
+use Rattle.node_shared.specs.Turn.{IsFound, IsLook, IsTurn}
 use Rattle.proc_syntax.specs.declared.tree.App.{App}
 use Rattle.rel_base.proofs.Stories.{entries_append, prefix_trans}
 use Rattle.rel_base.specs.Stories.{AddsOwn}
@@ -18,7 +18,7 @@ use Rattle.rel_base.specs.declared.storied.Storied.{Ghosts}
 use Rattle.schedule_laws.proofs.Asking.{may_stays}
 use Rattle.schedule_laws.proofs.Lasting.{before_facts, others_leave}
 use Rattle.schedule_laws.specs.Stable.{IsLater, entries_by}
-use Rattle.turn_lock.specs.Passes.{mine, pass_base, pass_number, seen}
+use Rattle.turn_lock.specs.Passes.{Gains, mine, pass_base, pass_number, seen}
 use Rattle.turn_lock.specs.declared.pass.Pass.{Pass}
 
 nothing : {A : Type 0} (xs ys zs : List A) → xs ++ ys ≡ zs → xs ≡ zs → ys ≡ []
@@ -64,6 +64,12 @@ module _ (app : App) (number : ℕ) (seen mine journal : List Entry) (own : entr
 
 pub turns_find_own : TurnsFindOwn
 turns_find_own app number seen mine journal own found = found_later app number seen mine journal own found
+
+-- what is found of the node in its place is found of the node
+pub found_of : (held core : Core) (number : ℕ) (seen mine : List Entry) → core ≡ held → IsLegal core.app core.journal → IsPrefix seen held.journal → entries_by number held.journal ≡ mine
+    → IsFound core.app number seen mine core.journal
+found_of held core number seen mine same legal later own =
+    record { legal = legal; later = subst (λ (c : Core). IsPrefix seen c.journal) (sym same) later; own = ap (λ (c : Core). entries_by number c.journal) same ∙ own }
 
 -- ---- what a call of the core adds to the journal
 
@@ -126,3 +132,27 @@ turn_of before after old new actor base same found legal at ask answer step own 
       own = own;
       legal = subst (λ (j : List Entry). IsLegal (pass_base before) j) (sym at) (subst (λ (a : App). IsLegal a new.journal) app_same legal);
     }
+
+-- what the pass has made gains the entry of the step
+pub own_of : (old new : Core) (actor number : ℕ) (base : App) (before own own' first : List Entry) (ask : Ask) (answer : Answer) → old.app ≡ base → actor ≡ number → before ≡ old.journal → own ≡ first
+    → Steps old actor ask answer new → Gains before new.journal own own' → own' ≡ first ++ entries_for number (reply base (world base old.journal) ask).1
+own_of old new actor number base before own own' first ask answer app same at is step gains =
+    let news : List Entry = entries_for number (reply base (world base old.journal) ask).1 in
+    let stands : Steps (record { app = base; journal = old.journal }) number ask answer (record { app = base; journal = new.journal }) =
+    step_seen old new actor number base new.journal ask answer app same refl step in
+    gains news (ap (λ (p : Answer × Core). p.1.journal) stands ∙ ap (λ (j : List Entry). j ++ news) (sym at)) ∙ ap (λ (mine : List Entry). mine ++ news) is
+
+-- a call that changed nothing is a look of the pass
+pub look_of : {ghosts : Ghosts Core App Entry} (before after : Pass Core App Entry ghosts) (old new : Core) → old.app ≡ pass_base before
+    → IsFound old.app (pass_number before) (seen before) (mine before) old.journal → seen after ≡ new.journal → new ≡ old → mine after ≡ mine before → IsLook before after
+look_of before after old new base found at same own =
+    record {
+      found =
+          subst (λ (j : List Entry). IsFound (pass_base before) (pass_number before) (seen before) (mine before) j) (sym (at ∙ ap (λ (core : Core). core.journal) same))
+          (subst (λ (a : App). IsFound a (pass_number before) (seen before) (mine before) old.journal) base found);
+      same = own;
+    }
+
+pub err_map : {A M : Type 0} (P Q : Type 0) (r : Result A M) → OnErr r P → (P → Q) → OnErr r Q
+err_map P Q (Ok got) err then = tt
+err_map P Q (Err e) err then = then err

@@ -55,12 +55,13 @@ impl<V: Versions> SharedNode<V> {
         ensures err { OnErr result (IsLook pass.old pass.new) }
     {
         let number = pass.number();
-        let mut core = self.lock.take(rt, pass);
+        let mut held = self.take(rt, pass);
+        let core = &mut *held;
         // The call of `journal_len` is for its contract: the journal is one that steps can make, as it is found here and as it is left below.
         let _ = core.journal_len();
         let answer = core.arrive_shared(number, tx);
         let _ = core.journal_len();
-        self.lock.give(pass, core);
+        self.give(pass, held);
         answer
     }
 }

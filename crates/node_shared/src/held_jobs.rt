@@ -37,12 +37,13 @@ impl<V: Versions> SharedNode<V> {
         ensures err { OnErr result (IsLook pass.old pass.new) }
     {
         let number = pass.number();
-        let mut core = self.lock.take(rt, pass);
+        let mut held = self.take(rt, pass);
+        let core = &mut *held;
         // The call of `journal_len` is for its contract: the journal is one that steps can make, as it is found here and as it is left below.
         let _ = core.journal_len();
         let answer = core.claim(number, pick);
         let _ = core.journal_len();
-        self.lock.give(pass, core);
+        self.give(pass, held);
         answer
     }
 
@@ -67,12 +68,13 @@ impl<V: Versions> SharedNode<V> {
         ensures err { OnErr result (IsLook pass.old pass.new × (work.new ≡ work.old)) }
     {
         let _ = pass.number();
-        let mut core = self.lock.take(rt, pass);
+        let mut held = self.take(rt, pass);
+        let core = &mut *held;
         // The call of `journal_len` is for its contract: the journal is one that steps can make, as it is found here and as it is left below.
         let _ = core.journal_len();
         let answer = core.read(work);
         let _ = core.journal_len();
-        self.lock.give(pass, core);
+        self.give(pass, held);
         answer
     }
 
@@ -96,12 +98,13 @@ impl<V: Versions> SharedNode<V> {
         ensures back { IfErr result (λ refused. refused.0 ≡ work) }
     {
         let _ = pass.number();
-        let mut core = self.lock.take(rt, pass);
+        let mut held = self.take(rt, pass);
+        let core = &mut *held;
         // The call of `journal_len` is for its contract: the journal is one that steps can make, as it is found here and as it is left below.
         let _ = core.journal_len();
         let answer = core.finish(work);
         let _ = core.journal_len();
-        self.lock.give(pass, core);
+        self.give(pass, held);
         answer
     }
 
@@ -117,11 +120,12 @@ impl<V: Versions> SharedNode<V> {
         ensures turn { IsTurn pass.old pass.new (ToRelease work.job) Released }
     {
         let _ = pass.number();
-        let mut core = self.lock.take(rt, pass);
+        let mut held = self.take(rt, pass);
+        let core = &mut *held;
         // The call of `journal_len` is for its contract: the journal is one that steps can make, as it is found here and as it is left below.
         let _ = core.journal_len();
         core.give_up(&work);
         let _ = core.journal_len();
-        self.lock.give(pass, core);
+        self.give(pass, held);
     }
 }

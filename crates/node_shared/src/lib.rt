@@ -6,6 +6,7 @@
 
 pub mod arriving;
 pub mod held_jobs;
+pub mod held_node;
 pub mod laws;
 pub mod ordering;
 pub mod shared;

@@ -1,26 +1,29 @@
 //! The shared node and its passes.
 
-ghost use Rattle.std.specs.Prelude.{◌≡◌, ◌≢◌, ◌+◌, ◌-◌, ◌<◌, ◌^◌, [], ◌∷◌, IfOk, ℕ};
+ghost use Rattle.std.specs.Prelude.{◌≡◌, ◌≢◌, ◌+◌, ◌-◌, ◌<◌, ◌^◌, [], ◌∷◌, IfOk, length, ℕ};
 ghost use mathlib.Core.List.{IsPrefix};
+ghost use Rattle.rel_base.specs.Stories.{AddsOwn};
 ghost use Rattle.schedule_laws.specs.Stable.{entries_by};
 ghost use Rattle.turn_lock.specs.Ledger.{made_by};
-ghost use Rattle.turn_lock.specs.Passes.{HoldsNoTurn, IsNewPass, IsPassOf, IsSameHolder, joined, left, made, mine, pass_base, pass_number, seen};
+ghost use Rattle.turn_lock.specs.Passes.{Gains, HoldsNoTurn, HoldsTurn, IsNewPass, IsPassOf, IsSameHolder, IsSamePass, joined, left, made, mine, pass_base, pass_number, seen};
 
+use crate::held_node::HeldNode;
 use node_core::NodeCore;
 use rel_base::NoMemory;
 use row_sets::Versions;
 use std::alloc::Global;
+use std::sync::Wait;
 use turn_lock::{Pass, TurnLock};
 
 /// A node that threads share by reference, each with a pass of its own.
 #[derive(Drop)]
 pub struct SharedNode<V: Versions> {
-    pub(crate) lock: TurnLock<NodeCore<V>>,
+    pub(crate) lock: TurnLock<HeldNode<V>>,
     pub(crate) alloc: Global,
 }
 
 /// One caller's pass to a node.
-pub type NodePass<V> = Pass<NodeCore<V>>;
+pub type NodePass<V> = Pass<HeldNode<V>>;
 
 impl<V: Versions> SharedNode<V> {
     /// A node to which nothing has happened, shared, and its first pass, which is the processor's. Where memory runs out the node is
@@ -29,8 +32,39 @@ impl<V: Versions> SharedNode<V> {
         requires empty { core.journal ≡ [] }
         ensures pass { IfOk result (λ made. IsNewPass made.0.lock made.1 0 core.app []) }
     {
-        let (lock, pass) = TurnLock::new(alloc, core)?;
+        let (lock, pass) = TurnLock::new(alloc, HeldNode::new(alloc, core)?)?;
         Ok((SharedNode { lock, alloc }, pass))
+    }
+
+    // Begins a turn: the node, whose journal begins with all that the pass had seen.
+    pub(crate) fn take<R: Wait>(&self, rt: &R, pass: &mut NodePass<V>) -> Box<NodeCore<V>>
+        requires lock { IsPassOf self.now.lock pass.old }
+        requires no_turn { HoldsNoTurn pass.old }
+        ensures same { IsSamePass pass.old pass.new }
+        ensures turn { HoldsTurn pass.new }
+        ensures base { result.value.app ≡ pass_base pass.old }
+        ensures seen { seen pass.new ≡ result.value.journal }
+        ensures later { IsPrefix (seen pass.old) result.value.journal }
+        ensures mine { mine pass.new ≡ mine pass.old }
+        ensures own { entries_by (pass_number pass.old) result.value.journal ≡ mine pass.old }
+    {
+        self.lock.take(rt, pass).into_node()
+    }
+
+    // Ends a turn: the node goes back, with entries of the pass added to its journal.
+    pub(crate) fn give(&self, pass: &mut NodePass<V>, node: Box<NodeCore<V>>)
+        requires lock { IsPassOf self.now.lock pass.old }
+        requires turn { HoldsTurn pass.old }
+        requires base { node.value.app ≡ pass_base pass.old }
+        requires story { AddsOwn (λ entry. entry.actor) (pass_number pass.old) (seen pass.old) node.value.journal }
+        requires room { length node.value.journal < 2 ^ 64 }
+        ensures same { IsSamePass pass.old pass.new }
+        ensures no_turn { HoldsNoTurn pass.new }
+        ensures seen { seen pass.new ≡ node.value.journal }
+        ensures mine { Gains (seen pass.old) node.value.journal (mine pass.old) (mine pass.new) }
+        ensures no_news { node.value.journal ≡ seen pass.old → mine pass.new ≡ mine pass.old }
+    {
+        self.lock.give(pass, HeldNode::of(node));
     }
 
     /// A new pass for another caller, which has seen what this one has. Only the processor's pass splits.
@@ -75,6 +109,6 @@ impl<V: Versions> SharedNode<V> {
         ensures own { entries_by 0 (seen pass) ≡ mine pass }
         ensures others { (number : ℕ) → number ≢ 0 → entries_by number (seen pass) ≡ made_by number (joined pass) }
     {
-        self.lock.close(pass)
+        Box::into_inner(self.lock.close(pass).into_node())
     }
 }

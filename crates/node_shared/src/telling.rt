@@ -40,11 +40,11 @@ impl<V: Versions> SharedNode<V> {
         ensures height { result ≡ length (world_of (node_seen pass.new)).sealed }
     {
         let _ = pass.number();
-        let core = self.lock.take(rt, pass);
+        let core = self.take(rt, pass);
         // The call of `journal_len` is for its contract: the journal that is found is one that steps can make.
         let _ = core.journal_len();
         let height = core.height();
-        self.lock.give(pass, core);
+        self.give(pass, core);
         height
     }
 
@@ -66,11 +66,11 @@ impl<V: Versions> SharedNode<V> {
         ensures rows { IfOk result (λ looked. looked ≡ looks (node_seen pass.new) height read.now) }
     {
         let _ = pass.number();
-        let core = self.lock.take(rt, pass);
+        let core = self.take(rt, pass);
         // The call of `journal_len` is for its contract: the journal that is found is one that steps can make.
         let _ = core.journal_len();
         let looked = core.look(height, read);
-        self.lock.give(pass, core);
+        self.give(pass, core);
         looked
     }
     /// What became of the first decided transaction with an id.
@@ -90,11 +90,11 @@ impl<V: Versions> SharedNode<V> {
         ensures outcome { IfOk result (λ told. told ≡ first_outcome id.now (told_of (world_of (node_seen pass.new)))) }
     {
         let _ = pass.number();
-        let core = self.lock.take(rt, pass);
+        let core = self.take(rt, pass);
         // The call of `journal_len` is for its contract: the journal that is found is one that steps can make.
         let _ = core.journal_len();
         let told = copy_outcome(alloc, core.outcome(id));
-        self.lock.give(pass, core);
+        self.give(pass, core);
         told
     }
 }
