@@ -4,7 +4,8 @@
 The report of each run has to be that of one node without executors, byte for byte, once for each node; and each journal has to be one that the rule of
 the node's steps allows, here written anew from docs/DEFINITIONS.md: a job is made by an arrival or a delivery, claimed once its height is sealed, read and
 finished or released by its holder, and a transaction is committed at its turn once its job is done. Which rows a read gives is not looked at.
-In all runs together, an arrival and an entry of an executor have to be seen at each number that a node may have.
+In all runs together, an arrival and an entry of an executor have to be seen at each number that a node may have. At last 16 executors share a node with its
+processor and 2,000 calls that arrive, in runs of some 20,000 entries, until each of the 18 actors has made one and an executor has given up a job.
 Usage: check_journals.py PROGRAM [COUNT] [SEED]
 """
 import collections
@@ -20,6 +21,7 @@ from draw_schedules import CASES, HERE, arrivals_of, blocks_of, changed, read
 EARLY = ("aborted duplicate-id", "aborted future-height", "aborted unknown-procedure", "aborted bad-arguments")
 MOST_READS = 100000
 MOST_NODES = 3
+CROWD, CROWD_RUNS, CROWD_BLOCKS, CROWD_CALLS = 16, 20, 1000, 2000
 
 
 KINDS = {"int": re.compile(r"-?[0-9]+"), "text": re.compile(r'"(?:[^"\\]|\\.)*"'), "bool": re.compile("true|false"), "bytes": re.compile(r'x"(?:[0-9a-f]{2})*"')}
@@ -206,6 +208,11 @@ def output(program, words):
     return done.stdout
 
 
+def write(path, header, lines):
+    with open(path, "w") as out:
+        out.write("".join(line + "\n" for line in [header, *lines]))
+
+
 def late_or_never(draw, blocks):
     """Lists of arrivals, some of them with many changed lines, some empty."""
     lines = arrivals_of(draw, blocks) if draw.random() < 0.8 else []
@@ -230,20 +237,51 @@ def missing(seen):
 
 def draw_run(program, draw, folder, case, seen):
     app, draft = os.path.join(HERE, "cases", case, "a.app"), os.path.join(HERE, "cases", case, "b.draft")
-    procedures, blocks = Procedures(read(app)), blocks_of(read(draft))
+    blocks = blocks_of(read(draft))
     nodes, executors = draw.randrange(1, MOST_NODES + 1), draw.choice([0, 1, 2, 4, 16])
     arrivals = [late_or_never(draw, blocks) for _ in range(nodes)]
+    for place, lines in enumerate(check_run(program, folder, app, draft, arrivals, executors)):
+        note_actors(seen, place, lines, executors)
+
+
+def check_run(program, folder, app, draft, arrivals, executors):
+    """The journals of as many nodes as lists of arrivals, once they and the report are found right."""
+    procedures, blocks, nodes = Procedures(read(app)), blocks_of(read(draft)), len(arrivals)
     for place, lines in enumerate(arrivals):
-        with open(os.path.join(folder, f"arrivals{place + 1}"), "w") as out:
-            out.write("arrivals 1\n" + "".join(line + "\n" for line in lines))
+        write(os.path.join(folder, f"arrivals{place + 1}"), "arrivals 1", lines)
     files = ["--app", app, "--blocks", draft]
     plain = output(program, ["run", *files, "--executors", "0"])
     words = ["--nodes", str(nodes), "--executors", str(executors), "--arrivals", os.path.join(folder, "arrivals"), "--trace"]
     report, journals = split_trace(output(program, ["run", *files, *words]), nodes)
     need(report == expected(plain, nodes), "another report")
-    for place, (lines, arrived) in enumerate(zip(journals, arrivals)):
+    for lines, arrived in zip(journals, arrivals):
         check_journal(lines, blocks, outcomes_of(plain), filter(procedures.takes, arrived), executors)
-        note_actors(seen, place, lines, executors)
+    return journals
+
+
+def crowded():
+    """The lines of blocks of payments between two accounts, and calls that arrive: half of them stand in no block, and the ids of the others do."""
+    lines = ["block 1", 'tx a1 0 add 1 "ann" 50', 'tx a2 0 add 2 "bob" 20', "end"]
+    for number in range(1, CROWD_BLOCKS + 1):
+        pays = [f"tx p{number} {number} pay 1 2 {number % 3}", f"tx q{number} {number} pay 2 1 {number % 5}"]
+        lines += [f"block {number + 1}", *pays, "end"]
+    adds = [f'tx x{number} 0 add {number + 3} "ann" 1' for number in range(CROWD_CALLS // 2)]
+    others = [f"tx q{number} {number} pay 1 2 {number}" for number in range(1, CROWD_CALLS // 2 + 1)]
+    return lines, [call for pair in zip(others, adds) for call in pair]
+
+
+def run_crowd(program, folder):
+    """Many executors at one node: in some run each of its actors comes to his turn, and one of them gives up a job."""
+    app, draft, actors, events = os.path.join(HERE, "cases", "stale-pay", "a.app"), os.path.join(folder, "crowd"), set(), set()
+    lines, arrivals = crowded()
+    write(draft, "draft 1", lines)
+    for _ in range(CROWD_RUNS):
+        (journal,) = check_run(program, folder, app, draft, [arrivals], CROWD)
+        actors |= {line.split(" ")[0] for line in journal}
+        events |= {line.split(" ")[1] for line in journal}
+        if len(actors) == CROWD + 2 and "release" in events:
+            return
+    raise Illegal(f"of {CROWD + 2} actors {len(actors)} made an entry, of the kinds {sorted(events)}")
 
 
 def main():
@@ -259,10 +297,15 @@ def main():
             except (Illegal, subprocess.TimeoutExpired) as fault:
                 failed += 1
                 print(f"run {number} of seed {seed}, {case}: {fault}")
+        try:
+            run_crowd(program, folder)
+        except (Illegal, subprocess.TimeoutExpired) as fault:
+            failed += 1
+            print(f"a crowd: {fault}")
     for fault in missing(seen):
         failed += 1
         print(f"seed {seed}: {fault}")
-    print(f"{count + 2 * MOST_NODES - failed} passed, {failed} failed")
+    print(f"{count + 2 * MOST_NODES + 1 - failed} passed, {failed} failed")
     sys.exit(1 if failed else 0)
 
 

@@ -202,6 +202,8 @@ def run_limits(program, tally):
         lists.append("from acct as a group by " + ", ".join(["a.id"] * count) + " select a.id;")
         lists.append("from acct as a select " + ", ".join(["a.id"] * count) + ";")
         lists.append("from acct as a select a.id order by " + ", ".join(["1"] * count) + ";")
+        lists.append("from acct as a select " + ", ".join(["min a.id"] * count) + ";")
+        lists.append("from acct as a join acct as b select " + ", ".join(["b.id"] * count) + ";")
     for count in (4, 5):
         lists.append("from " + " join ".join(f"acct as s{number}" for number in range(count)) + " select s0.id;")
     for length in (4096, 4097):

@@ -6,7 +6,8 @@ The folder `prefixes-of-a-draft` has one draft, of which each prefix is a case o
 first line or with an `end` line is a whole draft; of every other one the report is that of the whole draft at its front,
 and ends with the line in which the next byte would stand. A folder `calls-on-..` has a draft of one block and `calls`, in which each
 call has below it what becomes of it in a block of its own behind that one, and the rows that go (-) and come (+) by it, worked out by
-hand. Cases at the limits are made by
+hand. A folder `asks-on-..` has a draft and `asks`: heights, each with a query in which `$` ends a line, and below it the values of each row
+of the answer, or the name by which it is refused, worked out by hand too. Cases at the limits are made by
 tests/limits.py, since their files are large and regular. Loads are drawn by tests/loads.py, and `load` has to
 count what `run` reports of them. Usage: run_cases.py PROGRAM
 """
@@ -84,15 +85,20 @@ def run_prefixes(program, name, tally):
             tally.note(f"{name} at {length}", (5, wanted), run_draft(program, scratch, prefix))
 
 
-def calls_in(text):
-    """The calls of a file, each with its outcome and the rows that go and come by it."""
-    calls = []
+def heads_in(text):
+    """The lines of a file that stand at its edge, each with those below it that are indented."""
+    heads = []
     for line in text.splitlines():
         if not line.startswith("  "):
-            calls.append((line, []))
+            heads.append((line, []))
         else:
-            calls[-1][1].append(line[2:])
-    return [(call, said[0], sorted(said[1:])) for call, said in calls]
+            heads[-1][1].append(line[2:])
+    return heads
+
+
+def calls_in(text):
+    """The calls of a file, each with its outcome and the rows that go and come by it."""
+    return [(call, said[0], sorted(said[1:])) for call, said in heads_in(text)]
 
 
 def rows_of(report):
@@ -111,6 +117,22 @@ def run_calls(program, name, tally):
             outcomes = [line[len("tx 1 x ") :] for line in report.decode().splitlines() if line.startswith("tx 1 x ")]
             found = sorted([f"- {row}" for row in before - after] + [f"+ {row}" for row in after - before])
             tally.note(f"{name}: {call}", (0, ([outcome], changes)), (status, (outcomes, found)))
+
+
+def answer_of(said):
+    """The status and the bytes of the answer that the lines below a query say."""
+    if said and said[0].isalpha() and said[0] not in ("true", "false"):
+        return 9, f"refused query {said[0]}\n".encode()
+    return 0, "".join(f"{line}\n" for line in [f"answer {values}" for values in said] + ["done"]).encode()
+
+
+def run_asks(program, name, tally):
+    folder = os.path.join(CASES, name)
+    files = ["--app", "a.app", "--blocks", "b.draft"]
+    for ask, said in heads_in(read(os.path.join(folder, "asks")).decode()):
+        height, text = ask.split(" ", 1)
+        words = ["query", *files, "--height", height, "--text", text.replace("$", "\n")]
+        tally.note(f"{name}: {ask}", answer_of(said), run(program, folder, words))
 
 
 def run_limits(program, tally):
@@ -144,6 +166,8 @@ def main():
             run_prefixes(program, name, tally)
         elif name.startswith("calls-on-"):
             run_calls(program, name, tally)
+        elif name.startswith("asks-on-"):
+            run_asks(program, name, tally)
         else:
             run_folder(program, name, tally)
     run_limits(program, tally)

@@ -5,10 +5,11 @@ ghost use Rattle.std.specs.Prelude.{◌≡◌, IfOk};
 use proc_check::{Checked, check};
 use proc_parse::parse;
 use proc_syntax::{Block, Tx};
-use rel_base::{Id, List, Name, Row, Str, Value};
+use rel_base::List;
 use std::alloc::Global;
 use std::sync::Arc;
 use std::test::Fail;
+use tx_text::read_tx;
 
 const ACCOUNTS: &str = r#"
 table acct (id int, owner text, bal int) key (id) index (owner);
@@ -33,32 +34,13 @@ pub fn accounts(alloc: Global) -> Result<Arc<Checked>, Fail> {
     Ok(Arc::new(alloc, check(alloc, parse(alloc, text)?)?)?)
 }
 
-/// A call that adds an account.
-pub fn add(alloc: Global, id: &str, number: i64, owner: &str, balance: i64) -> Result<Tx, Fail> {
-    let mut args = List::new(alloc);
-    args.push(Value::Int(number))?;
-    args.push(Value::Text(Str::new(alloc, owner)?))?;
-    args.push(Value::Int(balance))?;
-    Ok(Tx {
-        id: Id::new(alloc, id)?,
-        height: 0,
-        procedure: Name::new(alloc, "add")?,
-        args: Row::new(args)?,
-    })
-}
-
-/// A call that pays from one account to another, on the tables after the first block.
-pub fn pay(alloc: Global, id: &str, numbers: [i64; 3]) -> Result<Tx, Fail> {
-    let mut args = List::new(alloc);
-    for number in numbers {
-        args.push(Value::Int(number))?;
+/// The calls of some lines.
+pub fn calls(alloc: Global, lines: &[&[u8]]) -> Result<List<Tx>, Fail> {
+    let mut txs = List::new(alloc);
+    for line in lines {
+        txs.push(read_tx(alloc, line)?)?;
     }
-    Ok(Tx {
-        id: Id::new(alloc, id)?,
-        height: 1,
-        procedure: Name::new(alloc, "pay")?,
-        args: Row::new(args)?,
-    })
+    Ok(txs)
 }
 
 /// A block of a number.

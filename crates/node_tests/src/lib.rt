@@ -1,15 +1,8 @@
-//! Tests of the node that threads share: what no clause says, as that turns come, and worked runs whole, one of them in an order of reads
-//! that a gate holds.
+//! Tests of the node that threads share: worked runs whole, one of them in an order of reads that a gate holds.
 #![tactic(auto)]
 
 #[cfg(test)]
-mod bringing;
-#[cfg(test)]
 mod calls;
-#[cfg(test)]
-mod crews;
-#[cfg(test)]
-mod folding;
 #[cfg(test)]
 mod gating;
 #[cfg(test)]
@@ -21,6 +14,4 @@ mod opening;
 #[cfg(test)]
 mod side_by_side;
 #[cfg(test)]
-mod tests;
-#[cfg(test)]
-mod wandering;
+mod stepping;

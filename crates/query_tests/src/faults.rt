@@ -2,7 +2,7 @@
 
 ghost use Rattle.std.specs.Prelude.{length, ◌<◌, ◌^◌};
 
-use crate::ledger::{LedgerFault, tables_of_text};
+use crate::declared::tables_of;
 use crate::text_cases::{SYNTAX, TWICE, UNKNOWN, WRONG};
 use query_plan::AskFault;
 use query_text::parse_select;
@@ -48,10 +48,7 @@ fn mark_of(case: &str) -> (u32, u32) {
 fn fault_of(alloc: Global, tables: &List<TableDef>, text: &str) -> Option<AskFault>
     requires { length tables.now < 2 ^ 32 }
 {
-    match parse_select(alloc, tables, text) {
-        Ok(_) => None,
-        Err(fault) => Some(fault),
-    }
+    parse_select(alloc, tables, text).err()
 }
 
 /// Which fault the cases of a table have.
@@ -88,8 +85,8 @@ fn first_wrong<'a>(
     alloc: Global,
     table: &'a str,
     kind: FaultKind,
-) -> Result<Option<&'a str>, LedgerFault> {
-    let tables = tables_of_text(alloc, TABLES)?;
+) -> Result<Option<&'a str>, Fail> {
+    let tables = tables_of(alloc, TABLES)?;
     for case in table.lines() {
         let text = text_of(alloc, case)?;
         if fault_of(alloc, &tables, text.as_str()) != wanted(case, kind) {
@@ -102,15 +99,9 @@ fn first_wrong<'a>(
 #[test]
 fn faults_are_at_their_marks(rt: HostRuntime) -> Result<(), Fail> {
     let alloc = rt.alloc();
-    for (table, kind) in [
-        (SYNTAX, FaultKind::Syntax),
-        (UNKNOWN, FaultKind::UnknownName),
-        (TWICE, FaultKind::NameTwice),
-        (WRONG, FaultKind::WrongKind),
-    ] {
-        if let Some(case) = first_wrong(alloc, table, kind)? {
-            assert!(rt; false, "at {case}");
-        }
-    }
+    assert_eq!(rt; first_wrong(alloc, SYNTAX, FaultKind::Syntax)?, None);
+    assert_eq!(rt; first_wrong(alloc, UNKNOWN, FaultKind::UnknownName)?, None);
+    assert_eq!(rt; first_wrong(alloc, TWICE, FaultKind::NameTwice)?, None);
+    assert_eq!(rt; first_wrong(alloc, WRONG, FaultKind::WrongKind)?, None);
     Ok(())
 }

@@ -66,18 +66,29 @@ fn a_cycle_has_different_positions(rt: HostRuntime) -> Result<(), Fail> {
     Ok(())
 }
 
+/// The digest of that block after one whose digest has the byte 7 alone.
+const DIGEST: &[u8] =
+    b"\xab\x8d\x45\x8f\xcc\xd7\x24\xd0\xeb\x74\x3f\x90\x50\x62\x77\x9f\xc5\x5d\xc3\xc7\x6f\xf0\x9e\xee\xc4\x71\x50\xc0\x90\xed\xb3\xb9";
+
+/// Whether what the code says is read, has this code again, and has its digest.
+fn comes_back(alloc: Global) -> Result<bool, Fail> {
+    let block = decode(alloc, CODE)?;
+    let digest = digest_of(alloc, &[7; 32], &block)?;
+    let code = encode(alloc, &block)?;
+    Ok(
+        block.number == 258
+            && block.time == 259
+            && block.outcomes.len() == 19
+            && block.order.as_slice() == [18, 1].as_slice()
+            && code.as_slice() == CODE
+            && digest.as_slice() == DIGEST,
+    )
+}
+
 #[test]
 fn all_kinds_come_back(rt: HostRuntime) -> Result<(), Fail> {
-    let alloc = rt.alloc();
-    let block = decode(alloc, CODE)?;
-    assert!(rt; block.number == 258 && block.time == 259 && block.outcomes.len() == 19);
-    assert!(rt; block.order.as_slice() == [18, 1].as_slice());
-    assert!(rt; encode(alloc, &block)?.as_slice() == CODE);
-    let digest = digest_of(alloc, &[7; 32], &block)?;
-    assert!(rt;
-        digest.as_slice()
-            == b"\xab\x8d\x45\x8f\xcc\xd7\x24\xd0\xeb\x74\x3f\x90\x50\x62\x77\x9f\xc5\x5d\xc3\xc7\x6f\xf0\x9e\xee\xc4\x71\x50\xc0\x90\xed\xb3\xb9".as_slice()
-    );
+    let is_back = comes_back(rt.alloc())?;
+    assert!(rt; is_back);
     Ok(())
 }
 
@@ -85,14 +96,29 @@ fn all_kinds_come_back(rt: HostRuntime) -> Result<(), Fail> {
 const WRITE: &[u8] =
     b"\x00\x00\x00\x01\x00\x00\x00\x00\x01\x01\x00\x00\x00\x00\x00\x00\x00\x07\x01\x01\x01\x00\x00\x00\x00\x00\x00\x00\x07\xaa\xbb";
 
+/// Whether the key's value is got from these bytes.
+fn has_value(alloc: Global) -> Result<bool, Fail> {
+    let (value, length) = get_value(alloc, &WRITE[9..])?;
+    Ok(value == Value::Int(7) && length == 9)
+}
+
+/// Whether its key is.
+fn has_row(alloc: Global) -> Result<bool, Fail> {
+    let (row, length) = get_row(alloc, &WRITE[8..])?;
+    Ok(row.len() == 1 && length == 10)
+}
+
+/// Whether the write is.
+fn has_write(alloc: Global) -> Result<bool, Fail> {
+    let (placed, length) = get_write(alloc, WRITE)?;
+    Ok(placed.pos == 1 && placed.write.before.is_none() && length == 29)
+}
+
 #[test]
 fn what_stands_first_is_got(rt: HostRuntime) -> Result<(), Fail> {
     let alloc = rt.alloc();
-    let (value, length) = get_value(alloc, &WRITE[9..])?;
-    assert!(rt; value == Value::Int(7) && length == 9);
-    let (row, length) = get_row(alloc, &WRITE[8..])?;
-    assert!(rt; row.len() == 1 && length == 10);
-    let (placed, length) = get_write(alloc, WRITE)?;
-    assert!(rt; placed.pos == 1 && placed.write.before.is_none() && length == 29);
+    assert!(rt; has_value(alloc)?);
+    assert!(rt; has_row(alloc)?);
+    assert!(rt; has_write(alloc)?);
     Ok(())
 }

@@ -100,16 +100,27 @@ fn a_version_is_known_after_its_line(rt: HostRuntime) -> Result<(), Fail> {
     Ok(())
 }
 
-#[test]
-fn a_chain_of_version_2_is_sealed(rt: HostRuntime) -> Result<(), Fail> {
-    let alloc = rt.alloc();
+/// Whether the blocks of the chain are sealed as it.
+fn seals(alloc: Global) -> Result<bool, Fail> {
     let blocks = blocks(alloc)?;
-    assert!(rt; seal(alloc, ChainVersion::Two, &blocks)?.as_slice() == CHAIN);
-    assert!(rt; fault_of(alloc, CHAIN)?.is_none());
+    let chain = seal(alloc, ChainVersion::Two, &blocks)?;
+    Ok(chain.as_slice() == CHAIN)
+}
+
+/// Whether a draft in two pieces is.
+fn seals_pieces(alloc: Global) -> Result<bool, Fail> {
     let mut sealer = Sealer::new(alloc);
     sealer.feed(b"draf")?;
     sealer.feed(b"t 2\nblock 1 100\ntx a1 0 add 1 \"ann\" 50\nend\nblock 2 100\nend\n")?;
-    assert!(rt; sealer.end().is_ok_and(|text| text.as_slice() == CHAIN));
+    Ok(sealer.end().is_ok_and(|text| text.as_slice() == CHAIN))
+}
+
+#[test]
+fn a_chain_of_version_2_is_sealed(rt: HostRuntime) -> Result<(), Fail> {
+    let alloc = rt.alloc();
+    assert!(rt; seals(alloc)?);
+    assert!(rt; fault_of(alloc, CHAIN)?.is_none());
+    assert!(rt; seals_pieces(alloc)?);
     Ok(())
 }
 
