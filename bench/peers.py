@@ -1,17 +1,17 @@
 #!/usr/bin/env python3
-"""Times kinds of work beside the same calls on SQLite in memory, in one run, by processor time, in rounds that take turns.
+"""Times kinds of work beside the same calls on SQLite in memory, in one run, in rounds that take turns.
 
 payments: each call reads and updates two accounts; inserts: each call adds a row; sweeps: each call sums the 100 accounts of an owner by an index;
-mixed: payments, sweeps, inserts and removals over 10,000 accounts. The product runs them in blocks of --per-block calls, one thread, with orders and
-digests; SQLite is Python's `sqlite3` with prepared statements, one transaction a call. The time of the accounts alone is taken off both.
+mixed: payments, sweeps, inserts and removals over 10,000 accounts. The product runs them in blocks of --per-block calls with orders and digests:
+without executors, by processor time, and with the words that a user gives first, which have two executors, by the clock. SQLite is driven by
+sqlite.c with prepared statements, one transaction a call, by processor time. The time of the accounts alone is taken off all three.
 With --sizes the same for 1,000 accounts and twice as many again and again, and for blocks of 10 to 1,000. With --plot FILE the ratios are drawn as SVG.
+It needs a C compiler and the headers of SQLite.
 Usage: bench/peers.py PROGRAM [--accounts COUNT] [--calls COUNT] [--sweeps COUNT] [--per-block COUNT] [--rounds COUNT] [--sizes] [--plot FILE]
 """
 import argparse
 import os
 import random
-import resource
-import sqlite3
 import subprocess
 import tempfile
 import time
@@ -84,62 +84,72 @@ def write_draft(path, work, calls, per_block):
             out.write("end\n")
 
 
-def product_seconds(program, work, calls, per_block):
-    """The processor time, and the most memory in bytes."""
+@dataclass
+class Took:
+    """What a run of the product took: seconds of processors, seconds by the clock, and the most memory in bytes."""
+    processor: float
+    clock: float
+    memory: int
+
+
+def product_run(program, work, calls, per_block, words):
     with tempfile.TemporaryDirectory() as folder:
         with open(os.path.join(folder, "app"), "w") as out:
             out.write(APP)
         write_draft(os.path.join(folder, "draft"), work, calls, per_block)
-        before = resource.getrusage(resource.RUSAGE_CHILDREN)
-        words = [program, "run", "--app", "app", "--blocks", "draft", "--orders", "--digests", *EXECUTORS]
-        child = subprocess.Popen(words, cwd=folder, stdout=subprocess.DEVNULL)
+        command = [program, "run", "--app", "app", "--blocks", "draft", "--orders", "--digests", *words]
+        begin = time.monotonic()
+        child = subprocess.Popen(command, cwd=folder, stdout=subprocess.DEVNULL)
         _, status, used = os.wait4(child.pid, 0)
         if status != 0:
             raise SystemExit(f"{work.name}: status {status}")
-        return used.ru_utime + used.ru_stime, used.ru_maxrss * 1024
+        return Took(used.ru_utime + used.ru_stime, time.monotonic() - begin, used.ru_maxrss * 1024)
 
 
-def sqlite_call(store, call):
-    name, *values = call
-    if name == "add":
-        store.execute("insert into acct values (?, ?, ?)", values)
-    elif name == "sweep":
-        store.execute("select sum(bal) from acct where owner = ?", values).fetchone()
-    elif name == "drop":
-        store.execute("delete from acct where id = ?", values)
-    else:
-        for key, amount in (values[0], -1), (values[1], 1):
-            (balance,) = store.execute("select bal from acct where id = ?", (key,)).fetchone()
-            store.execute("update acct set bal = ? where id = ?", (balance + amount, key))
+def build_sqlite(folder):
+    """The program that makes the calls on SQLite."""
+    source = os.path.join(os.path.dirname(os.path.abspath(__file__)), "sqlite.c")
+    built = os.path.join(folder, "sqlite")
+    subprocess.run(["cc", "-O2", "-o", built, source, "-lsqlite3"], check=True)
+    return built
 
 
-def sqlite_seconds(work):
-    store = sqlite3.connect(":memory:", isolation_level=None, cached_statements=100)
-    store.execute("create table acct (id integer primary key, owner text, bal integer)")
-    store.execute("create index by_owner on acct (owner)")
-    store.executemany("insert into acct values (?, ?, ?)", ((key, owner(key), 1000000) for key in range(work.accounts)))
-    begin = time.process_time()
-    for call in work.calls:
-        store.execute("begin")
-        sqlite_call(store, call)
-        store.execute("commit")
-    return time.process_time() - begin
+def sqlite_seconds(sqlite, work):
+    lines = [str(work.accounts), *(" ".join(map(str, call)) for call in work.calls)]
+    return float(subprocess.run([sqlite], input="\n".join(lines), capture_output=True, text=True, check=True).stdout)
 
 
-def measure(program, work, per_block, rounds):
-    """Calls a second of the product and of SQLite, and the product's bytes a version."""
-    alone, whole, peer, peak, empty = [], [], [], 0, 0
-    for _ in range(rounds):
-        seconds, empty = product_seconds(program, work, [], per_block)
-        alone.append(seconds)
-        seconds, peak = product_seconds(program, work, work.calls, per_block)
-        whole.append(seconds)
-        peer.append(sqlite_seconds(work))
+@dataclass
+class Rates:
+    """Calls a second: of the product without executors, of the product as it is called first, and of SQLite; and the product's bytes a version."""
+    plain: float
+    default: float
+    sqlite: float
+    version: float
+
+
+def least(work, alone, whole):
+    """The seconds of the calls, from those of the accounts alone and of the whole."""
     took = min(whole) - min(alone)
     if took < min(alone) / 20:
         raise SystemExit(f"{work.name}: the accounts alone took {min(alone):.2f} s of {min(whole):.2f} s, which tells nothing of the calls: the machine is too busy, or they are too few")
+    return took
+
+
+def measure(programs, work, per_block, rounds):
+    product, sqlite = programs
+    alone, whole, alone_default, whole_default, peer, peak = [], [], [], [], [], 0
+    for _ in range(rounds):
+        alone.append(product_run(product, work, [], per_block, PLAIN).processor)
+        took = product_run(product, work, work.calls, per_block, PLAIN)
+        whole.append(took.processor)
+        peak = took.memory
+        alone_default.append(product_run(product, work, [], per_block, []).clock)
+        whole_default.append(product_run(product, work, work.calls, per_block, []).clock)
+        peer.append(sqlite_seconds(sqlite, work))
     versions = work.accounts + sum({"pay": 2, "add": 1}.get(call[0], 0) for call in work.calls)
-    return len(work.calls) / took, len(work.calls) / min(peer), peak / versions
+    count = len(work.calls)
+    return Rates(count / least(work, alone, whole), count / least(work, alone_default, whole_default), count / min(peer), peak / versions)
 
 
 def works(given):
@@ -150,17 +160,18 @@ def works(given):
     yield Work("mixed", MIXED_ACCOUNTS, mixed(draw, MIXED_ACCOUNTS, given.calls))
 
 
-def compare(program, given):
-    print(f"{'work':>9} {'product':>10} {'SQLite':>10} {'ratio':>6} {'bytes a version':>15}")
+def compare(programs, given):
+    print(f"{'work':>9} {'plain':>10} {'default':>10} {'SQLite':>10} {'plain ratio':>11} {'default ratio':>13} {'bytes a version':>15}")
     ratios = []
     for work in works(given):
-        product, peer, size = measure(program, work, given.per_block, given.rounds)
-        print(f"{work.name:>9} {product:>10,.0f} {peer:>10,.0f} {product / peer:>6.2f} {size:>15,.0f}")
-        ratios.append((work.name, product / peer))
+        rates = measure(programs, work, given.per_block, given.rounds)
+        plain, default = rates.plain / rates.sqlite, rates.default / rates.sqlite
+        print(f"{work.name:>9} {rates.plain:>10,.0f} {rates.default:>10,.0f} {rates.sqlite:>10,.0f} {plain:>11.2f} {default:>13.2f} {rates.version:>15,.0f}")
+        ratios.append((work.name, plain))
     return ratios
 
 
-def compare_sizes(program, given):
+def compare_sizes(programs, given):
     draw = random.Random(13)
     for name, call in ("payments", payments), ("inserts", inserts), ("sweeps", sweeps):
         accounts = 1000
@@ -168,13 +179,12 @@ def compare_sizes(program, given):
             # enough calls that the time of the accounts, which is taken off, does not drown theirs
             count = max(given.sweeps, accounts // 32) if name == "sweeps" else max(given.calls, accounts // 8)
             work = Work(name, accounts, call(draw, accounts, count))
-            product, peer, _ = measure(program, work, given.per_block, 1)
-            print(f"{name:>9} over {accounts:>8} accounts: {product:>10,.0f} a second, SQLite {peer:>10,.0f}")
+            rates = measure(programs, work, given.per_block, 1)
+            print(f"{name:>9} over {accounts:>8} accounts: {rates.plain:>10,.0f} a second, SQLite {rates.sqlite:>10,.0f}")
             accounts *= 2
     work = Work("payments", given.accounts, payments(draw, given.accounts, given.calls))
     for per_block in 10, 20, 40, 80, 160, 320, 640, 1000:
-        product, _, _ = measure(program, work, per_block, 1)
-        print(f" payments in blocks of {per_block:>4}: {product:>10,.0f} a second")
+        print(f" payments in blocks of {per_block:>4}: {measure(programs, work, per_block, 1).plain:>10,.0f} a second")
 
 
 def plot(path, ratios):
@@ -193,12 +203,8 @@ def plot(path, ratios):
         out.write("\n".join(rows) + "\n")
 
 
-# one thread: no executors, where the program has the option
-EXECUTORS = []
-
-
-def has_executors(program):
-    return subprocess.run([program, "run", "--app", "none", "--blocks", "none", "--executors", "0"], stdout=subprocess.DEVNULL).returncode != 2
+# the words for one node on one thread
+PLAIN = ["--executors", "0"]
 
 
 def main():
@@ -212,13 +218,13 @@ def main():
     parser.add_argument("--sizes", action="store_true")
     parser.add_argument("--plot")
     given = parser.parse_args()
-    program = os.path.abspath(given.program)
-    EXECUTORS.extend(["--executors", "0"] if has_executors(program) else [])
-    ratios = compare(program, given)
-    if given.plot:
-        plot(given.plot, ratios)
-    if given.sizes:
-        compare_sizes(program, given)
+    with tempfile.TemporaryDirectory() as folder:
+        programs = os.path.abspath(given.program), build_sqlite(folder)
+        ratios = compare(programs, given)
+        if given.plot:
+            plot(given.plot, ratios)
+        if given.sizes:
+            compare_sizes(programs, given)
 
 
 if __name__ == "__main__":
