@@ -1,18 +1,20 @@
 -- What a question is answered from what a node holds, and by what was read of the files.
-use Rattle.std.proofs.Common.{IfOk, IfSome, List, None, Option, Some, ap, arith, length, subst, sym, take, ◌∙◌, ◌≡◌, ◌≤◌, ℕ}
+use Rattle.std.proofs.Common.{IfOk, IfSome, List, None, Option, Some, ap, arith, length, refl, subst, sym, take, ◌∙◌, ◌≡◌, ◌≤◌, ℕ}
 use Rattle.std.specs.Prelude.{Err, Ok, Result}
 use Rattle.bcdb.proofs.Clustered.{no_schedule}
 use Rattle.bcdb.proofs.Queries.{no_arrivals}
-use Rattle.bcdb.proofs.Sooner.{asks_first, count_fold, take_among}
+use Rattle.bcdb.proofs.Processed.{held_long}
+use Rattle.bcdb.proofs.Sooner.{asks_first, take_among}
 use Rattle.bcdb.specs.Accepted.{accepted}
-use Rattle.bcdb.specs.Given.{AreGiven}
+use Rattle.bcdb.specs.Folds.{Folds, app_of}
+use Rattle.bcdb.specs.Given.{AreFolded}
 use Rattle.bcdb.specs.ProgramAnswer.{says}
 use Rattle.bcdb.specs.Refusals.{refusal_line}
 use Rattle.bcdb.specs.Reply.{Means}
 use Rattle.bcdb.specs.RowsAnswer.{rows_asked, over_ask, over_asked}
+use Rattle.bcdb.specs.declared.folding.Folded.{Folded}
 use Rattle.bcdb.specs.declared.given.BadSource.TheVariants as bad
 use Rattle.bcdb.specs.declared.given.BadSource.{BadSource}
-use Rattle.bcdb.specs.declared.given.Given.{Given}
 use Rattle.bcdb.specs.declared.refusal.BadArrivals.{BadArrivals}
 use Rattle.bcdb.specs.declared.refusal.Refusal.{Refusal}
 use Rattle.bcdb.specs.declared.reply.Reply.{Reply}
@@ -20,9 +22,7 @@ use Rattle.bcdb.specs.declared.sources.Sources.{Sources}
 use Rattle.bcdb.specs.declared.status.Status.TheVariants.{AppRefused}
 use Rattle.block_work.specs.declared.ids.IdIndex.{IdIndex}
 use Rattle.chain_file.specs.Numbered.{NumberedFrom}
-use Rattle.checkpoint.proofs.Folding.{results_length}
 use Rattle.edge_traits.specs.Shelf.{Files}
-use Rattle.node_model.specs.Fold.{fold, no_digest}
 use Rattle.node_model.specs.declared.result.BlockResult.{BlockResult}
 use Rattle.plain_node.specs.Holding.{HoldsFold}
 use Rattle.proc_syntax.specs.Declaring.{tables_of}
@@ -45,49 +45,57 @@ asked_held app own blocks history ids results height text result same numbered h
     ∙ ap (λ (h : List Stamped). answered (tables_of app) text h (length blocks) height) holds.chain.writes
     ∙ asks_first height text app blocks numbered) answers
 
+-- so a node that was given all blocks of a file answers
+pub asked_taken : (folded : Folded) (blocks : List Block) (height : ℕ) (text : List ℕ) (result : Result (List (List Value)) AskFault) → Folds height blocks folded
+    → Answers result (answered (tables_of (app_of folded)) text folded.node.chain.versions.1.0 folded.taken height) → Answers result (rows_asked height text (app_of folded) blocks)
+asked_taken folded blocks height text result folds answers =
+    asked_held (app_of folded) (app_of folded) blocks folded.node.chain.versions.1.0 folded.node.ids folded.node.chain.blocks height text result refl folds.numbered folds.holds.holds
+    (subst (λ sealed. Answers result (answered (tables_of (app_of folded)) text folded.node.chain.versions.1.0 sealed height)) folds.holds.count answers)
+
 -- it has no more results than there are blocks
-pub held_among : (app : App) (blocks : List Block) (history : List Stamped) (ids : IdIndex) (results : List BlockResult) (height : ℕ) → HoldsFold app (take height blocks) history ids results → length results ≤ length blocks
-held_among app blocks history ids results height holds =
-    let long : length results ≡ length (take height blocks) = ap length holds.chain.results ∙ results_length (tables_of app) no_digest (fold app (take height blocks)) ∙ count_fold app (take height blocks) in
+pub held_among : (height : ℕ) (blocks : List Block) (folded : Folded) → Folds height blocks folded → length folded.node.chain.blocks ≤ folded.taken
+held_among height blocks folded folds =
+    let long = held_long height blocks folded.taken (app_of folded) folded.node.chain.versions.0 folded.node.chain.versions.1.0 folded.node.ids folded.node.chain.blocks folds.holds in
     let less = take_among height blocks in
-    omega (arith, long, less)
+    let count = folds.holds.count in
+    omega (arith, long, less, count)
 
 -- ---- what was read of the files decides
 
-given_means : (height : ℕ) (text : List ℕ) (sources : Sources) (files : Files) (given : Given) (reply : Reply) → AreGiven (Ok given) sources files
-    → Means (over_asked height text given.app.app given.read.blocks given.read.fault) reply → Means (over_ask height text (accepted (files sources.app)) (files sources.blocks)) reply
-given_means height text sources files given reply are means =
-    subst (λ (f : Result App Refusal). Means (over_ask height text f (files sources.blocks)) reply) (sym are.0)
-    (subst (λ (read : List Block × Option ChainFault). Means (over_asked height text given.app.app read.0 read.1) reply) (sym are.3) means)
+given_means : (height : ℕ) (text : List ℕ) (asked : Sources) (files : Files) (folded : Folded) (reply : Reply) → AreFolded height (Ok folded) asked files
+    → ((blocks : List Block) → Folds height blocks folded → Means (over_asked height text (app_of folded) blocks folded.fault) reply) → Means (over_ask height text (accepted (files asked.app)) (files asked.blocks)) reply
+given_means height text asked files folded reply are means =
+    subst (λ (f : Result App Refusal). Means (over_ask height text f (files asked.blocks)) reply) (sym are.0)
+    (subst (λ (read : List Block × Option ChainFault). Means (over_asked height text (app_of folded) read.0 read.1) reply) (sym are.2.1.1) (means are.2.0 are.2.1.0))
 
-pub ask_means : (height : ℕ) (text : List ℕ) (given : Given) (result : Result Reply NoMemory) → IfOk result (λ reply. Means (over_asked height text given.app.app given.read.blocks given.read.fault) reply)
-    → IfOk result (λ reply. (asked : Sources) (files : Files) → asked.nodes ≡ 0 → asked.schedule ≡ None → AreGiven (Ok given) asked files
+pub ask_means : (height : ℕ) (text : List ℕ) (folded : Folded) (result : Result Reply NoMemory) → IfOk result (λ reply. (blocks : List Block) → Folds height blocks folded → Means (over_asked height text (app_of folded) blocks folded.fault) reply)
+    → IfOk result (λ reply. (asked : Sources) (files : Files) → asked.nodes ≡ 0 → asked.schedule ≡ None → AreFolded height (Ok folded) asked files
     → Means (over_ask height text (accepted (files asked.app)) (files asked.blocks)) reply)
-ask_means height text given (Ok reply) means = λ sources files none unscheduled are. given_means height text sources files given reply are means
-ask_means height text given (Err e) means = tt
+ask_means height text folded (Ok reply) means = λ asked files none unscheduled are. given_means height text asked files folded reply are means
+ask_means height text folded (Err e) means = tt
 
 pub app_means : (height : ℕ) (text : List ℕ) (refusal : Refusal) (result : Result Reply NoMemory) → IfOk result (λ reply. Means (says AppRefused (refusal_line refusal)) reply)
-    → IfOk result (λ reply. (asked : Sources) (files : Files) → asked.nodes ≡ 0 → asked.schedule ≡ None → AreGiven (Err (bad.App refusal)) asked files
+    → IfOk result (λ reply. (asked : Sources) (files : Files) → asked.nodes ≡ 0 → asked.schedule ≡ None → AreFolded height (Err (bad.App refusal)) asked files
     → Means (over_ask height text (accepted (files asked.app)) (files asked.blocks)) reply)
 app_means height text refusal (Ok reply) means = λ sources files none unscheduled is.
     subst (λ (f : Result App Refusal). Means (over_ask height text f (files sources.blocks)) reply) (sym is) means
 app_means height text refusal (Err e) means = tt
 
 pub arrivals_mean : (height : ℕ) (text : List ℕ) (why : BadArrivals) (result : Result Reply NoMemory)
-    → IfOk result (λ reply. (asked : Sources) (files : Files) → asked.nodes ≡ 0 → asked.schedule ≡ None → AreGiven (Err (bad.Arrivals why)) asked files
+    → IfOk result (λ reply. (asked : Sources) (files : Files) → asked.nodes ≡ 0 → asked.schedule ≡ None → AreFolded height (Err (bad.Arrivals why)) asked files
     → Means (over_ask height text (accepted (files asked.app)) (files asked.blocks)) reply)
 arrivals_mean height text why (Ok reply) = λ sources files none unscheduled is. absurd (no_arrivals sources.arrivals sources.nodes why files none is.1)
 arrivals_mean height text why (Err e) = tt
 
 pub schedule_means : (height : ℕ) (text : List ℕ) (line : ℕ) (result : Result Reply NoMemory)
-    → IfOk result (λ reply. (asked : Sources) (files : Files) → asked.nodes ≡ 0 → asked.schedule ≡ None → AreGiven (Err (bad.Schedule line)) asked files
+    → IfOk result (λ reply. (asked : Sources) (files : Files) → asked.nodes ≡ 0 → asked.schedule ≡ None → AreFolded height (Err (bad.Schedule line)) asked files
     → Means (over_ask height text (accepted (files asked.app)) (files asked.blocks)) reply)
 schedule_means height text line (Ok reply) = λ sources files none unscheduled is. absurd (no_schedule sources.schedule line files unscheduled is.2)
 schedule_means height text line (Err e) = tt
 
 -- over a shelf that tells its files
-pub means_told : (told : Option Files) (height : ℕ) (text : List ℕ) (asked : Sources) (read : Result Given BadSource) (reply : Reply) → asked.nodes ≡ 0 → asked.schedule ≡ None
-    → ((asked : Sources) (files : Files) → asked.nodes ≡ 0 → asked.schedule ≡ None → AreGiven read asked files → Means (over_ask height text (accepted (files asked.app)) (files asked.blocks)) reply)
-    → IfSome told (λ files. AreGiven read asked files) → IfSome told (λ files. Means (over_ask height text (accepted (files asked.app)) (files asked.blocks)) reply)
+pub means_told : (told : Option Files) (height : ℕ) (text : List ℕ) (asked : Sources) (read : Result Folded BadSource) (reply : Reply) → asked.nodes ≡ 0 → asked.schedule ≡ None
+    → ((asked : Sources) (files : Files) → asked.nodes ≡ 0 → asked.schedule ≡ None → AreFolded height read asked files → Means (over_ask height text (accepted (files asked.app)) (files asked.blocks)) reply)
+    → IfSome told (λ files. AreFolded height read asked files) → IfSome told (λ files. Means (over_ask height text (accepted (files asked.app)) (files asked.blocks)) reply)
 means_told None height text sources read reply none unscheduled gives are = tt
 means_told (Some files) height text sources read reply none unscheduled gives are = gives sources files none unscheduled are

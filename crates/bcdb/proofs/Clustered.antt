@@ -5,7 +5,8 @@ use Rattle.std.specs.Prelude.{Err, Ok, Result, codes}
 use Rattle.std.specs.Result.{IsOk}
 use Rattle.bcdb.specs.Accepted.{accepted}
 use Rattle.bcdb.specs.ArrivalFiles.{all_arrived}
-use Rattle.bcdb.specs.Given.{AreGiven}
+use Rattle.bcdb.specs.Folds.{Folds, all_blocks, app_of}
+use Rattle.bcdb.specs.Given.{AreFolded, AreGiven}
 use Rattle.bcdb.specs.ProgramAnswer.{ProgramAnswer, says, status_of}
 use Rattle.bcdb.specs.Refusals.{arrivals_refusal, refusal_line}
 use Rattle.bcdb.specs.Reply.{Means}
@@ -13,6 +14,7 @@ use Rattle.bcdb.specs.RunAnswer.{over_nodes}
 use Rattle.bcdb.specs.Sources.{steps_in}
 use Rattle.bcdb.specs.Traced.{AreJournals, FollowsNodes, RepliesNodes, RepliesRun, followed_by}
 use Rattle.bcdb.specs.declared.reply.Reply.{Reply}
+use Rattle.bcdb.specs.declared.folding.Folded.{Folded}
 use Rattle.bcdb.specs.declared.given.BadSource.TheVariants as bad
 use Rattle.bcdb.specs.declared.given.BadSource.{BadSource}
 use Rattle.bcdb.specs.declared.given.Given.{Given}
@@ -20,6 +22,7 @@ use Rattle.bcdb.specs.declared.refusal.BadArrivals.{BadArrivals}
 use Rattle.bcdb.specs.declared.refusal.Refusal.{Refusal}
 use Rattle.bcdb.specs.declared.sources.Sources.{Sources}
 use Rattle.bcdb.specs.declared.status.Status.TheVariants.{AppRefused, ArrivalRefused}
+use Rattle.chain_file.specs.Chain.{chain}
 use Rattle.cluster_run.specs.Arrivals.{AreFedBy}
 use Rattle.cluster_run.specs.Nodes.{IsNodeOf}
 use Rattle.edge_traits.specs.Shelf.{Files}
@@ -116,14 +119,18 @@ first_tells app blocks told first counted each is =
 pub alone : (meant : ProgramAnswer) (reply : Reply) → Means meant reply → Means (followed_by [] meant) reply
 alone meant reply means = record { status = means.status; bytes = means.bytes ∙ sym (append-nil meant.bytes) }
 
+ran_by : (look : Look) (asked : Sources) (app : App) (blocks : List Block) (arrivals : List (List Tx)) (stop : Option ChainFault) (reply : Reply) (files : Files)
+    → RepliesNodes look asked.nodes app blocks arrivals stop reply → accepted (files asked.app) ≡ Ok app → all_arrived asked.arrivals 1 asked.nodes files ≡ Ok arrivals
+    → chain (files asked.blocks) ≡ (blocks, stop) → RepliesRun look asked (accepted (files asked.app)) files reply
+ran_by look asked app blocks arrivals stop reply files replies accepts arrive reads =
+    subst (λ (found : Result App Refusal). RepliesRun look asked found files reply) (sym accepts)
+    (subst (λ (found : Result (List (List Tx)) BadArrivals). (lines : List ℕ)
+    × (FollowsNodes look asked.nodes app found (files asked.blocks) lines × Means (followed_by lines (over_nodes look asked.nodes app found (files asked.blocks))) reply)) (sym arrive)
+    (subst (λ (read : List Block × Option ChainFault). RepliesNodes look asked.nodes app read.0 arrivals read.1 reply) (sym reads) replies))
+
 ran : (look : Look) (asked : Sources) (given : Given) (reply : Reply) (files : Files) → RepliesNodes look asked.nodes given.app.app given.read.blocks given.arrivals given.read.fault reply → AreGiven (Ok given) asked files
     → RepliesRun look asked (accepted (files asked.app)) files reply
-ran look asked given reply files replies are =
-    let app : App = given.app.app in
-    subst (λ (found : Result App Refusal). RepliesRun look asked found files reply) (sym are.0)
-    (subst (λ (found : Result (List (List Tx)) BadArrivals). (lines : List ℕ)
-    × (FollowsNodes look asked.nodes app found (files asked.blocks) lines × Means (followed_by lines (over_nodes look asked.nodes app found (files asked.blocks))) reply)) (sym are.1)
-    (subst (λ (read : List Block × Option ChainFault). RepliesNodes look asked.nodes app read.0 given.arrivals read.1 reply) (sym are.3) replies))
+ran look asked given reply files replies are = ran_by look asked given.app.app given.read.blocks given.arrivals given.read.fault reply files replies are.0 are.1 are.3
 
 pub replies_run : (look : Look) (asked : Sources) (given : Given) (result : Result Reply NoMemory) → IfOk result (λ reply. RepliesNodes look asked.nodes given.app.app given.read.blocks given.arrivals given.read.fault reply)
     → IfOk result (λ reply. (files : Files) → AreGiven (Ok given) asked files → RepliesRun look asked (accepted (files asked.app)) files reply)
@@ -168,3 +175,51 @@ pub replies_told : (told : Option Files) (look : Look) (asked : Sources) (read :
     → IfSome told (λ files. AreGiven read asked files) → IfSome told (λ files. RepliesRun look asked (accepted (files asked.app)) files reply)
 replies_told None look asked read reply gives are = tt
 replies_told (Some files) look asked read reply gives are = gives files are
+
+-- ---- of one node that has run by itself
+
+pub reply_folded : (look : Look) (folded : Folded) (nodes : List NodeResult) (result : Result Reply NoMemory) → look.trace ≡ false
+    → ((blocks : List Block) → Folds all_blocks blocks folded → nodes ≡ node_result (app_of folded) blocks ∷ [])
+    → IfOk result (λ reply. Means (says (status_of folded.fault) (report_text look (tables_of (app_of folded)) nodes folded.fault)) reply)
+    → IfOk result (λ reply. (blocks : List Block) (arrivals : List (List Tx)) → Folds all_blocks blocks folded → RepliesNodes look 1 (app_of folded) blocks arrivals folded.fault reply)
+reply_folded look folded nodes (Ok reply) silent is means = λ blocks arrivals folds.
+    reply_alone look (app_of folded) blocks arrivals folded.fault nodes (Ok reply) silent (is blocks folds) means
+reply_folded look folded nodes (Err e) silent is means = tt
+
+ran_alone : (look : Look) (asked : Sources) (folded : Folded) (reply : Reply) (files : Files) → asked.nodes ≡ 1
+    → ((blocks : List Block) (arrivals : List (List Tx)) → Folds all_blocks blocks folded → RepliesNodes look 1 (app_of folded) blocks arrivals folded.fault reply) → AreFolded all_blocks (Ok folded) asked files
+    → RepliesRun look asked (accepted (files asked.app)) files reply
+ran_alone look asked folded reply files one replies are = by (all_arrived asked.arrivals 1 asked.nodes files) refl are.1
+  where
+    by : (found : Result (List (List Tx)) BadArrivals) → all_arrived asked.arrivals 1 asked.nodes files ≡ found → IsOk found → RepliesRun look asked (accepted (files asked.app)) files reply
+    by (Ok txs) is ok =
+        ran_by look asked (app_of folded) are.2.0 txs folded.fault reply files
+        (subst (λ nodes. RepliesNodes look nodes (app_of folded) are.2.0 txs folded.fault reply) (sym one) (replies are.2.0 txs are.2.1.0)) are.0 is are.2.1.1
+    by (Err bad) is ok = absurd (cc)
+
+pub replies_fold : (look : Look) (folded : Folded) (result : Result Reply NoMemory)
+    → IfOk result (λ reply. (blocks : List Block) (arrivals : List (List Tx)) → Folds all_blocks blocks folded → RepliesNodes look 1 (app_of folded) blocks arrivals folded.fault reply)
+    → IfOk result (λ reply. (asked : Sources) (files : Files) → asked.nodes ≡ 1 → asked.schedule ≡ None → AreFolded all_blocks (Ok folded) asked files → RepliesRun look asked (accepted (files asked.app)) files reply)
+replies_fold look folded (Ok reply) replies = λ asked files one unscheduled are. ran_alone look asked folded reply files one replies are
+replies_fold look folded (Err e) replies = tt
+
+pub alone_app : (look : Look) (refusal : Refusal) (result : Result Reply NoMemory) → IfOk result (λ reply. Means (says AppRefused (refusal_line refusal)) reply)
+    → IfOk result (λ reply. (asked : Sources) (files : Files) → asked.nodes ≡ 1 → asked.schedule ≡ None → AreFolded all_blocks (Err (bad.App refusal)) asked files → RepliesRun look asked (accepted (files asked.app)) files reply)
+alone_app look refusal (Ok reply) means = λ asked files one unscheduled is. replies_app look asked refusal (Ok reply) means files is
+alone_app look refusal (Err e) means = tt
+
+pub alone_arrivals : (look : Look) (fault : BadArrivals) (result : Result Reply NoMemory) → IfOk result (λ reply. Means (says ArrivalRefused (arrivals_refusal fault)) reply)
+    → IfOk result (λ reply. (asked : Sources) (files : Files) → asked.nodes ≡ 1 → asked.schedule ≡ None → AreFolded all_blocks (Err (bad.Arrivals fault)) asked files → RepliesRun look asked (accepted (files asked.app)) files reply)
+alone_arrivals look fault (Ok reply) means = λ asked files one unscheduled is. replies_arrivals look asked fault (Ok reply) means files is
+alone_arrivals look fault (Err e) means = tt
+
+pub alone_schedule : (look : Look) (line : ℕ) (result : Result Reply NoMemory)
+    → IfOk result (λ reply. (asked : Sources) (files : Files) → asked.nodes ≡ 1 → asked.schedule ≡ None → AreFolded all_blocks (Err (bad.Schedule line)) asked files → RepliesRun look asked (accepted (files asked.app)) files reply)
+alone_schedule look line (Ok reply) = λ asked files one unscheduled is. replies_schedule look asked line (Ok reply) unscheduled files is
+alone_schedule look line (Err e) = tt
+
+pub alone_told : (told : Option Files) (look : Look) (asked : Sources) (read : Result Folded BadSource) (reply : Reply) → asked.nodes ≡ 1 → asked.schedule ≡ None
+    → ((names : Sources) (files : Files) → names.nodes ≡ 1 → names.schedule ≡ None → AreFolded all_blocks read names files → RepliesRun look names (accepted (files names.app)) files reply)
+    → IfSome told (λ files. AreFolded all_blocks read asked files) → IfSome told (λ files. RepliesRun look asked (accepted (files asked.app)) files reply)
+alone_told None look asked read reply one unscheduled gives are = tt
+alone_told (Some files) look asked read reply one unscheduled gives are = gives asked files one unscheduled are

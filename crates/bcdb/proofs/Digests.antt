@@ -1,7 +1,7 @@
 -- The digest files of peers, one after another.
-use Rattle.std.proofs.Common.{Bool, IfOk, IfSome, List, None, Option, Some, [], ap, append-nil, append_assoc, arith, cond, false, inl, inr, length, refl, subst, suc, sym, true, zero, ◌+◌, ◌-◌, ◌++◌, ◌<◌, ◌∙◌, ◌≡◌, ◌≤◌, ◌∷◌, ℕ}
+use Rattle.std.proofs.Common.{Bool, IfOk, IfSome, List, None, Option, Some, [], ap, append-nil, append_assoc, arith, cond, inl, inr, length, refl, subst, suc, sym, zero, ◌+◌, ◌-◌, ◌++◌, ◌<◌, ◌∙◌, ◌≡◌, ◌≤◌, ◌∷◌, ℕ}
 use Rattle.std.proofs.lemmas.Bool.{le-leb, lt-leb}
-use Rattle.std.specs.Prelude.{Err, Ok, Result, nat_le}
+use Rattle.std.specs.Prelude.{Err, Ok, Result}
 use Rattle.std.specs.Result.{IsOk}
 use Rattle.bcdb.proofs.Planning.{keeps_plan}
 use Rattle.bcdb.specs.ArrivalFiles.{node_file}

@@ -1,14 +1,14 @@
 -- The writes of each block of a fold have a head: a transaction has at most 100,000 of them and a block 1,024 transactions, and each fits its table.
-use Rattle.std.proofs.Common.{All, List, [], arith, length, length-append, map, subst, sym, ◌+◌, ◌*◌, ◌++◌, ◌<◌, ◌^◌, ◌∙◌, ◌≡◌, ◌≤◌, ◌∷◌, ℕ}
+use Rattle.std.proofs.Common.{All, List, [], arith, length, length-append, map, subst, sym, ◌+◌, ◌*◌, ◌++◌, ◌∙◌, ◌≡◌, ◌≤◌, ◌∷◌, ℕ}
 use Rattle.std.proofs.lemmas.List.{length-map}
-use Rattle.std.proofs.lemmas.List.Elements.{All-append, All-cons, All-head, All-map, All-nil, All-push, All-tail, All-weaker}
-use Rattle.bcdb.specs.FewWrites.{AreFew, HasFewWrites}
+use Rattle.std.proofs.lemmas.List.Elements.{All-cons, All-head, All-nil, All-push, All-tail}
+use Rattle.bcdb.specs.FewWrites.{HasFewWrites}
 use Rattle.block_digest.specs.Codable.{IsFewWrite}
 use Rattle.block_work.proofs.Bounds.{fitting_few}
 use Rattle.block_work.specs.Chain.{StoreFits}
 use Rattle.block_work.specs.declared.ids.IdIndex.{IdIndex}
 use Rattle.node_model.specs.Decide.{decide, run_at}
-use Rattle.node_model.specs.Fold.{Work, block_result, fold, fold_from, join_committed, no_digest, no_work, results_from, results_of, seal, work_on, work_through}
+use Rattle.node_model.specs.Fold.{Work, block_result, fold, fold_from, join_committed, no_digest, no_work, results_from, seal, work_on, work_through}
 use Rattle.node_model.specs.History.{SealedBlock, history_of, placed_of, snapshot, stamped_of, time_at}
 use Rattle.node_model.specs.declared.outcome.Outcome.TheVariants as outcome
 use Rattle.node_model.specs.declared.outcome.Outcome.{Outcome}

@@ -11,6 +11,7 @@ pub mod Arriving
 pub mod Asked
 pub mod Scheduling
 pub mod Planning
+pub mod Processed
 pub mod Leaves
 pub mod Agreeing
 pub mod Clustered

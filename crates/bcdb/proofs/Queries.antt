@@ -3,17 +3,19 @@ use Rattle.std.proofs.Common.{IfOk, IfSome, List, None, Option, Some, [], ap, ma
 use Rattle.std.specs.List.{range_with_len}
 use Rattle.std.specs.Prelude.{Err, Ok, Result, length}
 use Rattle.bcdb.proofs.Clustered.{no_schedule}
+use Rattle.bcdb.proofs.Processed.{folds_held}
 use Rattle.bcdb.specs.Accepted.{accepted}
 use Rattle.bcdb.specs.ArrivalFiles.{all_arrived}
-use Rattle.bcdb.specs.Given.{AreGiven}
+use Rattle.bcdb.specs.Folds.{Folds, all_blocks, app_of}
+use Rattle.bcdb.specs.Given.{AreFolded}
 use Rattle.bcdb.specs.ProgramAnswer.{says}
 use Rattle.bcdb.specs.Refusals.{refusal_line}
 use Rattle.bcdb.specs.Reply.{Means}
 use Rattle.bcdb.specs.Selected.{Tells, selected}
 use Rattle.bcdb.specs.VersionsAnswer.{over_blocks, over_query}
+use Rattle.bcdb.specs.declared.folding.Folded.{Folded}
 use Rattle.bcdb.specs.declared.given.BadSource.TheVariants as bad
 use Rattle.bcdb.specs.declared.given.BadSource.{BadSource}
-use Rattle.bcdb.specs.declared.given.Given.{Given}
 use Rattle.bcdb.specs.declared.refusal.BadArrivals.{BadArrivals}
 use Rattle.bcdb.specs.declared.refusal.Refusal.{Refusal}
 use Rattle.bcdb.specs.declared.reply.Reply.{Reply}
@@ -77,13 +79,20 @@ tells_bad app blocks fault.UnknownTable text asks = absurd asks
 tells_bad app blocks fault.BadKey text asks = absurd asks
 tells_bad app blocks fault.BadRange text asks = absurd asks
 
+-- of a node that was given all blocks of a file
+pub tells_folds : (folded : Folded) (query : Query) (text : Option Query) (results : List BlockResult) (result : Result (List Version) QueryFault) → text ≡ Some query → results ≡ folded.node.chain.blocks
+    → Answers result (answer (tables_of (app_of folded)) results query) → (blocks : List Block) → Folds all_blocks blocks folded → Tells result (selected (app_of folded) blocks text)
+tells_folds folded query text results result is same answers = λ blocks folds.
+    tells (app_of folded) blocks folded.node.chain.versions.1.0 folded.node.ids folded.node.chain.blocks query text result (folds_held blocks folded folds) is
+    (subst (λ (told : List BlockResult). Answers result (answer (tables_of (app_of folded)) told query)) same answers)
+
 -- ---- what was read of the files decides
 
-given_means : (query : List ℕ) (asked : Sources) (files : Files) (given : Given) (reply : Reply) → AreGiven (Ok given) asked files
-    → Means (over_blocks query given.app.app given.read.blocks given.read.fault) reply → Means (over_query query (accepted (files asked.app)) (files asked.blocks)) reply
-given_means query asked files given reply are means =
+given_means : (query : List ℕ) (asked : Sources) (files : Files) (folded : Folded) (reply : Reply) → AreFolded all_blocks (Ok folded) asked files
+    → ((blocks : List Block) → Folds all_blocks blocks folded → Means (over_blocks query (app_of folded) blocks folded.fault) reply) → Means (over_query query (accepted (files asked.app)) (files asked.blocks)) reply
+given_means query asked files folded reply are means =
     subst (λ (f : Result App Refusal). Means (over_query query f (files asked.blocks)) reply) (sym are.0)
-    (subst (λ (read : List Block × Option ChainFault). Means (over_blocks query given.app.app read.0 read.1) reply) (sym are.3) means)
+    (subst (λ (read : List Block × Option ChainFault). Means (over_blocks query (app_of folded) read.0 read.1) reply) (sym are.2.1.1) (means are.2.0 are.2.1.0))
 
 none_bad : (why : BadArrivals) (found : Result (List (List Tx)) BadArrivals) → found ≡ Ok [] → found ≡ Err why → ⊥
 none_bad why found fine is = cc
@@ -92,34 +101,34 @@ none_bad why found fine is = cc
 pub no_arrivals : (prefix : Option (List ℕ)) (nodes : ℕ) (why : BadArrivals) (files : Files) → nodes ≡ 0 → all_arrived prefix 1 nodes files ≡ Err why → ⊥
 no_arrivals prefix nodes why files none is = none_bad why (all_arrived prefix 1 nodes files) (ap (λ count. all_arrived prefix 1 count files) none) is
 
-pub query_means : (query : List ℕ) (given : Given) (result : Result Reply NoMemory) → IfOk result (λ reply. Means (over_blocks query given.app.app given.read.blocks given.read.fault) reply)
-    → IfOk result (λ reply. (asked : Sources) (files : Files) → asked.nodes ≡ 0 → asked.schedule ≡ None → AreGiven (Ok given) asked files
+pub query_means : (query : List ℕ) (folded : Folded) (result : Result Reply NoMemory) → IfOk result (λ reply. (blocks : List Block) → Folds all_blocks blocks folded → Means (over_blocks query (app_of folded) blocks folded.fault) reply)
+    → IfOk result (λ reply. (asked : Sources) (files : Files) → asked.nodes ≡ 0 → asked.schedule ≡ None → AreFolded all_blocks (Ok folded) asked files
     → Means (over_query query (accepted (files asked.app)) (files asked.blocks)) reply)
-query_means query given (Ok reply) means = λ asked files none unscheduled are. given_means query asked files given reply are means
-query_means query given (Err e) means = tt
+query_means query folded (Ok reply) means = λ asked files none unscheduled are. given_means query asked files folded reply are means
+query_means query folded (Err e) means = tt
 
 pub app_means : (query : List ℕ) (refusal : Refusal) (result : Result Reply NoMemory) → IfOk result (λ reply. Means (says AppRefused (refusal_line refusal)) reply)
-    → IfOk result (λ reply. (asked : Sources) (files : Files) → asked.nodes ≡ 0 → asked.schedule ≡ None → AreGiven (Err (bad.App refusal)) asked files
+    → IfOk result (λ reply. (asked : Sources) (files : Files) → asked.nodes ≡ 0 → asked.schedule ≡ None → AreFolded all_blocks (Err (bad.App refusal)) asked files
     → Means (over_query query (accepted (files asked.app)) (files asked.blocks)) reply)
 app_means query refusal (Ok reply) means = λ asked files none unscheduled is.
     subst (λ (f : Result App Refusal). Means (over_query query f (files asked.blocks)) reply) (sym is) means
 app_means query refusal (Err e) means = tt
 
 pub arrivals_mean : (query : List ℕ) (why : BadArrivals) (result : Result Reply NoMemory)
-    → IfOk result (λ reply. (asked : Sources) (files : Files) → asked.nodes ≡ 0 → asked.schedule ≡ None → AreGiven (Err (bad.Arrivals why)) asked files
+    → IfOk result (λ reply. (asked : Sources) (files : Files) → asked.nodes ≡ 0 → asked.schedule ≡ None → AreFolded all_blocks (Err (bad.Arrivals why)) asked files
     → Means (over_query query (accepted (files asked.app)) (files asked.blocks)) reply)
 arrivals_mean query why (Ok reply) = λ asked files none unscheduled is. absurd (no_arrivals asked.arrivals asked.nodes why files none is.1)
 arrivals_mean query why (Err e) = tt
 
 pub schedule_means : (query : List ℕ) (line : ℕ) (result : Result Reply NoMemory)
-    → IfOk result (λ reply. (asked : Sources) (files : Files) → asked.nodes ≡ 0 → asked.schedule ≡ None → AreGiven (Err (bad.Schedule line)) asked files
+    → IfOk result (λ reply. (asked : Sources) (files : Files) → asked.nodes ≡ 0 → asked.schedule ≡ None → AreFolded all_blocks (Err (bad.Schedule line)) asked files
     → Means (over_query query (accepted (files asked.app)) (files asked.blocks)) reply)
 schedule_means query line (Ok reply) = λ asked files none unscheduled is. absurd (no_schedule asked.schedule line files unscheduled is.2)
 schedule_means query line (Err e) = tt
 
 -- over a shelf that tells its files
-pub means_told : (told : Option Files) (query : List ℕ) (asked : Sources) (read : Result Given BadSource) (reply : Reply) → asked.nodes ≡ 0 → asked.schedule ≡ None
-    → ((asked : Sources) (files : Files) → asked.nodes ≡ 0 → asked.schedule ≡ None → AreGiven read asked files → Means (over_query query (accepted (files asked.app)) (files asked.blocks)) reply)
-    → IfSome told (λ files. AreGiven read asked files) → IfSome told (λ files. Means (over_query query (accepted (files asked.app)) (files asked.blocks)) reply)
+pub means_told : (told : Option Files) (query : List ℕ) (asked : Sources) (read : Result Folded BadSource) (reply : Reply) → asked.nodes ≡ 0 → asked.schedule ≡ None
+    → ((asked : Sources) (files : Files) → asked.nodes ≡ 0 → asked.schedule ≡ None → AreFolded all_blocks read asked files → Means (over_query query (accepted (files asked.app)) (files asked.blocks)) reply)
+    → IfSome told (λ files. AreFolded all_blocks read asked files) → IfSome told (λ files. Means (over_query query (accepted (files asked.app)) (files asked.blocks)) reply)
 means_told None query asked read reply none unscheduled gives are = tt
 means_told (Some files) query asked read reply none unscheduled gives are = gives asked files none unscheduled are

@@ -18,12 +18,6 @@ use Rattle.rel_base.specs.Tables.{Tables}
 use Rattle.schedule_laws.proofs.Chains.{counted-append, shows-more}
 use Rattle.schedule_laws.specs.Facts.{AreCounted}
 
--- the first of numbered blocks are numbered
-pub first_numbered : (n count : ℕ) (blocks : List Block) → NumberedFrom n blocks → NumberedFrom n (take count blocks)
-first_numbered n zero blocks numbered = tt
-first_numbered n (suc count) [] numbered = tt
-first_numbered n (suc count) (block ∷ blocks) numbered = (numbered.0, first_numbered (n + 1) count blocks numbered.1)
-
 pub take_among : {A : Type 0} (count : ℕ) (xs : List A) → length (take count xs) ≤ length xs
 take_among zero xs = omega arith
 take_among (suc count) [] = omega arith

@@ -1,11 +1,11 @@
 -- What is answered to a proof and a head, by the bytes of the proof's file.
-use Rattle.std.proofs.Common.{Bool, IfSome, List, None, Option, Some, ap, cond, length, subst, sym, ◌<◌, ◌∙◌, ◌≡◌, ◌≤◌, ℕ}
+use Rattle.std.proofs.Common.{Bool, IfSome, List, None, Option, Some, cond, length, subst, sym, ◌<◌, ◌≡◌, ◌≤◌, ℕ}
 use Rattle.std.proofs.lemmas.Bool.{le-leb, lt-leb}
 use Rattle.std.specs.Prelude.{Err, Result}
 use Rattle.bcdb.specs.ProgramAnswer.{says}
 use Rattle.bcdb.specs.Refusals.{proof_refusal}
 use Rattle.bcdb.specs.Reply.{Means}
-use Rattle.bcdb.specs.VerificationAnswer.{over_shown, over_verification, proof_read}
+use Rattle.bcdb.specs.VerificationAnswer.{over_shown, over_verification}
 use Rattle.bcdb.specs.declared.reply.Reply.{Reply}
 use Rattle.bcdb.specs.declared.status.Status.TheVariants.{ProofRefused}
 use Rattle.edge_traits.specs.Shelf.{Files}

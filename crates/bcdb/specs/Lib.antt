@@ -8,6 +8,7 @@ pub mod Collecting
 pub mod ComparisonAnswer
 pub mod ExtractAnswer
 pub mod FewWrites
+pub mod Folds
 pub mod Given
 pub mod InOrder
 pub mod LoadAnswer

@@ -1,41 +1,38 @@
 //! Queries of the tables as they were after a block.
 
-ghost use Rattle.std.specs.Prelude.{◌≡◌, ◌≤◌, ◌++◌, IfOk, IfSome, IsErrOf, None, length, take, true};
+ghost use Rattle.std.specs.Prelude.{◌≡◌, ◌≤◌, ◌++◌, IfOk, IfSome, IsErrOf, List, None, length, true};
 ghost use Rattle.bcdb.specs.Accepted.{accepted};
-ghost use Rattle.bcdb.specs.Given.{AreGiven};
+ghost use Rattle.bcdb.specs.Folds.{Folds, app_of};
+ghost use Rattle.bcdb.specs.Given.{AreFolded};
 ghost use Rattle.bcdb.specs.Plan.{AllowsPlan, Counted, RoseAt, RoseIn, sources_plan};
 ghost use Rattle.bcdb.specs.ProgramAnswer.{says, status_of};
 ghost use Rattle.bcdb.specs.Reply.{Means, is_answer};
 ghost use Rattle.bcdb.specs.RowsAnswer.{over_ask, over_asked, rows_asked};
 ghost use Rattle.block_work.specs.Chain.{StoreFits};
-ghost use Rattle.chain_file.specs.Numbered.{NumberedFrom};
 ghost use Rattle.edge_traits.specs.Shelf.{Files};
 ghost use Rattle.proc_syntax.specs.Declaring.{tables_of};
+ghost use Rattle.proc_syntax.specs.declared.call.Block.{Block as BlockText};
 ghost use Rattle.query_plan.specs.Answer.{Answers};
 ghost use Rattle.query_text.specs.Answered.{answered};
 ghost use Rattle.report_text.specs.Answers.{answers_text};
 ghost use Rattle.report_text.specs.Ending.{end_line};
 
 use crate::fault::FilesFault;
-use crate::given::{BadSource, Given, read_given};
-use crate::plain::run_blocks;
+use crate::folding::Folded;
+use crate::given::{BadSource, fold_given};
 use crate::reply::{
     Reply, push_end, refuse_app, refuse_arrivals, refuse_ask, refuse_schedule, status_of,
 };
 use crate::sources::Sources;
-use chain_file::Fed;
 use edge_traits::Shelf;
 use plain_node::PlainNode;
-use proc_check::Checked;
-use proc_syntax::{Block, ChainFault};
+use proc_syntax::ChainFault;
 use query_plan::AskFault;
 use query_text::answer_query;
 use rel_base::{List, NoMemory, Row};
 use report_text::answers;
 use row_sets::Versions;
 use std::alloc::Global;
-use std::sync::Arc;
-use version_index::IndexVersions;
 
 /// What is asked: a text, over the tables after the block of a height.
 #[derive(Clone, Copy)]
@@ -68,39 +65,12 @@ fn ask_node<V: Versions>(
     )
 }
 
-// The first so many blocks, or all where there are fewer.
-fn first_blocks(blocks: &[Block], count: u64) -> &[Block]
-    ensures { result.now ≡ take count blocks.now }
+// The answer to a question over the tables that the blocks of a file make.
+fn ask_folded(alloc: Global, folded: &Folded, question: Question<'_>) -> Result<List<Row>, AskFault>
+    requires { (blocks : List BlockText) × Folds question.height blocks folded.now }
+    ensures { (blocks : List BlockText) → Folds question.entry.height blocks folded.now → Answers result (rows_asked question.entry.height question.entry.text.now (app_of folded.now) blocks) }
 {
-    if count < blocks.len() as u64 {
-        &blocks[..count as usize]
-    } else {
-        blocks
-    }
-}
-
-// The answer to a question over the tables that blocks make. Those above the height are not run: the tables at a height are made by the
-// blocks up to it.
-#[tactic(auto, using(crate::proofs::Asked::asked_held, crate::proofs::Sooner::first_numbered))]
-fn ask_blocks(
-    alloc: Global,
-    app: &Arc<Checked>,
-    blocks: &[Block],
-    question: Question<'_>,
-) -> Result<List<Row>, AskFault>
-    requires { NumberedFrom 1 blocks.now }
-    ensures { Answers result (rows_asked question.entry.height question.entry.text.now app.now.value.app blocks.now) }
-{
-    let sealed = blocks.len() as u64;
-    let asked = first_blocks(blocks, question.height);
-    match run_blocks::<IndexVersions>(alloc, app, asked) {
-        Ok(node) => {
-            let rows = ask_node(alloc, &node, sealed, question);
-            drop(node);
-            rows
-        }
-        Err(_) => Err(AskFault::NoMemory),
-    }
+    ask_node(alloc, &folded.node, folded.taken, question)
 }
 
 // The reply that lists the rows of an answer.
@@ -116,21 +86,16 @@ fn list_rows(alloc: Global, rows: &List<Row>, stop: &Option<ChainFault>) -> Resu
     })
 }
 
-// The reply to a question over an accepted application and what a block file gave. A question is refused where the block file has a
-// fault, too.
-fn ask_read(
-    alloc: Global,
-    app: &Arc<Checked>,
-    read: &Fed,
-    question: Question<'_>,
-) -> Result<Reply, NoMemory>
-    requires { NumberedFrom 1 read.now.blocks }
-    ensures means { IfOk result (λ reply. Means (over_asked question.entry.height question.entry.text.now app.now.value.app read.now.blocks read.now.fault) reply) }
+// The reply to a question over what the files came to. A question is refused where the block file has a fault, too.
+fn list_folded(alloc: Global, folded: &Folded, question: Question<'_>) -> Result<Reply, NoMemory>
+    requires { (blocks : List BlockText) × Folds question.height blocks folded.now }
+    ensures means { IfOk result (λ reply. (blocks : List BlockText) → Folds question.entry.height blocks folded.now
+        → Means (over_asked question.entry.height question.entry.text.now (app_of folded.now) blocks folded.now.fault) reply) }
     ensures kind { IfOk result (λ reply. is_answer reply.status ≡ true) }
 {
-    match ask_blocks(alloc, app, read.blocks.as_slice(), question) {
+    match ask_folded(alloc, folded, question) {
         Ok(rows) => {
-            let reply = list_rows(alloc, &rows, &read.fault);
+            let reply = list_rows(alloc, &rows, &folded.fault);
             drop(rows);
             reply
         }
@@ -139,44 +104,24 @@ fn ask_read(
     }
 }
 
-// The reply to a question over what the files gave.
-fn ask_accepted(alloc: Global, question: Question<'_>, given: Given) -> Result<Reply, NoMemory>
-    requires { NumberedFrom 1 given.read.blocks }
-    ensures means { IfOk result (λ reply. Means (over_asked question.entry.height question.entry.text.now given.app.app given.read.blocks given.read.fault) reply) }
-    ensures kind { IfOk result (λ reply. is_answer reply.status ≡ true) }
-{
-    let Given {
-        app,
-        arrivals,
-        schedule,
-        read,
-    } = given;
-    drop(arrivals);
-    drop(schedule);
-    let Ok(app) = Arc::new(alloc, app) else {
-        drop(read);
-        return Err(NoMemory);
-    };
-    let reply = ask_read(alloc, &app, &read, question);
-    drop(app);
-    drop(read);
-    reply
-}
-
 // The reply to what the files came to.
 #[tactic(auto, using(crate::proofs::Asked::ask_means, crate::proofs::Asked::app_means, crate::proofs::Asked::arrivals_mean, crate::proofs::Asked::schedule_means))]
 fn answer_given(
     alloc: Global,
     question: Question<'_>,
-    read: Result<Given, BadSource>,
+    read: Result<Folded, BadSource>,
 ) -> Result<Reply, NoMemory>
-    requires { IfOk read (λ given. NumberedFrom 1 given.read.blocks) }
-    ensures means { IfOk result (λ reply. (asked : Sources) (files : Files) → asked.nodes ≡ 0 → asked.schedule ≡ None → AreGiven read asked files
+    requires { IfOk read (λ folded. (blocks : List BlockText) × Folds question.height blocks folded) }
+    ensures means { IfOk result (λ reply. (asked : Sources) (files : Files) → asked.nodes ≡ 0 → asked.schedule ≡ None → AreFolded question.entry.height read asked files
         → Means (over_ask question.entry.height question.entry.text.now (accepted (files asked.app)) (files asked.blocks)) reply) }
     ensures kind { IfOk result (λ reply. is_answer reply.status ≡ true) }
 {
     match read {
-        Ok(given) => ask_accepted(alloc, question, given),
+        Ok(folded) => {
+            let reply = list_folded(alloc, &folded, question);
+            drop(folded);
+            reply
+        }
         Err(BadSource::App(refusal)) => refuse_app(alloc, refusal),
         Err(BadSource::Arrivals(bad)) => refuse_arrivals(alloc, bad),
         Err(BadSource::Schedule(line)) => refuse_schedule(alloc, line),
@@ -199,7 +144,7 @@ pub fn answer_ask<S: Shelf>(
     ensures counted { Counted result (RoseAt (sources_plan asked.now) (S.faults shelf.old) (S.faults shelf.new)) (S.faults shelf.old) (S.faults shelf.new) }
     ensures kind { IfOk result (λ reply. is_answer reply.status ≡ true) }
 {
-    let read = read_given(alloc, shelf, asked)?;
+    let read = fold_given(alloc, shelf, asked, question.height)?;
     let reply = answer_given(alloc, question, read)?;
     Ok(reply)
 }

@@ -1,47 +1,39 @@
 //! The answer to a checkpoint, and to the proof of a write: what is drawn from the fold of the blocks of a file.
 
-ghost use Rattle.std.specs.Prelude.{◌≡◌, ◌++◌, IfOk, IfSome, IsErrOf, None, OnOk, true};
+ghost use Rattle.std.specs.Prelude.{◌≡◌, ◌++◌, IfOk, IfSome, IsErrOf, List, None, OnOk, true};
 ghost use Rattle.bcdb.specs.Accepted.{accepted};
 ghost use Rattle.bcdb.specs.ExtractAnswer.{extracted, folded, over_extract, over_file, over_results, stop_text};
-ghost use Rattle.bcdb.specs.Given.{AreGiven};
+ghost use Rattle.bcdb.specs.Folds.{Folds, all_blocks, app_of};
+ghost use Rattle.bcdb.specs.Given.{AreFolded};
 ghost use Rattle.bcdb.specs.Plan.{AllowsPlan, Counted, RoseAt, RoseIn, sources_plan};
 ghost use Rattle.bcdb.specs.ProgramAnswer.{says, status_of};
 ghost use Rattle.bcdb.specs.Reply.{Means, is_answer};
-ghost use Rattle.chain_file.specs.Numbered.{NumberedFrom};
 ghost use Rattle.edge_traits.specs.Shelf.{Files};
+ghost use Rattle.proc_syntax.specs.declared.call.Block.{Block as BlockText};
 
 use crate::extract::{Extract, draw_file};
 use crate::fault::FilesFault;
-use crate::given::{BadSource, Given, read_given};
-use crate::plain::run_blocks;
+use crate::folding::{ALL_BLOCKS, Folded};
+use crate::given::{BadSource, fold_given};
 use crate::reply::{Reply, refuse_app, refuse_arrivals, refuse_query, refuse_schedule, status_of};
 use crate::sources::Sources;
-use chain_file::Fed;
 use edge_traits::Shelf;
-use proc_check::Checked;
-use proc_syntax::{Block, ChainFault};
+use proc_syntax::ChainFault;
 use provenance::QueryFault;
 use rel_base::{List, NoMemory};
 use report_text::stopped_line;
 use std::alloc::Global;
-use std::sync::Arc;
-use version_index::IndexVersions;
 
-// What is drawn from the fold of blocks.
-#[tactic(auto, using(crate::proofs::Extracts::held))]
-fn extract_blocks(
+// What is drawn from the results of a file.
+fn extract_folded(
     alloc: Global,
-    app: &Arc<Checked>,
-    blocks: &[Block],
+    made: &Folded,
     wanted: Extract,
 ) -> Result<Option<List<u8>>, NoMemory>
-    requires { NumberedFrom 1 blocks.now }
-    ensures { IfOk result (λ file. file ≡ extracted wanted (folded app.now.value.app blocks.now)) }
+    requires { (blocks : List BlockText) × Folds all_blocks blocks made.now }
+    ensures { IfOk result (λ file. (blocks : List BlockText) → Folds all_blocks blocks made.now → file ≡ extracted wanted (folded (app_of made.now) blocks)) }
 {
-    let node = run_blocks::<IndexVersions>(alloc, app, blocks)?;
-    let file = draw_file(alloc, wanted, node.blocks());
-    drop(node);
-    file
+    draw_file(alloc, wanted, made.node.blocks())
 }
 
 // Puts the line after a file that says where the block file stopped, if it has a fault.
@@ -69,60 +61,35 @@ fn write_file(alloc: Global, file: List<u8>, stop: &Option<ChainFault>) -> Resul
 
 // The reply to what is wanted of the blocks before the first fault of a file. Where there is no such write, that is refused also where the
 // file has a fault.
-fn answer_blocks(
-    alloc: Global,
-    app: &Arc<Checked>,
-    read: &Fed,
-    wanted: Extract,
-) -> Result<Reply, NoMemory>
-    requires { NumberedFrom 1 read.now.blocks }
-    ensures means { IfOk result (λ reply. Means (over_results wanted app.now.value.app read.now.blocks read.now.fault) reply) }
+fn answer_folded(alloc: Global, wanted: Extract, made: &Folded) -> Result<Reply, NoMemory>
+    requires { (blocks : List BlockText) × Folds all_blocks blocks made.now }
+    ensures means { IfOk result (λ reply. (blocks : List BlockText) → Folds all_blocks blocks made.now → Means (over_results wanted (app_of made.now) blocks made.now.fault) reply) }
     ensures kind { IfOk result (λ reply. is_answer reply.status ≡ true) }
 {
-    match extract_blocks(alloc, app, read.blocks.as_slice(), wanted)? {
-        Some(file) => write_file(alloc, file, &read.fault),
+    match extract_folded(alloc, made, wanted)? {
+        Some(file) => write_file(alloc, file, &made.fault),
         None => refuse_query(alloc, QueryFault::BadRange),
     }
 }
 
-// The same over what the files gave.
-fn answer_accepted(alloc: Global, wanted: Extract, given: Given) -> Result<Reply, NoMemory>
-    requires { NumberedFrom 1 given.read.blocks }
-    ensures means { IfOk result (λ reply. Means (over_results wanted given.app.app given.read.blocks given.read.fault) reply) }
-    ensures kind { IfOk result (λ reply. is_answer reply.status ≡ true) }
-{
-    let Given {
-        app,
-        arrivals,
-        schedule,
-        read,
-    } = given;
-    drop(arrivals);
-    drop(schedule);
-    let Ok(app) = Arc::new(alloc, app) else {
-        drop(read);
-        return Err(NoMemory);
-    };
-    let reply = answer_blocks(alloc, &app, &read, wanted);
-    drop(app);
-    drop(read);
-    reply
-}
-
 // The reply to what the files came to.
-#[tactic(auto, using(crate::proofs::Extracts::extract_means, crate::proofs::Extracts::app_means, crate::proofs::Extracts::arrivals_mean, crate::proofs::Extracts::schedule_means))]
+#[tactic(auto, using(crate::proofs::Extracts::app_means, crate::proofs::Extracts::arrivals_mean, crate::proofs::Extracts::schedule_means))]
 fn answer_given(
     alloc: Global,
     wanted: Extract,
-    read: Result<Given, BadSource>,
+    read: Result<Folded, BadSource>,
 ) -> Result<Reply, NoMemory>
-    requires { IfOk read (λ given. NumberedFrom 1 given.read.blocks) }
-    ensures means { IfOk result (λ reply. (asked : Sources) (files : Files) → asked.nodes ≡ 0 → asked.schedule ≡ None → AreGiven read asked files
+    requires { IfOk read (λ made. (blocks : List BlockText) × Folds all_blocks blocks made) }
+    ensures means { IfOk result (λ reply. (asked : Sources) (files : Files) → asked.nodes ≡ 0 → asked.schedule ≡ None → AreFolded all_blocks read asked files
         → Means (over_extract wanted (accepted (files asked.app)) (files asked.blocks)) reply) }
     ensures kind { IfOk result (λ reply. is_answer reply.status ≡ true) }
 {
     match read {
-        Ok(given) => answer_accepted(alloc, wanted, given),
+        Ok(made) => {
+            let reply = answer_folded(alloc, wanted, &made);
+            drop(made);
+            reply
+        }
         Err(BadSource::App(refusal)) => refuse_app(alloc, refusal),
         Err(BadSource::Arrivals(bad)) => refuse_arrivals(alloc, bad),
         Err(BadSource::Schedule(line)) => refuse_schedule(alloc, line),
@@ -130,7 +97,6 @@ fn answer_given(
 }
 
 /// The reply to what is wanted of the fold of the blocks of a file on an application.
-#[tactic(auto, using(crate::proofs::Extracts::means_told))]
 pub fn answer_extract<S: Shelf>(
     alloc: Global,
     shelf: &mut S,
@@ -145,7 +111,7 @@ pub fn answer_extract<S: Shelf>(
     ensures counted { Counted result (RoseAt (sources_plan asked.now) (S.faults shelf.old) (S.faults shelf.new)) (S.faults shelf.old) (S.faults shelf.new) }
     ensures kind { IfOk result (λ reply. is_answer reply.status ≡ true) }
 {
-    let read = read_given(alloc, shelf, asked)?;
+    let read = fold_given(alloc, shelf, asked, ALL_BLOCKS)?;
     let reply = answer_given(alloc, wanted, read)?;
     Ok(reply)
 }

@@ -1,12 +1,13 @@
 //! What takes a block file piece by piece.
 
-ghost use Rattle.std.specs.Prelude.{◌≡◌, ◌++◌, List, ℕ, [], Option, IfOk, OnOk, IfSome};
+ghost use Rattle.std.specs.Prelude.{◌≡◌, ◌++◌, List, ℕ, [], None, Option, IfOk, OnOk, IfSome};
 ghost use Rattle.bcdb.specs.Reading.{Gathers, HasRead};
 ghost use Rattle.chain_file.specs.Chain.{chain, lasting};
 ghost use Rattle.chain_file.specs.Following.{WasFed};
 ghost use Rattle.chain_file.specs.Numbered.{NumberedFrom};
 ghost use Rattle.chain_file.specs.Sealed.{Seals};
 ghost use Rattle.edge_traits.specs.Shelf.{Files};
+ghost use Rattle.proc_syntax.specs.declared.tree.App.{App};
 
 use chain_file::laws::files_are_numbered;
 use chain_file::{Fed, Reader, Sealer};
@@ -19,14 +20,21 @@ pub trait Intake {
     /// It took these bytes, from the start of a file on.
     ghost took: { Self → List ℕ → Type 0 };
 
+    /// The application on which it runs the blocks, and the height up to which it does, if it runs them. They never change.
+    ghost runs: { Self → Option (App × ℕ) };
+
     /// Takes the next piece, and answers the fault that was met in it.
     fn take(&mut self, piece: &[u8]) -> Result<Option<ChainFault>, NoMemory>
+        requires took { (bytes : List ℕ) × took self.old bytes }
         ensures follows { (bytes : List ℕ) → took self.old bytes → OnOk result (took self.new (bytes ++ piece.now)) }
-        ensures fault { (bytes : List ℕ) → took self.old bytes → IfOk result (λ fault. fault ≡ lasting (chain (bytes ++ piece.now)).1) };
+        ensures fault { (bytes : List ℕ) → took self.old bytes → IfOk result (λ fault. fault ≡ lasting (chain (bytes ++ piece.now)).1) }
+        ensures same { OnOk result (runs self.new ≡ runs self.old) };
 }
 
 impl Intake for Sealer {
     ghost took = { λ sealer bytes. Seals sealer bytes };
+
+    ghost runs = { λ sealer. None };
 
     fn take(&mut self, piece: &[u8]) -> Result<Option<ChainFault>, NoMemory> {
         self.feed(piece)
@@ -43,6 +51,8 @@ pub struct Gatherer {
 impl Intake for Gatherer {
     ghost took = { λ gatherer bytes. Gathers gatherer bytes };
 
+    ghost runs = { λ gatherer. None };
+
     fn take(&mut self, piece: &[u8]) -> Result<Option<ChainFault>, NoMemory> {
         let fed = self.reader.feed(piece)?;
         let Fed { blocks, fault } = fed;
@@ -51,8 +61,8 @@ impl Intake for Gatherer {
     }
 }
 
-// The fault of a file that ends here.
-fn end_fault(mut reader: Reader) -> Option<ChainFault>
+/// The fault of a file that ends here.
+pub fn end_fault(mut reader: Reader) -> Option<ChainFault>
     ensures { (bytes : List ℕ) → WasFed reader bytes → (chain bytes).1 ≡ result }
 {
     let ended = reader.end();

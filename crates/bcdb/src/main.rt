@@ -12,6 +12,7 @@ pub mod comparing;
 pub mod extract;
 pub mod extracting;
 pub mod fault;
+pub mod folding;
 pub mod given;
 pub mod intake;
 pub mod loading;

@@ -1,38 +1,51 @@
-//! Blocks that one node runs on one thread.
+//! Blocks that one node runs on one thread, as they come.
 
-ghost use Rattle.std.specs.Prelude.{◌≡◌, IfOk};
-ghost use Rattle.block_work.specs.Chain.{StoreFits};
+ghost use Rattle.std.specs.Prelude.{◌≡◌, ◌+◌, ◌++◌, ◌∷◌, List, OnOk, []};
+ghost use Rattle.bcdb.specs.Folds.{HoldsFirst};
 ghost use Rattle.chain_file.specs.Numbered.{NumberedFrom};
-ghost use Rattle.plain_node.specs.Holding.{HoldsFold};
+ghost use Rattle.proc_syntax.specs.declared.call.Block.{Block as BlockText};
 
 use plain_node::PlainNode;
-use proc_check::Checked;
 use proc_syntax::Block;
 use rel_base::NoMemory;
 use row_sets::Versions;
-use std::alloc::Global;
-use std::sync::Arc;
 
-/// A node that has processed the blocks in order.
-pub fn run_blocks<V: Versions>(
-    alloc: Global,
-    app: &Arc<Checked>,
-    blocks: &[Block],
-) -> Result<PlainNode<V>, NoMemory>
-    requires { NumberedFrom 1 blocks.now }
-    ensures app { IfOk result (λ node. node.chain.app.value ≡ app.now.value) }
-    ensures store { IfOk result (λ node. StoreFits node.chain.app.value.app (V.tables node.chain.versions) (V.history node.chain.versions) node.chain.blocks) }
-    ensures holds { IfOk result (λ node. HoldsFold app.now.value.app blocks.now (V.history node.chain.versions) node.ids node.chain.blocks) }
+// Gives the next block to a node, which processes those up to a height.
+#[tactic(auto, using(crate::proofs::Processed::next_held, crate::proofs::Processed::passed_held))]
+fn take_block<V: Versions>(
+    node: &mut PlainNode<V>,
+    taken: &mut u64,
+    height: u64,
+    block: &Block,
+) -> Result<(), NoMemory>
+    requires next { block.now.number ≡ taken.old + 1 }
+    requires holds { (blocks : List BlockText) × HoldsFirst height blocks taken.old node.old.chain.app.value.app (V.tables node.old.chain.versions) (V.history node.old.chain.versions) node.old.ids node.old.chain.blocks }
+    ensures app { node.new.chain.app.value ≡ node.old.chain.app.value }
+    ensures holds { OnOk result ((blocks : List BlockText) → HoldsFirst height blocks taken.old node.old.chain.app.value.app (V.tables node.old.chain.versions) (V.history node.old.chain.versions) node.old.ids node.old.chain.blocks
+        → HoldsFirst height (blocks ++ block.now ∷ []) taken.new node.new.chain.app.value.app (V.tables node.new.chain.versions) (V.history node.new.chain.versions) node.new.ids node.new.chain.blocks) }
 {
-    let mut node = PlainNode::<V>::new(alloc, app)?;
-    for block in blocks {
-        match node.process(block) {
-            Ok(()) => {}
-            Err(fault) => {
-                drop(node);
-                return Err(fault);
-            }
-        }
+    if block.number <= height {
+        node.process(block)?;
     }
-    Ok(node)
+    *taken = block.number;
+    Ok(())
+}
+
+/// Gives the next blocks of a file to a node, which processes those up to a height. The count of those that it was given goes on.
+pub fn take_blocks<V: Versions>(
+    node: &mut PlainNode<V>,
+    taken: &mut u64,
+    height: u64,
+    blocks: &[Block],
+) -> Result<(), NoMemory>
+    requires holds { (before : List BlockText) × (NumberedFrom 1 (before ++ blocks.now)
+        × HoldsFirst height before taken.old node.old.chain.app.value.app (V.tables node.old.chain.versions) (V.history node.old.chain.versions) node.old.ids node.old.chain.blocks) }
+    ensures app { OnOk result (node.new.chain.app.value ≡ node.old.chain.app.value) }
+    ensures holds { OnOk result ((before : List BlockText) → HoldsFirst height before taken.old node.old.chain.app.value.app (V.tables node.old.chain.versions) (V.history node.old.chain.versions) node.old.ids node.old.chain.blocks
+        → HoldsFirst height (before ++ blocks.now) taken.new node.new.chain.app.value.app (V.tables node.new.chain.versions) (V.history node.new.chain.versions) node.new.ids node.new.chain.blocks) }
+{
+    for block in blocks {
+        take_block(node, taken, height, block)?;
+    }
+    Ok(())
 }

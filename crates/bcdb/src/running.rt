@@ -1,29 +1,33 @@
 //! Blocks that nodes run side by side, or one node by itself.
 
-ghost use Rattle.std.specs.Prelude.{◌≡◌, ◌≤◌, ◌∷◌, IfOk, IfSome, IsErrOf, None, [], false, length, true};
+ghost use Rattle.std.specs.Prelude.{◌≡◌, ◌≤◌, ◌∷◌, IfOk, IfSome, IsErrOf, List, None, [], false, length, true};
 ghost use Rattle.bcdb.specs.Accepted.{accepted};
-ghost use Rattle.bcdb.specs.Given.{AreGiven};
+ghost use Rattle.bcdb.specs.Folds.{Folds, HoldsFirst, all_blocks, app_of};
+ghost use Rattle.bcdb.specs.Given.{AreFolded, AreGiven};
 ghost use Rattle.bcdb.specs.Plan.{AllowsPlan, Counted, RoseAt, RoseIn, sources_plan};
 ghost use Rattle.bcdb.specs.Reply.{is_answer};
 ghost use Rattle.bcdb.specs.Traced.{RepliesNodes, RepliesRun};
+ghost use Rattle.bcdb.specs.declared.sources.Sources.{Sources as SourceNames};
 ghost use Rattle.chain_file.specs.Numbered.{NumberedFrom};
 ghost use Rattle.edge_traits.specs.Shelf.{Files};
 ghost use Rattle.node_model.specs.Fold.{node_result};
 ghost use Rattle.proc_syntax.specs.Limits.{most_executors, most_nodes};
+ghost use Rattle.proc_syntax.specs.declared.call.Block.{Block as BlockText};
+ghost use Rattle.proc_syntax.specs.declared.call.Tx.{Tx as TxText};
 
 use crate::fault::FilesFault;
-use crate::given::{BadSource, Given, read_given};
-use crate::plain::run_blocks;
+use crate::folding::{ALL_BLOCKS, Folded};
+use crate::given::{BadSource, Given, fold_given, read_given};
 use crate::reply::{Reply, refuse_app, refuse_arrivals, refuse_schedule, report_nodes};
 use crate::sources::Sources;
 use cluster_run::{Gate, run_cluster};
 use edge_traits::Shelf;
 use node_model::NodeResult;
-use proc_check::Checked;
-use proc_syntax::Block;
+use plain_node::PlainNode;
 use rel_base::{List, NoMemory};
 use report_text::Look;
 use std::alloc::Global;
+use std::mem::forget;
 use std::sync::{Arc, Wait};
 use std::thread::Threads;
 use version_index::IndexVersions;
@@ -36,56 +40,90 @@ fn runs_alone(asked: &Sources, executors: u32, look: &Look) -> bool
     asked.nodes == 1 && executors == 0 && !look.trace
 }
 
-// What one node makes of the blocks on one thread, without a journal.
-fn run_alone(
+// What a node that was given the blocks of a file reports.
+#[tactic(auto, using(crate::proofs::Processed::all_held))]
+fn close_node(
     alloc: Global,
-    app: &Arc<Checked>,
-    blocks: &[Block],
+    node: PlainNode<IndexVersions>,
+    taken: u64,
 ) -> Result<List<NodeResult>, NoMemory>
-    requires { NumberedFrom 1 blocks.now }
-    ensures { IfOk result (λ nodes. nodes ≡ node_result app.now.value.app blocks.now ∷ []) }
+    requires { (blocks : List BlockText) × HoldsFirst all_blocks blocks taken node.chain.app.value.app node.chain.versions.0 node.chain.versions.1.0 node.ids node.chain.blocks }
+    ensures { IfOk result (λ nodes. (blocks : List BlockText) → HoldsFirst all_blocks blocks taken node.chain.app.value.app node.chain.versions.0 node.chain.versions.1.0 node.ids node.chain.blocks
+        → nodes ≡ node_result node.chain.app.value.app blocks ∷ []) }
 {
-    let node = run_blocks::<IndexVersions>(alloc, app, blocks)?;
     let result = node.close()?;
     let mut nodes = List::new(alloc);
     nodes.push(result)?;
     Ok(nodes)
 }
 
-// The reply that reports one node, which runs by itself.
-#[tactic(auto, using(crate::proofs::Clustered::reply_alone))]
-fn run_by_itself(alloc: Global, look: &Look, given: Given) -> Result<Reply, NoMemory>
+// The reply that reports a node which has run by itself.
+#[tactic(auto, using(crate::proofs::Clustered::reply_folded))]
+fn report_folded(alloc: Global, look: &Look, folded: Folded) -> Result<Reply, NoMemory>
     requires silent { look.now.trace ≡ false }
-    requires numbered { NumberedFrom 1 given.read.blocks }
-    ensures replies { IfOk result (RepliesNodes look.now 1 given.app.app given.read.blocks given.arrivals given.read.fault) }
+    requires folds { (blocks : List BlockText) × Folds all_blocks blocks folded }
+    ensures replies { IfOk result (λ reply. (blocks : List BlockText) (arrivals : List (List TxText)) → Folds all_blocks blocks folded
+        → RepliesNodes look.now 1 (app_of folded) blocks arrivals folded.fault reply) }
     ensures kind { IfOk result (λ reply. is_answer reply.status ≡ true) }
 {
-    let Given {
-        app,
-        arrivals,
-        schedule,
-        read,
-    } = given;
-    drop(arrivals);
-    drop(schedule);
-    let Ok(app) = Arc::new(alloc, app) else {
-        drop(read);
-        return Err(NoMemory);
-    };
-    match run_alone(alloc, &app, read.blocks.as_slice()) {
+    let Folded { node, taken, fault } = folded;
+    let app = node.chain.app.clone()?;
+    match close_node(alloc, node, taken) {
         Ok(alone) => {
-            let reply = report_nodes(alloc, look, app.tables(), &alone, &read.fault);
+            let reply = report_nodes(alloc, look, app.tables(), &alone, &fault);
             drop(app);
-            drop(alone);
-            drop(read);
+            // The process ends with this reply, and the system takes the memory of all results back at once.
+            forget(alone);
             reply
         }
-        Err(fault) => {
+        Err(refused) => {
             drop(app);
-            drop(read);
-            Err(fault)
+            Err(refused)
         }
     }
+}
+
+// The reply to what the files of one node came to, which runs by itself.
+#[tactic(auto, using(crate::proofs::Clustered::replies_fold, crate::proofs::Clustered::alone_app, crate::proofs::Clustered::alone_arrivals, crate::proofs::Clustered::alone_schedule))]
+fn answer_folded(
+    alloc: Global,
+    look: &Look,
+    read: Result<Folded, BadSource>,
+) -> Result<Reply, NoMemory>
+    requires silent { look.now.trace ≡ false }
+    requires folds { IfOk read (λ folded. (blocks : List BlockText) × Folds all_blocks blocks folded) }
+    ensures replies { IfOk result (λ reply. (asked : SourceNames) (files : Files) → asked.nodes ≡ 1 → asked.schedule ≡ None → AreFolded all_blocks read asked files
+        → RepliesRun look.now asked (accepted (files asked.app)) files reply) }
+    ensures kind { IfOk result (λ reply. is_answer reply.status ≡ true) }
+{
+    match read {
+        Ok(folded) => report_folded(alloc, look, folded),
+        Err(BadSource::App(refusal)) => refuse_app(alloc, refusal),
+        Err(BadSource::Arrivals(bad)) => refuse_arrivals(alloc, bad),
+        Err(BadSource::Schedule(line)) => refuse_schedule(alloc, line),
+    }
+}
+
+// The reply to a run of one node on one thread. What arrives is read, and changes nothing.
+#[tactic(auto, using(crate::proofs::Clustered::alone_told))]
+fn answer_alone<S: Shelf>(
+    alloc: Global,
+    shelf: &mut S,
+    look: &Look,
+    asked: &Sources,
+) -> Result<Reply, FilesFault>
+    requires one { asked.now.nodes ≡ 1 }
+    requires silent { look.now.trace ≡ false }
+    requires unscheduled { asked.now.schedule ≡ None }
+    requires allowed { AllowsPlan (sources_plan asked.now) (S.told shelf.old) (S.may_read shelf.old) }
+    ensures told { IfOk result (λ reply. IfSome (S.told shelf.old) (λ files. RepliesRun look.now asked.now (accepted (files asked.now.app)) files reply)) }
+    ensures turn { IsErrOf result FilesFault.Failed → IfSome (S.told shelf.old) (λ files. RoseIn (sources_plan asked.now) files (S.faults shelf.old) (S.faults shelf.new)) }
+    ensures counted { Counted result (RoseAt (sources_plan asked.now) (S.faults shelf.old) (S.faults shelf.new)) (S.faults shelf.old) (S.faults shelf.new) }
+    ensures kind { IfOk result (λ reply. is_answer reply.status ≡ true) }
+{
+    let read = fold_given(alloc, shelf, asked, ALL_BLOCKS)?;
+    let reply = answer_folded(alloc, look, read)?;
+    Ok(reply)
 }
 
 // The reply that reports nodes, which run side by side.
@@ -128,7 +166,8 @@ fn run_side_by_side<R: Threads + Wait + Sync, G: Gate>(
         Ok(nodes) => {
             let reply = report_nodes(alloc, look, app.tables(), &nodes, &read.fault);
             drop(app);
-            drop(nodes);
+            // As above.
+            forget(nodes);
             drop(arrivals);
             drop(read);
             reply
@@ -142,31 +181,7 @@ fn run_side_by_side<R: Threads + Wait + Sync, G: Gate>(
     }
 }
 
-// The reply that reports the nodes, once they have run.
-fn run_nodes<R: Threads + Wait + Sync, G: Gate>(
-    rt: &R,
-    alloc: Global,
-    look: &Look,
-    asked: &Sources,
-    executors: u32,
-    given: Given,
-    gate: &G,
-) -> Result<Reply, NoMemory>
-    requires nodes { (1 ≤ asked.now.nodes) × (asked.now.nodes ≤ most_nodes) }
-    requires executors { executors ≤ most_executors }
-    requires all { length given.arrivals ≡ asked.now.nodes }
-    requires numbered { NumberedFrom 1 given.read.blocks }
-    ensures replies { IfOk result (RepliesNodes look.now asked.now.nodes given.app.app given.read.blocks given.arrivals given.read.fault) }
-    ensures kind { IfOk result (λ reply. is_answer reply.status ≡ true) }
-{
-    if runs_alone(asked, executors, look) {
-        run_by_itself(alloc, look, given)
-    } else {
-        run_side_by_side(rt, alloc, look, executors, given, gate)
-    }
-}
-
-// The reply to what the files came to.
+// The reply to what the files came to of nodes that run side by side.
 #[tactic(auto, using(crate::proofs::Clustered::replies_run, crate::proofs::Clustered::replies_app, crate::proofs::Clustered::replies_arrivals))]
 fn answer_given<R: Threads + Wait + Sync, G: Gate>(
     rt: &R,
@@ -186,7 +201,7 @@ fn answer_given<R: Threads + Wait + Sync, G: Gate>(
     ensures kind { IfOk result (λ reply. is_answer reply.status ≡ true) }
 {
     match read {
-        Ok(given) => run_nodes(rt, alloc, look, asked, executors, given, gate),
+        Ok(given) => run_side_by_side(rt, alloc, look, executors, given, gate),
         Err(BadSource::App(refusal)) => refuse_app(alloc, refusal),
         Err(BadSource::Arrivals(bad)) => refuse_arrivals(alloc, bad),
         Err(BadSource::Schedule(line)) => refuse_schedule(alloc, line),
@@ -214,6 +229,9 @@ pub fn answer_run<R: Threads + Wait + Sync, S: Shelf, G: Gate>(
     ensures counted { Counted result (RoseAt (sources_plan asked.now) (S.faults shelf.old) (S.faults shelf.new)) (S.faults shelf.old) (S.faults shelf.new) }
     ensures kind { IfOk result (λ reply. is_answer reply.status ≡ true) }
 {
+    if runs_alone(asked, executors, look) {
+        return answer_alone(alloc, shelf, look, asked);
+    }
     let read = read_given(alloc, shelf, asked)?;
     let reply = answer_given(rt, alloc, look, asked, executors, read, gate)?;
     Ok(reply)

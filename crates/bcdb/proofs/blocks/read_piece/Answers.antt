@@ -32,3 +32,6 @@ returns-in-Some-clause-goes g c =
 
 pub returns-then-count-eq0-clause-goes : goal.returns-then-count-eq0-clause-goes
 returns-then-count-eq0-clause-goes g c = grind (arith, common_steps)
+
+pub take-requires : goal.take-requires
+take-requires g c = record { took = (c.requires.read.bytes, c.requires.read.follows) }

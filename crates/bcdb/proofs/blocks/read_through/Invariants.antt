@@ -11,6 +11,7 @@ invariant-loop-count g l = (l.at ≤ longest_file)
     × (g.S.Shelf.told l.shelf ≡ g.S.Shelf.told l.fn.shelf)
     × AllowsBlocks (g.S.Shelf.told l.shelf) (g.S.Shelf.may_read l.shelf) l.name
     × (g.S.Shelf.faults l.shelf ≡ g.S.Shelf.faults l.fn.shelf)
+    × (g.I.Intake.runs l.intake ≡ g.I.Intake.runs l.fn.intake)
     × IsRead (g.S.Shelf.told l.fn.shelf) l.name l.at (g.I.Intake.took l.intake)
 
 abbrev pub decreases-loop-count : goal.decreases-loop-count

@@ -6,7 +6,7 @@ use Rattle.bcdb.proofs.given.read_from_arrivals.Goals as goal
 use Rattle.bcdb.specs.ArrivalFiles.{all_arrived}
 use Rattle.bcdb.specs.Plan.{AllowsPlan, Counted, RoseAt, RoseIn, arrivals_plan, plan_from_schedule}
 use Rattle.bcdb.specs.declared.given.BadSource.{BadSource}
-use Rattle.bcdb.specs.declared.given.Given.{Given}
+use Rattle.bcdb.specs.declared.given.Inputs.{Inputs}
 use Rattle.bcdb.specs.declared.refusal.BadArrivals.{BadArrivals}
 use Rattle.edge_traits.specs.Causes.{Counts}
 use Rattle.edge_traits.specs.Shelf.{Files}
@@ -66,5 +66,5 @@ returns-in-Err-clause-turn g c = λ failed.
 pub returns-in-Err-clause-counted : goal.returns-in-Err-clause-counted
 returns-in-Err-clause-counted g c =
     let asked = c.args.asked.now in
-    counted_first (Result (List (List Tx)) BadArrivals) (Result Given BadSource) c.in-Err.fault (arrivals_plan asked.arrivals 1 asked.nodes) (plan_from_schedule asked) (g.S.Shelf.faults c.args.shelf.now)
+    counted_first (Result (List (List Tx)) BadArrivals) (Result Inputs BadSource) c.in-Err.fault (arrivals_plan asked.arrivals 1 asked.nodes) (plan_from_schedule asked) (g.S.Shelf.faults c.args.shelf.now)
     (g.S.Shelf.faults c.read_all_arrivals.new.shelf) c.in-Err.ensures.counted

@@ -1,18 +1,22 @@
-use Rattle.std.proofs.Common.{IfSome, Option, rules, subst, sym, ◌≡◌}
+use Rattle.std.proofs.Common.{IfSome, rules, subst}
 use Rattle.std.specs.Prelude.{Ok}
-use Rattle.bcdb.proofs.Giving.{after_app}
+use Rattle.bcdb.proofs.Giving.{blocks_counted, blocks_turned}
 use Rattle.bcdb.proofs.given.read_given.Goals as goal
-use Rattle.bcdb.specs.Accepted.{accepted}
-use Rattle.bcdb.specs.Plan.{AllowsPlan, plan_from_arrivals}
-use Rattle.edge_traits.specs.Shelf.{Files}
+use Rattle.bcdb.specs.Given.{AreInputs}
+use Rattle.bcdb.specs.Plan.{BlocksFile, Counted, RoseAt, planned}
+use Rattle.edge_traits.specs.Causes.{Counts}
 
-pub read_from_arrivals-requires : goal.read_from_arrivals-requires
-read_from_arrivals-requires g c =
-    let told = g.S.Shelf.told c.args.shelf.now in
+pub returns-in-Ok-Ok-clause-turn : goal.returns-in-Ok-Ok-clause-turn
+returns-in-Ok-Ok-clause-turn g c =
     let asked = c.args.asked.now in
-    let new = g.S.Shelf.may_read c.fetch_application.new.shelf in
-    let is : IfSome told (λ files. accepted (files asked.app) ≡ Ok c.in-Ok-Ok.app.app) = search rules in
-    record {
-      allowed = subst (λ (t : Option Files). AllowsPlan (plan_from_arrivals asked) t new) (sym c.fetch_application.ensures.same)
-          (after_app told (g.S.Shelf.may_read c.args.shelf.now) new asked c.in-Ok-Ok.app.app c.requires.allowed c.fetch_application.ensures.allowed is);
-    }
+    let now = g.S.Shelf.faults c.read_last.new.shelf in
+    let are : IfSome (g.S.Shelf.told c.args.shelf.now) (AreInputs (Ok c.in-Ok-Ok.inputs) asked) = search rules in
+    blocks_turned c.read_last.result (g.S.Shelf.told c.args.shelf.now) asked c.in-Ok-Ok.inputs (g.S.Shelf.faults c.args.shelf.now) now are
+    (subst (λ (counts : Counts). Counted c.read_last.result (RoseAt (planned BlocksFile asked.blocks) counts now) counts now) c.in-Ok-Ok.ensures.counted c.read_last.ensures.counted)
+
+pub returns-in-Ok-Ok-clause-counted : goal.returns-in-Ok-Ok-clause-counted
+returns-in-Ok-Ok-clause-counted g c =
+    let asked = c.args.asked.now in
+    let now = g.S.Shelf.faults c.read_last.new.shelf in
+    blocks_counted c.read_last.result asked (g.S.Shelf.faults c.args.shelf.now) now
+    (subst (λ (counts : Counts). Counted c.read_last.result (RoseAt (planned BlocksFile asked.blocks) counts now) counts now) c.in-Ok-Ok.ensures.counted c.read_last.ensures.counted)

@@ -1,4 +1,4 @@
-use Rattle.std.proofs.Common.{IfSome, List, Option, arith, refl, rules, subst, sym, ◌+◌, ◌-◌, ◌≡◌, ◌≤◌, ℕ}
+use Rattle.std.proofs.Common.{IfSome, Option, arith, refl, rules, subst, sym, ◌+◌, ◌-◌, ◌≡◌, ◌≤◌}
 use Rattle.std.specs.Prelude.{Ok}
 use Rattle.bcdb.proofs.Digests.{may_read_rest, more_all, rest_turn}
 use Rattle.bcdb.proofs.peers.+read_from.Goals as goal

@@ -1,0 +1,112 @@
+//! A block file whose blocks are run as they are read, each let go once it was run.
+
+ghost use Rattle.std.specs.Prelude.{◌≡◌, IfOk, IfSome, List, None, Option, Some, ℕ, []};
+ghost use Rattle.bcdb.specs.Folds.{Folds, HasFolded};
+ghost use Rattle.bcdb.specs.Reading.{HasRead};
+ghost use Rattle.chain_file.specs.Chain.{chain};
+ghost use Rattle.chain_file.specs.Following.{WasFed};
+ghost use Rattle.edge_traits.specs.Shelf.{Files};
+ghost use Rattle.proc_syntax.specs.declared.call.Block.{Block as BlockText};
+ghost use Rattle.proc_syntax.specs.declared.chain_fault.ChainFault.{ChainFault as ChainFaultText};
+
+use crate::intake::{Intake, end_fault};
+use crate::plain::take_blocks;
+use chain_file::laws::files_are_numbered;
+use chain_file::{Fed, Reader};
+use plain_node::PlainNode;
+use proc_check::Checked;
+use proc_syntax::ChainFault;
+use rel_base::NoMemory;
+use std::alloc::Global;
+use std::sync::Arc;
+use version_index::IndexVersions;
+
+/// The height that no block is above.
+pub const ALL_BLOCKS: u64 = u64::MAX;
+
+/// A node that takes a block file piece by piece, and processes its blocks up to a height. Contracts say that it `HasFolded` the bytes
+/// that it took.
+#[derive(Drop)]
+pub struct Folding {
+    reader: Reader,
+    node: PlainNode<IndexVersions>,
+    height: u64,
+    /// How many blocks it was given.
+    taken: u64,
+}
+
+/// A node that was given the blocks of a file up to its first fault. Contracts say that it `Folds` these.
+#[derive(Drop)]
+pub struct Folded {
+    pub node: PlainNode<IndexVersions>,
+    /// How many blocks there are.
+    pub taken: u64,
+    /// The fault.
+    pub fault: Option<ChainFault>,
+}
+
+impl Intake for Folding {
+    ghost took = { λ folding bytes. HasFolded folding bytes };
+
+    ghost runs = { λ folding. Some (folding.node.chain.app.value.app, folding.height) };
+
+    fn take(&mut self, piece: &[u8]) -> Result<Option<ChainFault>, NoMemory> {
+        files_are_numbered();
+        let fed = self.reader.feed(piece)?;
+        let Fed { blocks, fault } = fed;
+        take_blocks(
+            &mut self.node,
+            &mut self.taken,
+            self.height,
+            blocks.as_slice(),
+        )?;
+        Ok(fault)
+    }
+}
+
+// The fault of a file that ended, or was stopped at this fault.
+fn stop_of(reader: Reader, stop: Option<ChainFault>) -> Option<ChainFault>
+    ensures whole { stop ≡ None → (bytes : List ℕ) → WasFed reader bytes → (chain bytes).1 ≡ result }
+    ensures stopped { (fault : ChainFaultText) → stop ≡ Some fault → result ≡ Some fault }
+{
+    match stop {
+        None => end_fault(reader),
+        Some(fault) => {
+            drop(reader);
+            Some(fault)
+        }
+    }
+}
+
+impl Folding {
+    /// Nothing was taken yet.
+    pub fn new(alloc: Global, app: &Arc<Checked>, height: u64) -> Result<Folding, NoMemory>
+        ensures took { IfOk result (λ folding. HasFolded folding []) }
+        ensures runs { IfOk result (λ folding. (folding.node.chain.app.value.app ≡ app.now.value.app) × (folding.height ≡ height)) }
+    {
+        let node = PlainNode::new(alloc, app)?;
+        Ok(Folding {
+            reader: Reader::new(alloc),
+            node,
+            height,
+            taken: 0,
+        })
+    }
+
+    /// The node that took a file which ended, or was stopped at this fault.
+    pub fn end(self, stop: Option<ChainFault>) -> Folded
+        ensures app { result.node.chain.app.value.app ≡ self.node.chain.app.value.app }
+        ensures folds { (told : Option Files) (name : List ℕ) → HasRead told name (HasFolded self) stop
+            → (blocks : List BlockText) × (Folds self.height blocks result × IfSome told (λ files. chain (files name) ≡ (blocks, result.fault))) }
+    {
+        files_are_numbered();
+        let Folding {
+            reader,
+            node,
+            height: _,
+            taken,
+        } = self;
+        let fault = stop_of(reader, stop);
+        Folded { node, taken, fault }
+    }
+}
