@@ -1,4 +1,4 @@
-//! Numbers and comparisons of numbers that are found with no value on the way.
+//! Numbers and comparisons of numbers that are found with no value on the way. A leaf is an expression with no other in it.
 
 ghost use Rattle.std.specs.Prelude.{◌≡◌, IfSome, Some, Ok};
 ghost use Rattle.std.specs.Option.{option_copied};
@@ -42,23 +42,46 @@ fn number_by(op: Op, left: i64, right: i64) -> Option<i64>
     }
 }
 
-/// The number that an operator gives of a number and of that of an expression, where it gives one.
-#[cycle(quick_number)]
-fn quick_right(
+/// The number that a leaf is, where it stands in the code, in a variable or in a row.
+#[inline(always)]
+pub fn leaf_number(
+    columns: &List<List<Option<usize>>>,
+    environment: &Environment,
+    term: &Term,
+) -> Option<i64>
+    ensures { IfSome result (λ n. worth_of columns.now term.now environment.now ≡ Ok (Int n)) }
+{
+    let slots = environment.slots.as_slice();
+    match term {
+        Term::Value(value) => number_in(Some(value)),
+        Term::Var(slot) => number_in(plain_in(slots, *slot)),
+        Term::Field { slot, column } => number_in(field_in(columns, slots, *slot, *column)),
+        _ => None,
+    }
+}
+
+/// The number that an operator gives of two leaves, where they are numbers and it gives one.
+#[inline(always)]
+fn number_of_leaves(
     columns: &List<List<Option<usize>>>,
     environment: &Environment,
     op: Op,
-    left: i64,
+    left: &Term,
     right: &Term,
 ) -> Option<i64>
-    ensures { IfSome result (λ n. apply op (Int left) (worth_of columns.now right.now environment.now) ≡ Ok (Int n)) }
+    ensures { IfSome result (λ n. applied op (worth_of columns.now left.now environment.now) (worth_of columns.now right.now environment.now) ≡ Ok (Int n)) }
 {
-    let right = quick_number(columns, environment, right)?;
+    if !is_counting(op) {
+        return None;
+    }
+    let left = leaf_number(columns, environment, left)?;
+    let right = leaf_number(columns, environment, right)?;
     number_by(op, left, right)
 }
 
-/// The number that an expression is, where it is one that is found with no value on the way.
-#[cycle(quick_number)]
+/// The number that an expression is, where it is a leaf or an operator between two. Most expressions are, so this stands in its callers:
+/// it calls nothing, and no value is moved.
+#[inline(always)]
 pub fn quick_number(
     columns: &List<List<Option<usize>>>,
     environment: &Environment,
@@ -67,21 +90,47 @@ pub fn quick_number(
     ensures { IfSome result (λ n. worth_of columns.now term.now environment.now ≡ Ok (Int n)) }
 {
     match term {
-        Term::Value(value) => number_in(Some(value)),
-        Term::Var(slot) => number_in(plain_in(environment.slots.as_slice(), *slot)),
-        Term::Field { slot, column } => {
-            let slots = environment.slots.as_slice();
-            number_in(field_in(columns, slots, *slot, *column))
+        Term::Two { op, left, right } => {
+            number_of_leaves(columns, environment, *op, left.get(), right.get())
         }
+        _ => leaf_number(columns, environment, term),
+    }
+}
+
+/// The number that an operator gives of a number and of that of an expression, where it gives one.
+#[cycle(deep_number)]
+fn deep_right(
+    columns: &List<List<Option<usize>>>,
+    environment: &Environment,
+    op: Op,
+    left: i64,
+    right: &Term,
+) -> Option<i64>
+    ensures { IfSome result (λ n. apply op (Int left) (worth_of columns.now right.now environment.now) ≡ Ok (Int n)) }
+{
+    let right = deep_number(columns, environment, right)?;
+    number_by(op, left, right)
+}
+
+/// The number that an expression is, where it is one that is found with no value on the way.
+#[cycle(deep_number)]
+pub fn deep_number(
+    columns: &List<List<Option<usize>>>,
+    environment: &Environment,
+    term: &Term,
+) -> Option<i64>
+    ensures { IfSome result (λ n. worth_of columns.now term.now environment.now ≡ Ok (Int n)) }
+{
+    match term {
         Term::Now => Some(environment.time),
         Term::Two { op, left, right } => {
             if !is_counting(*op) {
                 return None;
             }
-            let left = quick_number(columns, environment, left.get())?;
-            quick_right(columns, environment, *op, left, right.get())
+            let left = deep_number(columns, environment, left.get())?;
+            deep_right(columns, environment, *op, left, right.get())
         }
-        _ => None,
+        _ => leaf_number(columns, environment, term),
     }
 }
 
@@ -109,8 +158,8 @@ fn test_by(op: Op, left: i64, right: i64) -> Option<bool>
     }
 }
 
-/// What a comparison of the numbers of two expressions gives.
-fn test_two(
+/// What a comparison of two leaves gives, where they are numbers.
+fn test_of_leaves(
     columns: &List<List<Option<usize>>>,
     environment: &Environment,
     op: Op,
@@ -122,12 +171,12 @@ fn test_two(
     if !is_comparison(op) {
         return None;
     }
-    let left = quick_number(columns, environment, left)?;
-    let right = quick_number(columns, environment, right)?;
+    let left = leaf_number(columns, environment, left)?;
+    let right = leaf_number(columns, environment, right)?;
     test_by(op, left, right)
 }
 
-/// The truth value that an expression is, where it compares two numbers.
+/// The truth value that an expression is, where it compares two leaves that are numbers.
 pub fn quick_test(
     columns: &List<List<Option<usize>>>,
     environment: &Environment,
@@ -137,7 +186,41 @@ pub fn quick_test(
 {
     match term {
         Term::Two { op, left, right } => {
-            test_two(columns, environment, *op, left.get(), right.get())
+            test_of_leaves(columns, environment, *op, left.get(), right.get())
+        }
+        _ => None,
+    }
+}
+
+/// What a comparison of two expressions gives, where they are numbers that are found with no value on the way.
+fn test_of_two(
+    columns: &List<List<Option<usize>>>,
+    environment: &Environment,
+    op: Op,
+    left: &Term,
+    right: &Term,
+) -> Option<bool>
+    ensures { IfSome result (λ b. applied op (worth_of columns.now left.now environment.now) (worth_of columns.now right.now environment.now) ≡ Ok (Bool b)) }
+{
+    if !is_comparison(op) {
+        return None;
+    }
+    let left = deep_number(columns, environment, left)?;
+    let right = deep_number(columns, environment, right)?;
+    test_by(op, left, right)
+}
+
+/// The truth value that an expression is, where it compares two numbers that are found with no value on the way.
+pub fn deep_test(
+    columns: &List<List<Option<usize>>>,
+    environment: &Environment,
+    term: &Term,
+) -> Option<bool>
+    ensures { IfSome result (λ b. worth_of columns.now term.now environment.now ≡ Ok (Bool b)) }
+{
+    match term {
+        Term::Two { op, left, right } => {
+            test_of_two(columns, environment, *op, left.get(), right.get())
         }
         _ => None,
     }

@@ -1,19 +1,19 @@
 //! The values of expressions in code.
 
-ghost use Rattle.std.specs.Prelude.{◌≡◌, Ok};
+ghost use Rattle.std.specs.Prelude.{◌≡◌, [], ◌∷◌, IfOk, Ok};
 ghost use Rattle.proc_syntax.specs.Values.{apply, negation_of, not_of, two_of};
 ghost use Rattle.proc_eval.specs.Gives.{Gives};
 ghost use Rattle.proc_code.specs.Coded.{worth_of, worths_of, end_worth, set_worth, sets_worth};
 ghost use Rattle.proc_code.specs.Weighed.{Weighs, truth_of, weight};
 
-use crate::quick::{quick_number, quick_test};
+use crate::quick::{deep_number, deep_test, leaf_number, quick_number, quick_test};
 use crate::slots::{Environment, field_value, plain_value};
 use crate::tree::{Setting, Term};
 use proc_eval::Halt;
 use proc_eval::arith::negation;
 use proc_eval::compare::{flag, negated, two};
 use proc_syntax::{Op, Stop};
-use rel_base::{Key, List, Row, Twin, Value};
+use rel_base::{Key, List, NoMemory, Row, Twin, Value};
 use std::alloc::Global;
 
 /// A value that was computed, or one that stands in the code, in a variable or in a row that a variable holds, and is not copied.
@@ -33,16 +33,14 @@ impl<'a> Worth<'a> {
             Worth::Lent(value) => *value,
         }
     }
+}
 
-    /// The value, copied where it is lent.
-    pub fn into_value(self, alloc: Global) -> Result<Value, Halt>
-        ensures { Gives result (Ok (weight self.entry)) }
-    {
-        match self {
-            Worth::Made(value) => Ok(value),
-            Worth::Lent(value) => Ok(value.copy(alloc)?),
-        }
-    }
+/// A copy of a value.
+fn copied(alloc: Global, value: &Value) -> Result<Value, Halt>
+    ensures { Gives result (Ok value.now) }
+{
+    let value = value.copy(alloc)?;
+    Ok(value)
 }
 
 /// The truth value that a value is.
@@ -54,17 +52,17 @@ fn truth_of(worth: Worth<'_>) -> Result<Value, Halt>
 }
 
 /// `not` of a value.
-fn not_of<'a>(worth: Worth<'_>) -> Result<Worth<'a>, Halt>
-    ensures { Weighs result (not_of (weight worth.entry)) }
+fn not_of(worth: Worth<'_>) -> Result<Value, Halt>
+    ensures { Gives result (not_of (weight worth.entry)) }
 {
-    Ok(Worth::Made(negated(worth.get())?))
+    Ok(negated(worth.get())?)
 }
 
 /// `-` of a value.
-fn negation_of<'a>(worth: Worth<'_>) -> Result<Worth<'a>, Halt>
-    ensures { Weighs result (negation_of (weight worth.entry)) }
+fn negation_of(worth: Worth<'_>) -> Result<Value, Halt>
+    ensures { Gives result (negation_of (weight worth.entry)) }
 {
-    Ok(Worth::Made(negation(worth.get())?))
+    Ok(negation(worth.get())?)
 }
 
 /// What an operator gives of two values.
@@ -136,18 +134,58 @@ pub fn weigh<'a>(
             let slots = environment.slots.as_slice();
             Ok(Worth::Lent(field_value(columns, slots, *slot, *column)?))
         }
-        Term::Now => Ok(Worth::Made(Value::Int(environment.time))),
+        _ => Ok(Worth::Made(eval_any(alloc, columns, environment, term)?)),
+    }
+}
+
+/// The value of any expression, in memory of its own.
+#[cycle(weigh)]
+fn eval_any(
+    alloc: Global,
+    columns: &List<List<Option<usize>>>,
+    environment: &Environment,
+    term: &Term,
+) -> Result<Value, Halt>
+    ensures { Gives result (worth_of columns.now term.now environment.now) }
+{
+    let slots = environment.slots.as_slice();
+    match term {
+        Term::Value(value) => copied(alloc, value),
+        Term::Var(slot) => copied(alloc, plain_value(slots, *slot)?),
+        Term::Field { slot, column } => copied(alloc, field_value(columns, slots, *slot, *column)?),
+        Term::Now => Ok(Value::Int(environment.time)),
         Term::Not(inner) => not_of(weigh(alloc, columns, environment, inner.get())?),
         Term::Neg(inner) => negation_of(weigh(alloc, columns, environment, inner.get())?),
         Term::Two { op, left, right } => {
+            if let Some(holds) = quick_test(columns, environment, term) {
+                return Ok(Value::Bool(holds));
+            }
             let left = weigh(alloc, columns, environment, left.get())?;
-            let value = weigh_two(alloc, columns, environment, *op, left, right.get())?;
-            Ok(Worth::Made(value))
+            weigh_two(alloc, columns, environment, *op, left, right.get())
         }
     }
 }
 
-/// The value of an expression, in memory of its own.
+/// The value of an expression, in memory of its own. A number, or a comparison of two, is looked for once for the whole of it and not
+/// again for each part, so that the work grows with the length of the expression alone.
+fn eval_deep(
+    alloc: Global,
+    columns: &List<List<Option<usize>>>,
+    environment: &Environment,
+    term: &Term,
+) -> Result<Value, Halt>
+    ensures { Gives result (worth_of columns.now term.now environment.now) }
+{
+    if let Some(number) = deep_number(columns, environment, term) {
+        return Ok(Value::Int(number));
+    }
+    if let Some(holds) = deep_test(columns, environment, term) {
+        return Ok(Value::Bool(holds));
+    }
+    eval_any(alloc, columns, environment, term)
+}
+
+/// The value of an expression, in memory of its own. Numbers that are leaves, and operators between two, are looked for first.
 pub fn eval(
     alloc: Global,
     columns: &List<List<Option<usize>>>,
@@ -162,8 +200,15 @@ pub fn eval(
     if let Some(holds) = quick_test(columns, environment, term) {
         return Ok(Value::Bool(holds));
     }
-    let worth = weigh(alloc, columns, environment, term)?;
-    worth.into_value(alloc)
+    eval_deep(alloc, columns, environment, term)
+}
+
+/// The list of no items, with memory for a number of them.
+fn with_room<T: Drop>(alloc: Global, room: usize) -> Result<List<T>, NoMemory>
+    ensures { IfOk result (λ made. made ≡ []) }
+{
+    let items = Vec::with_capacity(alloc, room)?;
+    Ok(List::from_vec(items))
 }
 
 /// The values of expressions, from the left.
@@ -175,7 +220,7 @@ pub fn eval_all(
 ) -> Result<List<Value>, Halt>
     ensures { Gives result (worths_of columns.now terms.now environment.now) }
 {
-    let mut values = List::new(alloc);
+    let mut values = with_room(alloc, terms.len())?;
     for term in terms {
         let value = eval(alloc, columns, environment, term)?;
         values.push(value)?;
@@ -197,6 +242,22 @@ pub fn eval_row(
     Ok(row)
 }
 
+/// The key of the value of one expression, which mostly is a leaf that is a number.
+fn eval_one(
+    alloc: Global,
+    columns: &List<List<Option<usize>>>,
+    environment: &Environment,
+    term: &Term,
+) -> Result<Key, Halt>
+    ensures { Gives result (worths_of columns.now (term.now ∷ []) environment.now) }
+{
+    if let Some(number) = leaf_number(columns, environment, term) {
+        return Ok(Key::of(Value::Int(number)));
+    }
+    let value = eval_deep(alloc, columns, environment, term)?;
+    Ok(Key::of(value))
+}
+
 /// The key of the values of expressions, from the left.
 pub fn eval_key(
     alloc: Global,
@@ -206,12 +267,14 @@ pub fn eval_key(
 ) -> Result<Key, Halt>
     ensures { Gives result (worths_of columns.now terms.now environment.now) }
 {
-    let mut key = Key::new();
-    for term in terms {
-        let value = eval(alloc, columns, environment, term)?;
-        key = key.with(alloc, value)?;
+    match terms.split_first() {
+        Some((term, rest)) if rest.is_empty() => eval_one(alloc, columns, environment, term),
+        _ => {
+            let values = eval_all(alloc, columns, environment, terms)?;
+            let key = Key::from_list(values)?;
+            Ok(key)
+        }
     }
-    Ok(key)
 }
 
 /// The value of an end of a span, where it is given.
@@ -243,7 +306,10 @@ fn eval_setting(
     match setting.column {
         None => Err(Halt::Stop(Stop::IllTyped)),
         Some(column) => {
-            let value = eval(alloc, columns, environment, &setting.value)?;
+            if let Some(number) = quick_number(columns, environment, &setting.value) {
+                return Ok((column, Value::Int(number)));
+            }
+            let value = eval_deep(alloc, columns, environment, &setting.value)?;
             Ok((column, value))
         }
     }
@@ -258,7 +324,7 @@ pub fn eval_settings(
 ) -> Result<List<(usize, Value)>, Halt>
     ensures { Gives result (sets_worth columns.now settings.now environment.now) }
 {
-    let mut values = List::new(alloc);
+    let mut values = with_room(alloc, settings.len())?;
     for setting in settings {
         let value = eval_setting(alloc, columns, environment, setting)?;
         values.push(value)?;

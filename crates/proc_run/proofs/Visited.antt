@@ -37,55 +37,56 @@ block_moved declared columns S root ss at next gone branch block from to here sa
 
 module _ (columns : List (List (Option ℕ))) (slot table : ℕ) (body : List Action) where
   -- a row that goes into its variable, with what is done of its block
-  pub visited : (rows : List (List Value)) (next : ℕ) (row : List Value) (rest : List Action) (from to : State) → slice_get rows next ≡ Some row → from.steps < 100000
+  pub visited : (rows ends : List (List Value)) (next : ℕ) (row : List Value) (rest : List Action) (from to : State) → slice_get rows next ≡ Some row → drop (next + 1) ends ≡ drop (next + 1) rows → from.steps < 100000
       → IsSameRest columns body (hold slot table row (record from { steps = from.steps + 1 })) rest to
-      → IsSameVisit columns slot table body [] (drop next rows) from rest (drop (next + 1) rows) to
-  visited rows next row rest from to here low same = λ declared S.
+      → IsSameVisit columns slot table body [] (drop next rows) from rest (drop (next + 1) ends) to
+  visited rows ends next row rest from to here same_rows low same = λ declared S.
       let each : List (List Value) → State → Progress = each_held (hold slot table) (do_all declared columns S body) in
-      ap (λ o. then_do o (each (drop (next + 1) rows))) (same declared S)
+      ap (λ left. in_visit declared columns S slot table body rest left to) same_rows
+      ∙ ap (λ o. then_do o (each (drop (next + 1) rows))) (same declared S)
       ∙ sym (a_step from (λ counted. then_do (do_all declared columns S body (hold slot table row counted)) (each (drop (next + 1) rows))) low)
       ∙ ap (λ left. each left from) (sym (one_left rows next row here))
 
   -- the next row, once nothing is left of the block for the one before
-  pub visited_more : (rows : List (List Value)) (first next gone at : ℕ) (rest : List Action) (from mid to : State) → length body ≤ at
-      → IsSameVisit columns slot table body [] (drop first rows) from (drop at body) (drop next rows) mid
-      → IsSameVisit columns slot table body [] (drop next rows) mid rest (drop gone rows) to
-      → IsSameVisit columns slot table body [] (drop first rows) from rest (drop gone rows) to
-  visited_more rows first next gone at rest from mid to over one two = λ declared S.
-      two declared S ∙ ap (λ inside. in_visit declared columns S slot table body inside (drop next rows) mid) (sym (drop_all at body over)) ∙ one declared S
+  pub visited_more : (first mids last : List (List Value)) (at : ℕ) (rest : List Action) (from mid to : State) → length body ≤ at
+      → IsSameVisit columns slot table body [] first from (drop at body) mids mid
+      → IsSameVisit columns slot table body [] mids mid rest last to
+      → IsSameVisit columns slot table body [] first from rest last to
+  visited_more first mids last at rest from mid to over one two = λ declared S.
+      two declared S ∙ ap (λ inside. in_visit declared columns S slot table body inside mids mid) (sym (drop_all at body over)) ∙ one declared S
 
   -- before the first row
   pub visited_none : (rows : List (List Value)) (first at : ℕ) (from : State) → length body ≤ at → IsSameVisit columns slot table body [] (drop first rows) from (drop at body) (drop first rows) from
   visited_none rows first at from over = λ declared S. ap (λ inside. in_visit declared columns S slot table body inside (drop first rows) from) (drop_all at body over)
 
-  module _ (declared : List TableDef) (S : Tables) (root : List Action) (ss : List Spot) (at : ℕ) (rows : List (List Value)) (next gone statement : ℕ) (from to : State) (is_body : body ≡ part_of (block_of root ss) at First) where
+  module _ (declared : List TableDef) (S : Tables) (root : List Action) (ss : List Spot) (at : ℕ) (rows ends : List (List Value)) (next gone statement : ℕ) (from to : State) (is_body : body ≡ part_of (block_of root ss) at First) where
     abbrev runs : List Spot → State → Progress
     runs path = run_frames declared columns S (frames_of root path)
 
-    abbrev over : ℕ → List Spot
-    over next = ss ++ spot.Loop at slot table rows next ∷ []
+    abbrev over : List (List Value) → ℕ → List Spot
+    over rows next = ss ++ spot.Loop at slot table rows next ∷ []
 
     abbrev inside_at : List Action → State → Progress
-    inside_at inside st = then_do (in_visit declared columns S slot table body inside (drop gone rows) st) (runs ss)
+    inside_at inside st = then_do (in_visit declared columns S slot table body inside (drop gone ends) st) (runs ss)
 
-    loop_at : (next : ℕ) (st : State) → runs (over next) st ≡ then_do (in_visit declared columns S slot table body [] (drop next rows) st) (runs ss)
-    loop_at next st =
+    loop_at : (rows : List (List Value)) (next : ℕ) (st : State) → runs (over rows next) st ≡ then_do (in_visit declared columns S slot table body [] (drop next rows) st) (runs ss)
+    loop_at rows next st =
         path_push declared columns S root ss (spot.Loop at slot table rows next) st
         ∙ ap (λ b. then_do (each_held (hold slot table) (do_all declared columns S b) (drop next rows) st) (runs ss)) (sym is_body)
 
-    inside_is : runs (over gone ++ spot.Block at First statement ∷ []) to ≡ inside_at (drop statement body) to
+    inside_is : runs (over ends gone ++ spot.Block at First statement ∷ []) to ≡ inside_at (drop statement body) to
     inside_is =
-        path_push declared columns S root (over gone) (spot.Block at First statement) to
-        ∙ ap (λ b. then_do (do_all declared columns S (drop statement (part_of b at First)) to) (runs (over gone))) (block_push root ss (spot.Loop at slot table rows gone))
-        ∙ ap (λ b. then_do (do_all declared columns S (drop statement b) to) (runs (over gone))) (sym is_body)
-        ∙ ap (then_do (do_all declared columns S (drop statement body) to)) (λ i st. loop_at gone st i)
-        ∙ sym (then_then (do_all declared columns S (drop statement body) to) (each_held (hold slot table) (do_all declared columns S body) (drop gone rows)) (runs ss))
+        path_push declared columns S root (over ends gone) (spot.Block at First statement) to
+        ∙ ap (λ b. then_do (do_all declared columns S (drop statement (part_of b at First)) to) (runs (over ends gone))) (block_push root ss (spot.Loop at slot table ends gone))
+        ∙ ap (λ b. then_do (do_all declared columns S (drop statement b) to) (runs (over ends gone))) (sym is_body)
+        ∙ ap (then_do (do_all declared columns S (drop statement body) to)) (λ i st. loop_at ends gone st i)
+        ∙ sym (then_then (do_all declared columns S (drop statement body) to) (each_held (hold slot table) (do_all declared columns S body) (drop gone ends)) (runs ss))
 
     -- the rows that are left, and what is left of the block for a row, in their places on the path
-    pub visit_goes : IsSameVisit columns slot table body [] (drop next rows) from (drop statement body) (drop gone rows) to → runs (over gone ++ spot.Block at First statement ∷ []) to ≡ runs (over next) from
-    visit_goes same = inside_is ∙ ap (λ o. then_do o (runs ss)) (same declared S) ∙ sym (loop_at next from)
+    pub visit_goes : IsSameVisit columns slot table body [] (drop next rows) from (drop statement body) (drop gone ends) to → runs (over ends gone ++ spot.Block at First statement ∷ []) to ≡ runs (over rows next) from
+    visit_goes same = inside_is ∙ ap (λ o. then_do o (runs ss)) (same declared S) ∙ sym (loop_at rows next from)
 
     -- the rows that are left alone
-    pub visit_rests : length body ≤ statement → IsSameVisit columns slot table body [] (drop next rows) from (drop statement body) (drop gone rows) to → runs (over gone) to ≡ runs (over next) from
+    pub visit_rests : length body ≤ statement → IsSameVisit columns slot table body [] (drop next rows) from (drop statement body) (drop gone ends) to → runs (over ends gone) to ≡ runs (over rows next) from
     visit_rests none same =
-        loop_at gone to ∙ ap (λ inside. inside_at inside to) (sym (drop_all statement body none)) ∙ ap (λ o. then_do o (runs ss)) (same declared S) ∙ sym (loop_at next from)
+        loop_at ends gone to ∙ ap (λ inside. inside_at inside to) (sym (drop_all statement body none)) ∙ ap (λ o. then_do o (runs ss)) (same declared S) ∙ sym (loop_at rows next from)

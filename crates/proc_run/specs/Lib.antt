@@ -1,3 +1,4 @@
+pub mod Changed
 pub mod Path
 pub mod Planned
 pub mod Remains

@@ -1,5 +1,5 @@
 -- What remains of a run, from where it stands, on any tables.
-use Rattle.std.specs.Prelude.{◌≡◌, ◌+◌, ◌++◌, ℕ, cond, Bool, true, false, T, List, [], ◌∷◌, Option, Some, None, IfSome, Result, Ok, Err, slice_get}
+use Rattle.std.specs.Prelude.{◌≡◌, ◌+◌, ◌++◌, ℕ, cond, Bool, true, false, T, List, [], ◌∷◌, Option, Some, None, IfSome, Result, Ok, Err, slice_get, slice_set}
 use Rattle.std.specs.FinMap.Entries.{is_sorted}
 use Rattle.rel_base.specs.declared.access.Read.{Read}
 use Rattle.rel_base.specs.declared.access.Read.TheVariants.{Point, Span}
@@ -12,7 +12,8 @@ use Rattle.rel_base.specs.OwnWrites.{Own, keyed, merged}
 use Rattle.rel_base.specs.Tables.{Tables}
 use Rattle.rel_base.specs.Value.{key_cmp}
 use Rattle.row_sets.specs.Overlay.{Written, AreFound, own_of}
-use Rattle.proc_syntax.specs.declared.run.Binding.TheVariants.{Plain}
+use Rattle.proc_syntax.specs.declared.run.Binding.{Binding}
+use Rattle.proc_syntax.specs.declared.run.Binding.TheVariants.{Plain, Held}
 use Rattle.proc_syntax.specs.declared.run.Stop.TheVariants as stop
 use Rattle.proc_syntax.specs.Steps.{Going, Stopped, then_do, with_some, asked, insert_at, update_at, delete_at, held_or, each_held, set_to}
 use Rattle.proc_eval.specs.declared.halt.Halt.{Halt}
@@ -105,6 +106,10 @@ in_visit declared columns tables slot table body inside rows state = then_do (do
 -- it comes to the same, on any tables, from where a run stood and from where it stands
 abbrev pub IsSameVisit : List (List (Option ℕ)) → ℕ → ℕ → List Action → List Action → List (List Value) → State → List Action → List (List Value) → State → Type 0
 IsSameVisit columns slot table body before rows from after rest to = (declared : List TableDef) (tables : Tables) → in_visit declared columns tables slot table body after rest to ≡ in_visit declared columns tables slot table body before rows from
+
+-- the row of a number is in its variable
+abbrev pub IsHeldFrom : ℕ → ℕ → ℕ → List (List Value) → List (Option Binding) → List (Option Binding) → Type 0
+IsHeldFrom slot table next rows old new = (row : List Value) × (slice_get rows next ≡ Some row) × (new ≡ slice_set old slot (Some (Held table row)))
 
 -- the step of an assignment is counted, and the variable has the value of the expression
 abbrev pub IsAssigned : List (List (Option ℕ)) → ℕ → Term → State → State → Type 0

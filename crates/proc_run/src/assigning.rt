@@ -5,7 +5,8 @@ ghost use Rattle.proc_run.specs.Remains.{state, IsSameRest, IsAssigned};
 ghost use Rattle.proc_syntax.specs.Limits.{most_steps};
 
 use crate::state::{MOST_RUN_STEPS, Run};
-use crate::turn::put;
+use crate::variables::{put, put_number};
+use proc_code::quick::quick_number;
 use proc_code::values::eval;
 use proc_code::{Action, Term};
 use proc_syntax::Binding;
@@ -13,7 +14,7 @@ use rel_base::List;
 use std::alloc::Global;
 
 /// Counts a step, and gives a variable the value of an expression, where there is one. Where there is none, nothing is done.
-fn assign(
+fn assign_value(
     alloc: Global,
     columns: &List<List<Option<usize>>>,
     slot: usize,
@@ -34,6 +35,31 @@ fn assign(
             put(&mut run.environment.slots, slot, Binding::Plain(value));
             true
         }
+    }
+}
+
+/// The same, where a value that is a number is found with no value on the way.
+fn assign(
+    alloc: Global,
+    columns: &List<List<Option<usize>>>,
+    slot: usize,
+    value: &Term,
+    run: &mut Run,
+) -> bool
+    requires { run.old.steps < most_steps }
+    ensures slots { result ≡ true → IsAssigned columns.now slot value.now (state run.old) (state run.new) }
+    ensures steps { result ≡ true → run.new.steps ≡ run.old.steps + 1 }
+    ensures own { run.new.own ≡ run.old.own }
+    ensures made { run.new.made ≡ run.old.made }
+    ensures none { result ≡ false → run.new ≡ run.old }
+{
+    match quick_number(columns, &run.environment, value) {
+        Some(number) => {
+            run.steps += 1;
+            put_number(alloc, &mut run.environment.slots, slot, number);
+            true
+        }
+        None => assign_value(alloc, columns, slot, value, run),
     }
 }
 

@@ -15,6 +15,7 @@ pub mod start;
 pub mod state;
 pub mod stepping;
 pub mod turn;
+pub mod variables;
 pub mod visiting;
 
 pub use drive::run_on;

@@ -1,30 +1,36 @@
 //! What is done with the rows of a read.
 
-ghost use Rattle.std.specs.Prelude.{◌≡◌, ◌<◌, List, Option, ℕ, Err, IfOk, OnOk, OnErr, slice_get, vec_len, vec_capacity};
+ghost use Rattle.std.specs.Prelude.{◌≡◌, ◌<◌, [], ◌∷◌, List, Option, ℕ, Err, IfOk, OnOk, OnErr, true, false, slice_get, vec_len, vec_capacity};
+ghost use Rattle.std.specs.Option.{option_copied, option_to_list};
 ghost use Rattle.rel_base.specs.OwnWrites.{first_row};
 ghost use Rattle.rel_base.specs.Tables.{Tables};
 ghost use Rattle.rel_base.specs.declared.access.Read.{Read as Asked};
 ghost use Rattle.rel_base.specs.declared.access.Read.TheVariants.{Point};
 ghost use Rattle.rel_base.specs.declared.access.Seen.{Seen as SeenRow};
 ghost use Rattle.rel_base.specs.declared.schema.TableDef.{TableDef as Def};
+ghost use Rattle.rel_base.specs.declared.value.Value.{Value as Cell};
 ghost use Rattle.row_sets.specs.Overlay.{own_of};
 ghost use Rattle.proc_syntax.specs.Steps.{asked, wrote, insert_at, update_at, delete_at, held_or, with_some, then_do};
+ghost use Rattle.proc_eval.specs.Gives.{Gives};
 ghost use Rattle.proc_eval.specs.declared.halt.Halt.TheVariants as halt;
 ghost use Rattle.proc_code.specs.Coded.{do_all, hold};
 ghost use Rattle.proc_code.specs.declared.tree.Action.{Action as Act};
 ghost use Rattle.proc_run.specs.declared.path.Branch.TheVariants.{First, Second};
+ghost use Rattle.proc_run.specs.Changed.{changed_at};
 ghost use Rattle.proc_run.specs.Path.{part_of, block_of, frames_of};
 ghost use Rattle.proc_run.specs.Remains.{state, seen_in, StandInOrder, at_key, answered, run_frames, Ends, Comes, KeepsFound};
 
 use crate::path::{Branch, Holder, Spot};
 use crate::plan::{Pending, find_table};
 use crate::state::Run;
-use crate::turn::{hold, push_block, push_rows};
+use crate::turn::{push_block, push_rows};
+use crate::variables::hold;
 use proc_eval::Halt;
 use proc_eval::change::changed;
 use proc_syntax::{Fault, Stop};
 use rel_base::{Key, List, Made, NoMemory, Read, Row, Seen, TableDef, Twin, Value};
 use row_sets::Overlay;
+use row_sets::merge::first_of;
 use std::alloc::Global;
 
 /// The rows that the transaction sees at a read that got rows of the tables, which stand in the order of their keys.
@@ -40,6 +46,86 @@ fn seen_rows(
     match tables.get(made.read.table() as usize) {
         None => Ok(List::new(alloc)),
         Some(def) => own.merge(alloc, def, &made.read, &made.rows),
+    }
+}
+
+/// The row that the transaction sees at a key whose point read got rows of the tables.
+fn seen_at<'a>(
+    tables: &List<TableDef>,
+    own: &'a Overlay,
+    table: u32,
+    key: &Key,
+    rows: &'a [Seen],
+) -> Option<&'a Row>
+    ensures { option_to_list (option_copied result) ≡ seen_in tables.now (Point table key.now) (own_of own.now) rows.now }
+{
+    match tables.get(table as usize) {
+        None => None,
+        Some(_) => own.look(table, key, first_of(rows)),
+    }
+}
+
+/// Whether the transaction sees a row at a key whose point read got rows of the tables.
+fn has_row(tables: &List<TableDef>, own: &Overlay, table: u32, key: &Key, rows: &[Seen]) -> bool
+    ensures some { result ≡ true → (row : List Cell) × (seen_in tables.now (Point table key.now) (own_of own.now) rows.now ≡ row ∷ []) }
+    ensures none { result ≡ false → seen_in tables.now (Point table key.now) (own_of own.now) rows.now ≡ [] }
+{
+    match seen_at(tables, own, table, key, rows) {
+        None => false,
+        Some(_) => true,
+    }
+}
+
+/// The row that the transaction sees at a key, with columns set.
+fn row_changed(
+    alloc: Global,
+    tables: &List<TableDef>,
+    own: &Overlay,
+    table: u32,
+    key: &Key,
+    rows: &[Seen],
+    changes: &[(usize, Value)],
+) -> Result<Row, Halt>
+    ensures { Gives result (changed_at tables.now table key.now changes.now (seen_in tables.now (Point table key.now) (own_of own.now) rows.now)) }
+{
+    let def = find_table(tables, table)?;
+    match seen_at(tables, own, table, key, rows) {
+        None => Err(Halt::Stop(Stop::Fault(Fault::NoRow))),
+        Some(old) => changed(alloc, def, key, old, changes),
+    }
+}
+
+/// A copy of a row that may be there.
+fn copy_of(alloc: Global, row: Option<&Row>) -> Result<Option<Row>, NoMemory>
+    ensures { IfOk result (λ copy. copy ≡ option_copied row.entry) }
+{
+    match row {
+        None => Ok(None),
+        Some(row) => Ok(Some(row.copy(alloc)?)),
+    }
+}
+
+/// The first row that the transaction sees at a read that got rows of the tables, which stand in the order of their keys.
+fn first_seen(
+    alloc: Global,
+    tables: &List<TableDef>,
+    own: &Overlay,
+    made: &Made,
+) -> Result<Option<Row>, NoMemory>
+    requires { StandInOrder tables.now made.now.read made.now.rows }
+    ensures { IfOk result (λ row. row ≡ slice_get (seen_in tables.now made.now.read (own_of own.now) made.now.rows) 0) }
+{
+    match &made.read {
+        Read::Point { table, key } => {
+            copy_of(
+                alloc,
+                seen_at(tables, own, *table, key, made.rows.as_slice()),
+            )
+        }
+        Read::Span { .. } => {
+            let rows = seen_rows(alloc, tables, own, made)?;
+            copy_of(alloc, rows.first())
+        }
     }
 }
 
@@ -74,23 +160,30 @@ fn leave(
 }
 
 /// Puts a new row where its key has none.
-fn put_new(alloc: Global, made: &Made, row: &Row, seen: &[Row], run: &mut Run) -> Result<(), Halt>
+fn put_new(
+    alloc: Global,
+    tables: &List<TableDef>,
+    made: &Made,
+    row: &Row,
+    run: &mut Run,
+) -> Result<(), Halt>
     ensures ends { Ends result (asked (state run.new) made.now.read made.now.rows)
-        (at_key made.now.read (λ table key. insert_at table key row.now seen.now) (asked (state run.old) made.now.read made.now.rows)) }
+        (at_key made.now.read (λ table key. insert_at table key row.now (seen_in tables.now made.now.read (own_of run.old.own) made.now.rows)) (asked (state run.old) made.now.read made.now.rows)) }
     ensures found { KeepsFound made.now.read made.now.rows run.old.own run.new.own }
     ensures made { run.new.made ≡ run.old.made }
     ensures steps { run.new.steps ≡ run.old.steps }
     ensures err { result ≡ Err halt.NoMemory → run.new ≡ run.old }
 {
-    match (&made.read, seen.first()) {
-        (Read::Span { .. }, _) => Err(Halt::Stop(Stop::IllTyped)),
-        (Read::Point { .. }, Some(_)) => Err(Halt::Stop(Stop::Fault(Fault::DuplicateKey))),
-        (Read::Point { table, key }, None) => {
-            let row = row.copy(alloc)?;
-            leave(alloc, *table, key, made.rows.as_slice(), Some(row), run)?;
-            Ok(())
-        }
+    let Read::Point { table, key } = &made.read else {
+        return Err(Halt::Stop(Stop::IllTyped));
+    };
+    let rows = made.rows.as_slice();
+    if has_row(tables, &run.own, *table, key, rows) {
+        return Err(Halt::Stop(Stop::Fault(Fault::DuplicateKey)));
     }
+    let row = row.copy(alloc)?;
+    leave(alloc, *table, key, rows, Some(row), run)?;
+    Ok(())
 }
 
 /// Changes the row of a key.
@@ -99,77 +192,58 @@ fn put_changed(
     tables: &List<TableDef>,
     made: &Made,
     changes: &[(usize, Value)],
-    seen: &[Row],
     run: &mut Run,
 ) -> Result<(), Halt>
     ensures ends { Ends result (asked (state run.new) made.now.read made.now.rows)
-        (at_key made.now.read (λ table key state. with_some (slice_get tables.now table) state (λ def. update_at def table key changes.now seen.now state)) (asked (state run.old) made.now.read made.now.rows)) }
+        (at_key made.now.read (λ table key state. with_some (slice_get tables.now table) state (λ def. update_at def table key changes.now (seen_in tables.now made.now.read (own_of run.old.own) made.now.rows) state)) (asked (state run.old) made.now.read made.now.rows)) }
     ensures found { KeepsFound made.now.read made.now.rows run.old.own run.new.own }
     ensures made { run.new.made ≡ run.old.made }
     ensures steps { run.new.steps ≡ run.old.steps }
     ensures err { result ≡ Err halt.NoMemory → run.new ≡ run.old }
 {
-    match &made.read {
-        Read::Span { .. } => Err(Halt::Stop(Stop::IllTyped)),
-        Read::Point { table, key } => {
-            let def = find_table(tables, *table)?;
-            match seen.first() {
-                None => Err(Halt::Stop(Stop::Fault(Fault::NoRow))),
-                Some(old) => {
-                    let row = changed(alloc, def, key, old, changes)?;
-                    leave(alloc, *table, key, made.rows.as_slice(), Some(row), run)?;
-                    Ok(())
-                }
-            }
-        }
-    }
+    let Read::Point { table, key } = &made.read else {
+        return Err(Halt::Stop(Stop::IllTyped));
+    };
+    let rows = made.rows.as_slice();
+    let row = row_changed(alloc, tables, &run.own, *table, key, rows, changes)?;
+    leave(alloc, *table, key, rows, Some(row), run)?;
+    Ok(())
 }
 
 /// Deletes the row of a key.
-fn put_none(alloc: Global, made: &Made, seen: &[Row], run: &mut Run) -> Result<(), Halt>
+fn put_none(alloc: Global, tables: &List<TableDef>, made: &Made, run: &mut Run) -> Result<(), Halt>
     ensures ends { Ends result (asked (state run.new) made.now.read made.now.rows)
-        (at_key made.now.read (λ table key. delete_at table key seen.now) (asked (state run.old) made.now.read made.now.rows)) }
+        (at_key made.now.read (λ table key. delete_at table key (seen_in tables.now made.now.read (own_of run.old.own) made.now.rows)) (asked (state run.old) made.now.read made.now.rows)) }
     ensures found { KeepsFound made.now.read made.now.rows run.old.own run.new.own }
     ensures made { run.new.made ≡ run.old.made }
     ensures steps { run.new.steps ≡ run.old.steps }
     ensures err { result ≡ Err halt.NoMemory → run.new ≡ run.old }
 {
-    match (&made.read, seen.first()) {
-        (Read::Span { .. }, _) => Err(Halt::Stop(Stop::IllTyped)),
-        (Read::Point { .. }, None) => Err(Halt::Stop(Stop::Fault(Fault::NoRow))),
-        (Read::Point { table, key }, Some(_)) => {
-            leave(alloc, *table, key, made.rows.as_slice(), None, run)?;
-            Ok(())
-        }
+    let Read::Point { table, key } = &made.read else {
+        return Err(Halt::Stop(Stop::IllTyped));
+    };
+    let rows = made.rows.as_slice();
+    if !has_row(tables, &run.own, *table, key, rows) {
+        return Err(Halt::Stop(Stop::Fault(Fault::NoRow)));
     }
+    leave(alloc, *table, key, rows, None, run)?;
+    Ok(())
 }
 
 /// Enters one block of a `get` where its key has a row, which the variable then holds, and the other where it has none.
-fn enter(
-    alloc: Global,
-    spots: &mut Vec<Spot>,
-    run: &mut Run,
-    holder: Holder,
-    seen: &[Row],
-) -> Result<(), NoMemory>
+fn enter(spots: &mut Vec<Spot>, run: &mut Run, holder: Holder, row: Option<Row>)
     requires { vec_len spots.old < vec_capacity spots.old }
-    ensures goes { OnOk result ((tables : List Def) (columns : List (List (Option ℕ))) (S : Tables) (root : List Act) (read : Asked) (rows : List SeenRow) → run_frames tables columns S (frames_of root spots.new.items) (asked (state run.new) read rows)
-        ≡ then_do (held_or (hold holder.slot holder.table) (do_all tables columns S (part_of (block_of root spots.old.items) holder.at First)) (do_all tables columns S (part_of (block_of root spots.old.items) holder.at Second)) seen.now (asked (state run.old) read rows)) (run_frames tables columns S (frames_of root spots.old.items))) }
+    ensures goes { (tables : List Def) (columns : List (List (Option ℕ))) (S : Tables) (root : List Act) (read : Asked) (rows : List SeenRow) (seen : List (List Cell)) → row ≡ slice_get seen 0 → run_frames tables columns S (frames_of root spots.new.items) (asked (state run.new) read rows)
+        ≡ then_do (held_or (hold holder.slot holder.table) (do_all tables columns S (part_of (block_of root spots.old.items) holder.at First)) (do_all tables columns S (part_of (block_of root spots.old.items) holder.at Second)) seen (asked (state run.old) read rows)) (run_frames tables columns S (frames_of root spots.old.items)) }
     ensures own { run.new.own ≡ run.old.own }
     ensures made { run.new.made ≡ run.old.made }
     ensures steps { run.new.steps ≡ run.old.steps }
-    ensures err { OnErr result ((spots.new.items ≡ spots.old.items) × (run.new ≡ run.old)) }
 {
-    match seen.first() {
-        None => {
-            push_block(spots, holder.at, Branch::Second, 0);
-            Ok(())
-        }
+    match row {
+        None => push_block(spots, holder.at, Branch::Second, 0),
         Some(row) => {
-            let row = row.copy(alloc)?;
             hold(&mut run.environment.slots, holder, row);
             push_block(spots, holder.at, Branch::First, 0);
-            Ok(())
         }
     }
 }
@@ -201,23 +275,20 @@ pub fn resume(
     ensures err { result ≡ Err halt.NoMemory → (spots.new.items ≡ spots.old.items) × (run.new ≡ run.old) }
 {
     let AnsweredRead { at, made, pending } = *answer;
-    let seen = seen_rows(alloc, tables, &run.own, made)?;
     let table = made.read.table();
     match pending {
-        Pending::Insert { row } => put_new(alloc, made, row, seen.as_slice(), run),
-        Pending::Update { changes } => {
-            let changes = changes.as_slice();
-            put_changed(alloc, tables, made, changes, seen.as_slice(), run)
-        }
-        Pending::Delete => put_none(alloc, made, seen.as_slice(), run),
+        Pending::Insert { row } => put_new(alloc, tables, made, row, run),
+        Pending::Update { changes } => put_changed(alloc, tables, made, changes.as_slice(), run),
+        Pending::Delete => put_none(alloc, tables, made, run),
         Pending::Get { slot } => {
             let slot = *slot;
-            let holder = Holder { at, slot, table };
-            enter(alloc, spots, run, holder, seen.as_slice())?;
+            let row = first_seen(alloc, tables, &run.own, made)?;
+            enter(spots, run, Holder { at, slot, table }, row);
             Ok(())
         }
         Pending::For { slot } => {
             let slot = *slot;
+            let seen = seen_rows(alloc, tables, &run.own, made)?;
             push_rows(spots, Holder { at, slot, table }, seen, 0);
             Ok(())
         }

@@ -15,7 +15,7 @@ ghost use Rattle.proc_run.specs.Remains.{state};
 ghost use Rattle.proc_run.specs.MachineView.{IsBegun};
 
 use crate::state::{Phase, Run};
-use crate::turn::put;
+use crate::variables::put;
 use proc_code::slots::Environment;
 use proc_code::{AppCode, Param, ProcCode};
 use proc_eval::fit::has_kind;

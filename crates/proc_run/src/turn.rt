@@ -1,9 +1,8 @@
 //! The steps of a run, from one read to the next.
 
-ghost use Rattle.std.specs.Prelude.{◌≡◌, ◌<◌, ◌≤◌, ◌+◌, ◌*◌, ◌^◌, [], ◌∷◌, ◌++◌, List, Option, ℕ, Some, Ok, cond, IfOk, OnErr, true, false, nat_lt, slice_get, slice_set, length, vec_len, vec_capacity};
+ghost use Rattle.std.specs.Prelude.{◌≡◌, ◌<◌, ◌≤◌, ◌+◌, ◌*◌, ◌^◌, [], ◌∷◌, ◌++◌, List, Option, ℕ, Some, Ok, cond, IfOk, OnErr, true, false, nat_lt, slice_get, length, vec_len, vec_capacity};
 ghost use Rattle.rel_base.specs.Tables.{Tables};
 ghost use Rattle.rel_base.specs.declared.schema.TableDef.{TableDef as Def};
-ghost use Rattle.proc_syntax.specs.declared.run.Binding.TheVariants.{Held};
 ghost use Rattle.proc_code.specs.declared.tree.Action.{Action as Act};
 ghost use Rattle.proc_run.specs.declared.path.Spot.TheVariants as spot;
 ghost use Rattle.proc_run.specs.declared.path.Branch.TheVariants.{First, Second};
@@ -18,7 +17,6 @@ use crate::path::{Branch, Cursor, Holder, Program, RowsLeft, Spot, block_at, par
 use crate::state::{Phase, Run};
 use crate::stepping::{step_block, step_rows};
 use crate::visiting::{Reached, Visit, visit_rows};
-use proc_syntax::Binding;
 use rel_base::{List, NoMemory, Row};
 use std::alloc::Global;
 
@@ -62,25 +60,6 @@ pub fn push_rows(spots: &mut Vec<Spot>, holder: Holder, rows: List<Row>, next: u
             next,
         },
     )
-}
-
-/// A variable stands for something from now on.
-pub fn put(slots: &mut List<Option<Binding>>, slot: usize, binding: Binding)
-    ensures { slots.new ≡ slice_set slots.old slot (Some binding) }
-{
-    if slot < slots.len() {
-        drop(slots.replace(slot, Some(binding)));
-    } else {
-        drop(binding);
-    }
-}
-
-/// A variable holds a row of its table from now on.
-pub fn hold(slots: &mut List<Option<Binding>>, holder: Holder, row: Row)
-    ensures { slots.new ≡ slice_set slots.old holder.slot (Some (Held holder.table row)) }
-{
-    let Holder { slot, table, .. } = holder;
-    put(slots, slot, Binding::Held { table, row });
 }
 
 /// Goes on with a block, which was the last spot of the path: with its assignments that are next, and with the statement after them.
@@ -136,14 +115,15 @@ fn turn_loop(
         ≡ run_frames program.now.tables.now program.now.columns.now S (frames_of program.now.root.now (spots.old.items ++ spot.Loop holder.at holder.slot holder.table left.rows left.next ∷ [])) (state run.old)) }
 {
     let RowsLeft { rows, next } = left;
+    let mut rows = rows.into_vec();
     let body = part(block_at(program.root, spots), holder.at, Branch::First);
     let visit = Visit {
         columns: program.columns,
         body,
         holder,
-        rows: rows.as_slice(),
     };
-    let Reached { row, statement } = visit_rows(alloc, &visit, next, run);
+    let Reached { row, statement } = visit_rows(alloc, &visit, &mut rows, next, run);
+    let rows = List::from_vec(rows);
     if statement < body.len() {
         push_rows(spots, holder, rows, row);
         push_block(spots, holder.at, Branch::First, statement);

@@ -129,7 +129,7 @@ fn rows_of(alloc: Global, rows: BTreeMap<Key, Row>) -> Result<List<Row>, NoMemor
 pub fn rows_seen(alloc: Global, seens: &[Seen]) -> Result<List<Row>, NoMemory>
     ensures { IfOk result (λ rows. rows ≡ map (λ seen. seen.row) seens.now) }
 {
-    let mut rows = List::new(alloc);
+    let mut rows = List::from_vec(Vec::with_capacity(alloc, seens.len())?);
     for seen in seens {
         let row = seen.row.copy(alloc)?;
         rows.push(row)?;

@@ -1,8 +1,0 @@
-use Rattle.std.proofs.Common.{◌≡◌, drop}
-use Rattle.proc_eval.proofs.Lists.{after}
-use Rattle.proc_code.specs.Coded.{worths_of}
-use Rattle.proc_code.proofs.values.eval_key.Given as goal
-
--- the values so far, and those of the rest
-abbrev pub invariant-loop-term : goal.invariant-loop-term
-invariant-loop-term l = after l.key (worths_of l.columns (drop l.term-index l.terms) l.environment) ≡ worths_of l.columns l.terms l.environment
