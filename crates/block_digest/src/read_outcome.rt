@@ -32,7 +32,7 @@ fn read_late(alloc: Global, stale: bool, bytes: &[u8]) -> Result<(Outcome, &[u8]
         table,
         key,
     };
-    Ok((Outcome::Late(late), rest))
+    Ok((Outcome::of_late(alloc, late)?, rest))
 }
 
 /// Reads the text of a statement `fail`.
@@ -64,7 +64,7 @@ fn read_faulted(alloc: Global, bytes: &[u8]) -> Result<(Outcome, &[u8]), CodeFau
     ensures { Reads result (made_at outcome.Fault fault_at bytes.now) }
 {
     let (fault, rest) = read_fault(alloc, bytes)?;
-    Ok((Outcome::Fault(fault), rest))
+    Ok((Outcome::of_fault(alloc, fault)?, rest))
 }
 
 /// Reads a write conflict.
@@ -74,7 +74,8 @@ fn read_clash(alloc: Global, bytes: &[u8]) -> Result<(Outcome, &[u8]), CodeFault
     let (with, rest) = read_u32(bytes)?;
     let (table, rest) = read_u32(rest)?;
     let (key, rest) = read_key(alloc, rest)?;
-    Ok((Outcome::WriteConflict(Clash { with, table, key }), rest))
+    let clash = Clash { with, table, key };
+    Ok((Outcome::of_clash(alloc, clash)?, rest))
 }
 
 /// Reads the positions of a danger of the first form.
@@ -120,7 +121,7 @@ fn read_danger(alloc: Global, bytes: &[u8]) -> Result<(Outcome, &[u8]), CodeFaul
     ensures { Reads result (made_at outcome.Danger danger_at bytes.now) }
 {
     let (danger, rest) = read_form(alloc, bytes)?;
-    Ok((Outcome::Danger(danger), rest))
+    Ok((Outcome::of_danger(alloc, danger)?, rest))
 }
 
 /// Reads the outcome whose code stands at the start of the bytes, and answers what follows it too.

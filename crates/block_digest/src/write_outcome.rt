@@ -111,10 +111,10 @@ fn push_details(out: &mut Vec<u8>, outcome: &Outcome) -> Result<(), NoMemory>
     ensures { OnOk result (out.new.items ≡ out.old.items ++ outcome_details outcome.now) }
 {
     match outcome {
-        Outcome::Late(late) => push_late(out, late),
-        Outcome::Fault(fault) => push_fault(out, fault),
-        Outcome::WriteConflict(clash) => push_clash(out, clash),
-        Outcome::Danger(danger) => push_danger(out, danger),
+        Outcome::Late(late) => push_late(out, late.get()),
+        Outcome::Fault(fault) => push_fault(out, fault.get()),
+        Outcome::WriteConflict(clash) => push_clash(out, clash.get()),
+        Outcome::Danger(danger) => push_danger(out, danger.get()),
         _ => Ok(()),
     }
 }

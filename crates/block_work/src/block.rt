@@ -14,7 +14,7 @@ use node_model::{Committed, Outcome, Told};
 use proc_syntax::Block;
 use proc_syntax::run::Ran;
 use rel_base::{Id, NoMemory};
-use rw_graph::{EdgeSet, Edges};
+use rw_graph::{EdgeSet, Edges, room_for};
 use std::alloc::Global;
 
 /// A block whose transactions are decided one after another: its number and its time, the outcomes so far, and the transactions that
@@ -32,20 +32,21 @@ pub struct BlockInWork {
 }
 
 impl BlockInWork {
-    /// A block of which no transaction is decided.
+    /// A block of which no transaction is decided, with room for all of them where there is memory for it.
     pub fn new(alloc: Global, block: &Block) -> BlockInWork
         ensures number { result.number ≡ block.now.number }
         ensures time { result.time ≡ block.now.time }
         ensures work { work_of result ≡ no_work }
         ensures consistent { (tables : List TableDef) → IsConsistent tables result }
     {
+        let count = block.txs.len();
         BlockInWork {
             number: block.number,
             time: block.time,
-            outcomes: Vec::new(alloc),
-            committed: Vec::new(alloc),
-            directory: Directory::new(alloc),
-            edges: EdgeSet::new(alloc),
+            outcomes: room_for(alloc, count),
+            committed: room_for(alloc, count),
+            directory: Directory::with_room(alloc, count),
+            edges: EdgeSet::with_room(alloc, count),
         }
     }
 

@@ -34,13 +34,16 @@ fn late_outcome(alloc: Global, found: Option<LateRef<'_>>) -> Result<Option<Outc
 {
     match found {
         None => Ok(None),
-        Some(found) => Ok(Some(Outcome::Late(Late {
-            stale: found.hit.stale,
-            read: found.read,
-            place: found.hit.place,
-            table: found.table,
-            key: found.hit.key.copy(alloc)?,
-        }))),
+        Some(found) => {
+            let late = Late {
+                stale: found.hit.stale,
+                read: found.read,
+                place: found.hit.place,
+                table: found.table,
+                key: found.hit.key.copy(alloc)?,
+            };
+            Ok(Some(Outcome::of_late(alloc, late)?))
+        }
     }
 }
 
@@ -67,7 +70,7 @@ fn find_fault(alloc: Global, ending: &Ending) -> Result<Option<Outcome>, NoMemor
 {
     match ending {
         Ending::Good => Ok(None),
-        Ending::Faulted(fault) => Ok(Some(Outcome::Fault(fault.copy(alloc)?))),
+        Ending::Faulted(fault) => Ok(Some(Outcome::of_fault(alloc, fault.copy(alloc)?)?)),
         Ending::IllTyped => Ok(Some(Outcome::BadArguments)),
     }
 }
@@ -88,11 +91,14 @@ fn find_conflict(
         None => Ok(None),
         Some(found) => match writes.get(found.index) {
             None => Ok(None),
-            Some(write) => Ok(Some(Outcome::WriteConflict(Clash {
-                with: found.with,
-                table: write.table,
-                key: write.key.copy(alloc)?,
-            }))),
+            Some(write) => {
+                let clash = Clash {
+                    with: found.with,
+                    table: write.table,
+                    key: write.key.copy(alloc)?,
+                };
+                Ok(Some(Outcome::of_clash(alloc, clash)?))
+            }
         },
     }
 }
@@ -158,7 +164,7 @@ fn find_danger(
 }
 
 /// What is decided of a transaction by its edges, where nothing else aborts it: it commits unless it stands in a danger, with exact
-/// isolation or without. The only refusal is out of memory, with exact isolation alone.
+/// isolation or without. The only refusal is out of memory.
 pub fn judge_edges(
     alloc: Global,
     exact: bool,
@@ -175,7 +181,7 @@ pub fn judge_edges(
 {
     let edges = own_edges(tables, work, ran);
     match find_danger(alloc, exact, &work.edges, &edges)? {
-        Some(found) => Ok(Verdict::Aborts(Outcome::Danger(found))),
+        Some(found) => Ok(Verdict::Aborts(Outcome::of_danger(alloc, found)?)),
         None => Ok(Verdict::Commits(edges)),
     }
 }

@@ -13,11 +13,11 @@ ghost use Rattle.proc_syntax.specs.Limits.{most_transactions};
 use crate::clash::ClashRef;
 use crate::lookup::{marked_at_keys, marked_at_reads, marked_at_writes};
 use crate::marking::{grow, note_reads, note_writes};
-use crate::places::first_column;
+use crate::places::{ROW, first_column};
 use crate::walk::{clash_among, into_among, out_among};
 use node_model::Committed;
 use rel_base::{List, Made, NoMemory, TableDef, Write};
-use rw_graph::{Bits, Edges};
+use rw_graph::{Bits, Edges, room_for};
 use std::alloc::Global;
 
 /// What the committed transactions of one block read and wrote, as marks. Each group of 64 transactions has a row of words, in which a
@@ -43,6 +43,15 @@ fn column_with(marked: Option<u32>, reads: &[Made]) -> Option<u32>
     }
 }
 
+// How many words the marks of so many transactions take, of which those after 1,024 others have none.
+fn words_for(count: usize) -> usize {
+    if count < 1024 {
+        ROW * ((count + 63) / 64)
+    } else {
+        ROW * 16
+    }
+}
+
 impl Directory {
     /// The directory of no transaction.
     pub fn new(alloc: Global) -> Directory
@@ -51,6 +60,18 @@ impl Directory {
         Directory {
             writers: Vec::new(alloc),
             readers: Vec::new(alloc),
+            marked: None,
+        }
+    }
+
+    /// The directory of no transaction, with room for so many where there is memory for it.
+    pub fn with_room(alloc: Global, count: usize) -> Directory
+        ensures { IsDirectoryOf [] result }
+    {
+        let words = words_for(count);
+        Directory {
+            writers: room_for(alloc, words),
+            readers: room_for(alloc, words),
             marked: None,
         }
     }

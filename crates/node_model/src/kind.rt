@@ -86,7 +86,7 @@ impl Outcome {
             Outcome::FutureHeight => OutcomeKind::FutureHeight,
             Outcome::UnknownProcedure => OutcomeKind::UnknownProcedure,
             Outcome::BadArguments => OutcomeKind::BadArguments,
-            Outcome::Late(late) => late_kind(late.stale),
+            Outcome::Late(late) => late_kind(late.get().stale),
             Outcome::Fault(_) => OutcomeKind::Fault,
             Outcome::WriteConflict(_) => OutcomeKind::WriteConflict,
             Outcome::Danger(_) => OutcomeKind::Danger,

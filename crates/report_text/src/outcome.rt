@@ -148,10 +148,10 @@ fn push_details(out: &mut Text, tables: &[TableDef], outcome: &Outcome) -> Resul
     ensures { OnOk result (out.new ≡ out.old ++ details_text tables.now outcome.now) }
 {
     match outcome {
-        Outcome::Late(late) => push_late(out, tables, late),
-        Outcome::Fault(fault) => push_fault(out, fault),
-        Outcome::WriteConflict(clash) => push_clash(out, tables, clash),
-        Outcome::Danger(danger) => push_danger(out, danger),
+        Outcome::Late(late) => push_late(out, tables, late.get()),
+        Outcome::Fault(fault) => push_fault(out, fault.get()),
+        Outcome::WriteConflict(clash) => push_clash(out, tables, clash.get()),
+        Outcome::Danger(danger) => push_danger(out, danger.get()),
         _ => Ok(()),
     }
 }

@@ -10,6 +10,7 @@ pub mod edge_search;
 pub mod edge_set;
 pub mod edges;
 pub mod laws;
+pub mod room;
 pub mod word;
 
 pub use bits::Bits;
@@ -18,3 +19,4 @@ pub use dangers::danger;
 pub use edge_search::{edges_of, touches};
 pub use edge_set::EdgeSet;
 pub use edges::Edges;
+pub use room::room_for;

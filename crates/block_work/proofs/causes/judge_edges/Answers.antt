@@ -12,9 +12,10 @@ find_danger-requires-clause-out c = out_among c.args.tables.now c.args.work.now 
 pub find_danger-requires-clause-into : goal.find_danger-requires-clause-into
 find_danger-requires-clause-into c = into_among c.args.tables.now c.args.work.now c.args.ran.now c.own_edges-edges.result c.requires.consistent c.own_edges-edges.ensures.into
 
-pub returns-in-Some-clause-outcome : goal.returns-in-Some-clause-outcome
-returns-in-Some-clause-outcome c =
-    ap (λ found. or_committed (danger_outcome found))
+pub returns-in_ok-of_danger-in-Some-clause-outcome : goal.returns-in_ok-of_danger-in-Some-clause-outcome
+returns-in_ok-of_danger-in-Some-clause-outcome c =
+    c.in_ok-of_danger-in-Some.ensures
+    ∙ ap (λ found. or_committed (danger_outcome found))
     (sym c.in-Some.is ∙ c.in_ok-found.ensures.found
     ∙ danger_is c.args.tables.now c.args.work.now c.args.ran.now c.own_edges-edges.result c.requires.consistent c.args.exact c.own_edges-edges.ensures.out c.own_edges-edges.ensures.into)
 
