@@ -10,6 +10,7 @@ ghost use Rattle.node_model.specs.History.{SealedBlock};
 ghost use Rattle.proc_syntax.specs.Declaring.{tables_of};
 ghost use Rattle.proc_syntax.specs.Limits.{most_transactions};
 
+use crate::ahead::look_ahead;
 use crate::decide::{add, decide};
 use block_work::{BlockInWork, Chain, IdIndex};
 use proc_syntax::{Block, Tx};
@@ -76,6 +77,7 @@ fn decide_all<V: Versions>(
         → (work_of work.new ≡ work_through chain.now.app.value.app sealed work.old.number (work_of work.old) txs.now) × HasFirstPlaces ids.new sealed work.old.number work.new.outcomes.items) }
 {
     for tx in txs {
+        look_ahead(alloc, chain, txs, work.outcomes.len())?;
         decide_next(alloc, chain, ids, work, tx)?;
     }
     Ok(())

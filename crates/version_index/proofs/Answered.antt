@@ -28,7 +28,7 @@ use Rattle.version_index.specs.Chain.{IsFirst}
 use Rattle.version_index.specs.Hits.{TellsFirst}
 use Rattle.version_index.specs.Log.{InOrder}
 use Rattle.version_index.specs.Rows.{covered_row, rows_of_keys, write_of}
-use Rattle.version_index.specs.Span.{IsWantedBy, distinct, is_again, keys_in}
+use Rattle.version_index.specs.Span.{IsWantedBy, keys_in}
 use Rattle.version_index.specs.View.{IsAsked, history_in, hit_told}
 use Rattle.version_index.specs.declared.view.TableView.{TableView}
 use Rattle.version_index.proofs.Distinct.{found_among}
@@ -89,38 +89,27 @@ point_row def view key height read is asked =
 
 -- the rows of keys among which are all that a span wants are what it gets
 pub span_rows : (def : TableDef) (view : TableView) (column : ℕ) (low high : Option Value) (height : ℕ) (read : Read) (found : List (Bor (List Value) × Option ℕ)) → read ≡ Span view.table column low high → IsAsked def read view
-    → IsStrictlySortedBy key_cmp (distinct None (keys_in found)) → ((key : List Value) → IsWantedBy view column low high height key → has_key found key ≡ true)
-    → rows_of_keys def read (tables_at height (history_in view)) view.table (distinct None (keys_in found)) ≡ rows def read (tables_at height (history_in view))
+    → IsStrictlySortedBy key_cmp (keys_in found) → ((key : List Value) → IsWantedBy view column low high height key → has_key found key ≡ true)
+    → rows_of_keys def read (tables_at height (history_in view)) view.table (keys_in found) ≡ rows def read (tables_at height (history_in view))
 span_rows def view column low high height read found is asked rise all =
     let tables = tables_at height (history_in view) in
-    subst (λ r. rows_of_keys def r tables view.table (distinct None (keys_in found)) ≡ rows def r tables) (sym is)
-    (rows_of_all def (Span view.table column low high) tables (distinct None (keys_in found)) rise among)
+    subst (λ r. rows_of_keys def r tables view.table (keys_in found) ≡ rows def r tables) (sym is)
+    (rows_of_all def (Span view.table column low high) tables (keys_in found) rise among)
   where
-    among : AllAmong def (Span view.table column low high) (tables_at height (history_in view)) (distinct None (keys_in found))
+    among : AllAmong def (Span view.table column low high) (tables_at height (history_in view)) (keys_in found)
     among q seen there read_it =
         let want = wanted def view column low high (subst (λ r. IsAsked def r view) is asked) height q seen there read_it in
         let inside = found_among def (Span view.table column low high) (tables_at height (history_in view)) q.1 found (all q.1 want.1) in
         let back : view.table ≡ q.0 = sym want.0 in
-        ap (λ t. among_keys def (Span view.table column low high) (tables_at height (history_in view)) (t, q.1) (distinct None (keys_in found))) (sym back) ∙ inside
+        ap (λ t. among_keys def (Span view.table column low high) (tables_at height (history_in view)) (t, q.1) (keys_in found)) (sym back) ∙ inside
 
 -- ---- rows of keys that are gone through
 
-module _ (def : TableDef) (read : Read) (tables : Tables) (table : ℕ) where
-  -- the rows of keys that stand each once
-  abbrev pub rows_of : Option (List Value) → List (List Value) → List Seen
-  rows_of last keys = rows_of_keys def read tables table (distinct last keys)
-
-  -- a key that stands again has no rows of its own
-  pub gather_again : (made whole : List Seen) (last : Option (List Value)) (key : List Value) (keys : List (List Value)) → is_again last key ≡ true → made ++ rows_of last (key ∷ keys) ≡ whole → made ++ rows_of last keys ≡ whole
-  gather_again made whole last key keys again is =
-      ap (λ b. made ++ rows_of_keys def read tables table (cond b (distinct last keys) (key ∷ distinct (Some key) keys))) (sym again) ∙ is
-
-  -- a new key has its row
-  pub gather_new : (made new whole : List Seen) (last : Option (List Value)) (key : List Value) (keys : List (List Value)) → is_again last key ≡ false → new ≡ made ++ covered_row def read (get tables (table, key))
-      → made ++ rows_of last (key ∷ keys) ≡ whole → new ++ rows_of (Some key) keys ≡ whole
-  gather_new made new whole last key keys apart more is =
-      ap (λ xs. xs ++ rows_of (Some key) keys) more ∙ append_assoc made (covered_row def read (get tables (table, key))) (rows_of (Some key) keys)
-      ∙ ap (λ b. made ++ rows_of_keys def read tables table (cond b (distinct last keys) (key ∷ distinct (Some key) keys))) (sym apart) ∙ is
+-- one more key has its row
+pub gather : (def : TableDef) (read : Read) (tables : Tables) (table : ℕ) (made new whole : List Seen) (key : List Value) (keys : List (List Value)) → new ≡ made ++ covered_row def read (get tables (table, key))
+    → made ++ rows_of_keys def read tables table (key ∷ keys) ≡ whole → new ++ rows_of_keys def read tables table keys ≡ whole
+gather def read tables table made new whole key keys more is =
+    ap (λ xs. xs ++ rows_of_keys def read tables table keys) more ∙ append_assoc made (covered_row def read (get tables (table, key))) (rows_of_keys def read tables table keys) ∙ is
 
 -- ---- hits
 

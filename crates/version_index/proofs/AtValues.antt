@@ -1,18 +1,14 @@
--- What becomes of the slots and of the numbers at each value when those at one value change.
-use Rattle.std.proofs.Common.{◌≡◌, ◌∙◌, ℕ, ◌<◌, List, [], ◌∷◌, ◌++◌, Bool, true, false, ◌&&◌, ◌||◌, ◌==◌, cond, Option, Some, None, refl, ap, subst, sym}
+-- What becomes of the slots at each value when those at one value change.
+use Rattle.std.proofs.Common.{◌≡◌, ◌∙◌, ℕ, List, Bool, true, false, ◌&&◌, ◌==◌, cond, Option, Some, None, refl, ap, sym}
 use Rattle.std.specs.BTreeMap.{is_at}
 use Rattle.std.specs.BTreeSet.{BTreeSet}
 use Rattle.std.specs.Cmp.{eq_by_cmp_equiv, tied_itself}
 use Rattle.std.specs.Map.{lookup}
-use Rattle.std.specs.Option.{IsSomeAnd}
 use Rattle.std.specs.Ordering.{is_eq}
-use Rattle.std.specs.Vec.{vec_capacity, vec_len}
-use Rattle.std.specs.declared.alloc.Global.{Global}
-use Rattle.std.specs.declared.vec.Vec.{Vec}
 use Rattle.rel_base.specs.declared.value.Value.{Value}
 use Rattle.rel_base.specs.Value.{value_cmp, value_cmp-exact, value_cmp-total, value_eq}
 use Rattle.rel_base.proofs.Bits.{is_Equal, no_both}
-use Rattle.version_index.specs.Columns.{HasRoomAt, has_in, has_slot, items_in, touched_at}
+use Rattle.version_index.specs.Columns.{has_in, has_slot}
 
 -- values that are one in the order are one
 pub same_value : (a b : Value) → value_eq a b ≡ true → a ≡ b
@@ -98,41 +94,3 @@ slots_absent old value slot there v s =
     either : (b : Bool) → cond b false false ≡ false
     either true = refl
     either false = refl
-
--- ---- numbers by values
-
-module _ (old new : List (Value × Vec ℕ Global)) (value : Value) where
-  -- the numbers at each value, where those at the one that changed are the same
-  pub touched_same : (was now : Option (Vec ℕ Global)) → lookup (is_at (value_cmp value)) old ≡ was → SetAt old new value now → items_in now ≡ items_in was → (v : Value) → touched_at new v ≡ touched_at old v
-  touched_same was now there sets same v =
-      told_at items_in old new value now sets v ∙ elim (value_eq v value) as (λ b. value_eq v value ≡ b → cond b (items_in now) (touched_at old v) ≡ touched_at old v) [
-        | true ↦ λ tied. same ∙ ap items_in (sym (had_at old value was v there tied))
-        | false ↦ λ apart. refl
-      ] refl
-
-  -- one number more at the value that changed
-  pub touched_more : (was now : Vec ℕ Global) (number : ℕ) → lookup (is_at (value_cmp value)) old ≡ Some was → SetAt old new value (Some now) → now.items ≡ was.items ++ number ∷ []
-      → (v : Value) → touched_at new v ≡ cond (value_eq v value) (touched_at old v ++ number ∷ []) (touched_at old v)
-  touched_more was now number there sets more v =
-      told_at items_in old new value (Some now) sets v
-      ∙ elim (value_eq v value) as (λ b. value_eq v value ≡ b → cond b now.items (touched_at old v) ≡ cond b (touched_at old v ++ number ∷ []) (touched_at old v)) [
-        | true ↦ λ tied. more ∙ ap (λ found. items_in found ++ number ∷ []) (sym (had_at old value (Some was) v there tied))
-        | false ↦ λ apart. refl
-      ] refl
-
-  -- room at another value is there still
-  pub room_apart : (now : Option (Vec ℕ Global)) → SetAt old new value now → (v : Value) → value_eq v value ≡ false → HasRoomAt old v → HasRoomAt new v
-  room_apart now sets v apart room =
-      subst (λ found. IsSomeAnd found (λ numbers. vec_len numbers < vec_capacity numbers)) (sym (sets v ∙ ap (λ b. cond b now (lookup (is_at (value_cmp v)) old)) (turned value v ∙ apart))) room
-
-  -- and at each value, where the one that changed has it still
-  pub room_kept : (was now : Vec ℕ Global) → lookup (is_at (value_cmp value)) old ≡ Some was → SetAt old new value (Some now) → (vec_len was < vec_capacity was → vec_len now < vec_capacity now)
-      → (v : Value) → HasRoomAt old v → HasRoomAt new v
-  room_kept was now there sets kept v room = go (value_eq v value) refl
-    where
-      go : (b : Bool) → value_eq v value ≡ b → HasRoomAt new v
-      go false apart = room_apart (Some now) sets v apart room
-      go true tied =
-          let here : lookup (is_at (value_cmp v)) new ≡ Some now = sets v ∙ ap (λ b. cond b (Some now) (lookup (is_at (value_cmp v)) old)) (turned value v ∙ tied) in
-          subst (λ found. IsSomeAnd found (λ numbers. vec_len numbers < vec_capacity numbers)) (sym here)
-          (kept (subst (λ found. IsSomeAnd found (λ numbers. vec_len numbers < vec_capacity numbers)) (had_at old value (Some was) v there tied) room))

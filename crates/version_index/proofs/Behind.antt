@@ -52,6 +52,7 @@ module _ (history more : List Stamped) (noted : ℕ) (within : noted ≤ length 
       record {
         living = λ key slot value own here. is.living key slot value own (ap (λ xs. has value (cell column.column (left_at (table, key) xs))) (sym front) ∙ here);
         touched = λ value. is.touched value ∙ passing_alike (touches_at table column.column value history) (touches_at table column.column value (history ++ more)) noted (touches_front table column.column value);
+        listed = is.listed;
       }
 
   pub index_behind : (table : ℕ) (index : TableIndex) → IsIndex table history noted index → IsIndex table (history ++ more) noted index

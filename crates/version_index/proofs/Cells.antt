@@ -3,13 +3,12 @@ use Rattle.std.proofs.Common.{◌≡◌, ◌∙◌, ℕ, List, [], ◌∷◌, �
 use Rattle.std.specs.BTreeSet.{BTreeSet}
 use Rattle.std.specs.Cmp.{tied_itself}
 use Rattle.std.specs.Ordering.{is_eq}
-use Rattle.std.specs.declared.alloc.Global.{Global}
-use Rattle.std.specs.declared.vec.Vec.{Vec}
 use Rattle.rel_base.specs.declared.value.Value.{Value}
 use Rattle.rel_base.specs.Value.{value_cmp-total, value_eq}
 use Rattle.rel_base.proofs.Bits.{first_true, no_both, second_true}
 use Rattle.version_index.specs.Columns.{HasRoomAt, IsHeld, IsRoomy, IsSameColumn, has, has_same, has_slot}
 use Rattle.version_index.specs.declared.column.ColumnIndex.{ColumnIndex}
+use Rattle.version_index.specs.declared.touched.Touched.{Touched}
 use Rattle.version_index.proofs.AtValues.{same_value}
 
 -- a value is one with itself
@@ -35,14 +34,14 @@ unless_other v (Some value) other apart =
     ] refl
 
 -- room at a value is room at each that is one with it
-pub roomy_one : (touched : List (Value × Vec ℕ Global)) (value : Value) → HasRoomAt touched value → IsRoomy touched (Some value)
+pub roomy_one : (touched : Touched) (value : Value) → HasRoomAt touched value → IsRoomy touched (Some value)
 roomy_one touched value room v tied = subst (HasRoomAt touched) (sym (same_value v value tied)) room
 
-pub roomy_none : (touched : List (Value × Vec ℕ Global)) → IsRoomy touched None
+pub roomy_none : (touched : Touched) → IsRoomy touched None
 roomy_none touched v never = cc
 
 -- room at a value is there, where it is at another one, and at the first unless it is one with the other
-pub roomy_unless : (touched : List (Value × Vec ℕ Global)) (row other left : Option Value) → ((v : Value) → has v left ≡ (has v row && not (has v other))) → IsRoomy touched other → IsRoomy touched left → IsRoomy touched row
+pub roomy_unless : (touched : Touched) (row other left : Option Value) → ((v : Value) → has v left ≡ (has v row && not (has v other))) → IsRoomy touched other → IsRoomy touched left → IsRoomy touched row
 roomy_unless touched row other left parts at_other at_left v there = go (has v other) refl
   where
     go : (b : Bool) → has v other ≡ b → HasRoomAt touched v
@@ -105,7 +104,7 @@ gone_apart found (Some x) (Some w) parts some v now =
 -- ---- columns that tell the same
 
 pub same_column : (column : ColumnIndex) → IsSameColumn column column
-same_column column = record { column = refl; living = λ value slot had. had; touched = λ value. refl }
+same_column column = record { column = refl; living = λ value slot had. had; touched = λ value. refl; listed = λ are. are }
 
 pub same_twice : (one two three : ColumnIndex) → IsSameColumn one two → IsSameColumn two three → IsSameColumn one three
 same_twice one two three first second =
@@ -113,4 +112,5 @@ same_twice one two three first second =
       column = second.column ∙ first.column;
       living = λ value slot had. second.living value slot (first.living value slot had);
       touched = λ value. second.touched value ∙ first.touched value;
+      listed = λ are. second.listed (first.listed are);
     }

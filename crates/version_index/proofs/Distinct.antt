@@ -1,5 +1,5 @@
 -- Keys that stand in order, each once.
-use Rattle.std.proofs.Common.{◌≡◌, ◌∙◌, ℕ, suc, ◌+◌, List, [], ◌∷◌, Bool, true, false, ◌||◌, ◌⊎◌, inl, inr, All, cond, Option, Some, None, refl, ap, sym, subst, arith, map, slice_index_or}
+use Rattle.std.proofs.Common.{◌≡◌, ◌∙◌, ℕ, suc, ◌+◌, List, [], ◌∷◌, ◌++◌, append_assoc, Bool, true, false, ◌||◌, ◌⊎◌, inl, inr, All, cond, Option, Some, None, refl, ap, sym, subst, arith, map, slice_index_or}
 use Rattle.std.specs.Bool.{⊤}
 use Rattle.std.specs.Borrow.{Bor}
 use Rattle.std.specs.Cmp.{nat_cmp_total, tied_itself, upto}
@@ -16,9 +16,9 @@ use Rattle.rel_base.specs.Access.{read_table}
 use Rattle.rel_base.specs.declared.access.Read.{Read}
 use Rattle.rel_base.specs.declared.schema.TableDef.{TableDef}
 use Rattle.rel_base.specs.declared.value.Value.{Value}
-use Rattle.rel_base.proofs.Bits.{either, no_both, or_left, or_right}
+use Rattle.rel_base.proofs.Bits.{either, first_true, no_both, or_left, or_right, second_true}
 use Rattle.version_index.specs.Candidates.{has_key}
-use Rattle.version_index.specs.Span.{distinct, is_again, keys_in}
+use Rattle.version_index.specs.Span.{are_rising, distinct, is_above, is_again, keys_in}
 use Rattle.version_index.proofs.KeyRows.{among_keys}
 use Rattle.version_index.proofs.Keys.{key_itself, same_key}
 
@@ -83,6 +83,43 @@ unfolding IsStrictlySortedBy
 distinct_rises [] rises = tt
 distinct_rises (key ∷ keys) rises = let rest = distinct_behind key keys rises.0 rises.1 in (rest.1, rest.0)
 
+-- ---- in order as they are
+
+above_less : (o : Ordering) → is_lt o ≡ true → o ≡ Less
+above_less Less up = refl
+above_less Equal up = cc
+above_less Greater up = cc
+
+rising_behind : (last : List Value) (keys : List (List Value)) → are_rising (Some last) keys ≡ true → IsStrictlySortedBy key_cmp keys × Behind last keys
+unfolding IsStrictlySortedBy
+rising_behind last [] rising = (tt, tt)
+rising_behind last (key ∷ keys) rising =
+    let less = above_less (key_cmp last key) (first_true (is_above (Some last) key) (are_rising (Some key) keys) rising) in
+    let rest = rising_behind key keys (second_true (is_above (Some last) key) (are_rising (Some key) keys) rising) in
+    ((rest.1, rest.0), (less, behind_less last key keys less rest.1))
+
+-- keys of which each stands after the one before it
+pub rising_sorted : (keys : List (List Value)) → are_rising None keys ≡ true → IsStrictlySortedBy key_cmp keys
+unfolding IsStrictlySortedBy
+rising_sorted [] rising = tt
+rising_sorted (key ∷ keys) rising = let rest = rising_behind key keys rising in (rest.1, rest.0)
+
+-- ---- kept each once
+
+pub keys_push : (found : List (Bor (List Value) × Option ℕ)) (c : Bor (List Value) × Option ℕ) → keys_in (found ++ c ∷ []) ≡ keys_in found ++ c.0.now ∷ []
+keys_push [] c = refl
+keys_push (d ∷ found) c = ap (λ keys. d.0.now ∷ keys) (keys_push found c)
+
+-- a key that stands again is not kept
+pub kept_again : (made whole : List (List Value)) (last : Option (List Value)) (key : List Value) (keys : List (List Value)) → is_again last key ≡ true → made ++ distinct last (key ∷ keys) ≡ whole → made ++ distinct last keys ≡ whole
+kept_again made whole last key keys again is = ap (λ b. made ++ cond b (distinct last keys) (key ∷ distinct (Some key) keys)) (sym again) ∙ is
+
+-- a new one is
+pub kept_new : (made whole : List (List Value)) (last : Option (List Value)) (key : List Value) (keys : List (List Value)) → is_again last key ≡ false → made ++ distinct last (key ∷ keys) ≡ whole
+    → (made ++ key ∷ []) ++ distinct (Some key) keys ≡ whole
+kept_new made whole last key keys apart is =
+    append_assoc made (key ∷ []) (distinct (Some key) keys) ∙ ap (λ b. made ++ cond b (distinct last keys) (key ∷ distinct (Some key) keys)) (sym apart) ∙ is
+
 -- ---- none is lost
 
 -- whether a key is one of some
@@ -120,14 +157,18 @@ has_among def read tables key keys is = same keys ∙ is
     same [] = refl
     same (k ∷ ks) = (λ i. one k i || same ks i)
 
--- a key that was found is among those that stand each once
+-- a key that was found is among the keys
 pub found_among : (def : TableDef) (read : Read) (tables : Tables) (key : List Value) (found : List (Bor (List Value) × Option ℕ)) → has_key found key ≡ true
-    → among_keys def read tables (read_table read, key) (distinct None (keys_in found)) ≡ true
-found_among def read tables key found is = go (distinct_has None key (keys_in found) (sym (found_has key found) ∙ is))
+    → among_keys def read tables (read_table read, key) (keys_in found) ≡ true
+found_among def read tables key found is = has_among def read tables key (keys_in found) (sym (found_has key found) ∙ is)
+
+-- and among those that are kept, where each is kept once
+pub kept_has : (key : List Value) (found kept : List (Bor (List Value) × Option ℕ)) → keys_in kept ≡ distinct None (keys_in found) → has_key found key ≡ true → has_key kept key ≡ true
+kept_has key found kept same is = found_has key kept ∙ ap (has key) same ∙ go (distinct_has None key (keys_in found) (sym (found_has key found) ∙ is))
   where
-    go : (is_again None key ≡ true) ⊎ (has key (distinct None (keys_in found)) ≡ true) → among_keys def read tables (read_table read, key) (distinct None (keys_in found)) ≡ true
+    go : (is_again None key ≡ true) ⊎ (has key (distinct None (keys_in found)) ≡ true) → has key (distinct None (keys_in found)) ≡ true
     go (inl again) = cc
-    go (inr inside) = has_among def read tables key (distinct None (keys_in found)) inside
+    go (inr inside) = inside
 
 -- ---- what a sort leaves
 

@@ -16,7 +16,7 @@ use Rattle.row_sets.proofs.Histories.{fits_next, unwrapped}
 use Rattle.row_sets.specs.Log.{history_of, stamped_of}
 use Rattle.row_sets.specs.declared.entry.LogEntry.{LogEntry}
 use Rattle.version_index.specs.Chains.{AreChains, lists_in, lists_of, numbers_at, slot_by, slot_in, slot_of}
-use Rattle.version_index.specs.Columns.{IsColumn, touched_at}
+use Rattle.version_index.specs.Columns.{IsColumn, place_in}
 use Rattle.version_index.specs.Index.{AreNoted, HasColumns, IsEmptyColumn, IsEmptyIndex, IsIndex, columns_in, index_columns}
 use Rattle.version_index.specs.Kept.{IsStore}
 use Rattle.version_index.specs.Log.{InOrder}
@@ -147,7 +147,13 @@ module _ (table : ℕ) (index : TableIndex) (empty : IsEmptyIndex index) where
   empty_column column none =
       record {
         living = λ key slot value is has. absurd (some_slot key slot is);
-        touched = λ value. ap (λ es. touched_at es value) none.1;
+        touched = λ value. ap (λ es. numbers_at (lists_in column.touched.lists.items) (place_in es value)) none.1;
+        listed =
+            record {
+              own = λ value place is. absurd (no_both (is_some (place_in column.touched.places.entries value)) (ap is_some is) (ap (λ es. is_some (place_in es value)) none.1));
+              keyed = λ value place is. absurd (no_both (is_some (slice_get column.touched.values.items place)) (ap is_some is) (ap (λ values. is_some (slice_get values place)) none.2));
+              long = ap length none.3 ∙ sym (ap length none.2);
+            };
       }
 
   pub empty_index : IsIndex table [] 0 index

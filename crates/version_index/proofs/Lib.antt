@@ -8,6 +8,7 @@ pub mod LeastHits
 pub mod Ended
 pub mod AtValues
 pub mod Slots
+pub mod Listed
 pub mod Cells
 pub mod Adding
 pub mod Keys

@@ -5,8 +5,6 @@ use Rattle.std.specs.BTreeSet.{BTreeSet}
 use Rattle.std.specs.List.Sorted.{IsStrictlySortedBy}
 use Rattle.std.specs.Map.{keys_of, lookup}
 use Rattle.std.specs.Ordering.{is_eq, nat_cmp}
-use Rattle.std.specs.declared.alloc.Global.{Global}
-use Rattle.std.specs.declared.vec.Vec.{Vec}
 use Rattle.std.specs.declared.ops.Bound.{Bound}
 use Rattle.std.specs.BTreeMap.Range.{range_contains}
 use Rattle.std.specs.List.{filter}
@@ -17,12 +15,13 @@ use Rattle.rel_base.specs.Value.{key_cmp, key_cmp-exact, value_cmp, value_cmp-ex
 use Rattle.rel_base.specs.declared.value.Value.{Value}
 use Rattle.rel_base.proofs.Bits.{is_Equal}
 use Rattle.version_index.specs.Candidates.{HasSlot, IsBetween, IsAtBetween, IsAtOne, IsListedAbove, IsTouchedAbove, StandsBetween, end_of}
-use Rattle.version_index.specs.Chains.{lists_of, numbers_at, slot_in}
+use Rattle.version_index.specs.Chains.{lists_in, lists_of, numbers_at, slot_in}
 use Rattle.version_index.specs.Hits.{IsNumberBetween}
-use Rattle.version_index.specs.Columns.{IsColumn, has_in, items_in, touched_at, touches_at}
+use Rattle.version_index.specs.Columns.{IsColumn, has_in, list_of, place_of, touched_at, touches_at}
 use Rattle.version_index.specs.Numbers.{ArePassing}
 use Rattle.version_index.specs.declared.chains.Chains.{Chains}
 use Rattle.version_index.specs.declared.column.ColumnIndex.{ColumnIndex}
+use Rattle.version_index.specs.declared.touched.Touched.{Touched}
 use Rattle.version_index.specs.View.{history_in}
 use Rattle.version_index.specs.declared.view.TableView.{TableView}
 use Rattle.version_index.proofs.Adding.{ByOne}
@@ -75,29 +74,29 @@ by_slots chains slots low high number (key, slot, there, between, inside) = (
 -- ---- the numbers at values
 
 -- a number at a value between two ends is among the entries between them
-pub by_numbers : (touched : List (Value × Vec ℕ Global)) (low high : Option Value) (value : Value) (number : ℕ) → IsBetween low high value → Contains (touched_at touched value) number
-    → ByOne (filter (λ e. range_contains value_cmp (end_of low) (end_of high) e.0) touched) (λ e n. Contains e.1.items n) number
-by_numbers touched low high value number between inside = go (lookup (is_at (value_cmp value)) touched) refl inside
+pub by_numbers : (touched : Touched) (low high : Option Value) (value : Value) (number : ℕ) → IsBetween low high value → Contains (touched_at touched value) number
+    → ByOne (filter (λ e. range_contains value_cmp (end_of low) (end_of high) e.0) touched.places.entries) (λ e n. Contains (list_of touched e.1) n) number
+by_numbers touched low high value number between inside = go (place_of touched value) refl inside
   where
-    go : (found : Option (Vec ℕ Global)) → lookup (is_at (value_cmp value)) touched ≡ found → Contains (items_in found) number
-        → ByOne (filter (λ e. range_contains value_cmp (end_of low) (end_of high) e.0) touched) (λ e n. Contains e.1.items n) number
+    go : (found : Option ℕ) → place_of touched value ≡ found → Contains (numbers_at (lists_in touched.lists.items) found) number
+        → ByOne (filter (λ e. range_contains value_cmp (end_of low) (end_of high) e.0) touched.places.entries) (λ e n. Contains (list_of touched e.1) n) number
     go None there inside = let below = inside.1 in absurd (omega (arith, below))
-    go (Some numbers) there inside = (
-      (value, numbers),
-      passes_filter (λ e. range_contains value_cmp (end_of low) (end_of high) e.0) touched (value, numbers)
-          (Contains-from_lookup (λ x y tied. value_cmp-exact x y (is_Equal (value_cmp x y) tied)) value numbers touched there) (in_range low high value between),
+    go (Some place) there inside = (
+      (value, place),
+      passes_filter (λ e. range_contains value_cmp (end_of low) (end_of high) e.0) touched.places.entries (value, place)
+          (Contains-from_lookup (λ x y tied. value_cmp-exact x y (is_Equal (value_cmp x y) tied)) value place touched.places.entries there) (in_range low high value between),
       inside,
     )
 
 -- the numbers of an entry between two ends that stands after others are those of the noted writes that touched its value
-pub numbers_pass : (table : ℕ) (history : List Stamped) (noted : ℕ) (chains : Chains) (column : ColumnIndex) → IsColumn table history noted chains column → (p : Value × Vec ℕ Global → Bool) (done rest left all : List (Value × Vec ℕ Global)) (e : Value × Vec ℕ Global)
-    → IsStrictlySortedBy value_cmp (keys_of column.touched.entries) → done ++ left ≡ all → all ≡ filter p column.touched.entries → left ≡ e ∷ rest → ArePassing noted e.1.items
+pub numbers_pass : (table : ℕ) (history : List Stamped) (noted : ℕ) (chains : Chains) (column : ColumnIndex) → IsColumn table history noted chains column → (p : Value × ℕ → Bool) (done rest left all : List (Value × ℕ)) (e : Value × ℕ)
+    → IsStrictlySortedBy value_cmp (keys_of column.touched.places.entries) → done ++ left ≡ all → all ≡ filter p column.touched.places.entries → left ≡ e ∷ rest → ArePassing noted (list_of column.touched e.1)
 numbers_pass table history noted chains column is p done rest left all e rise whole kept next =
-    (touches_at table column.column e.0 history, sym (ap items_in (found_next value_cmp value_cmp-total column.touched.entries p done rest left all e rise whole kept next)) ∙ is.touched e.0)
+    (touches_at table column.column e.0 history, sym (ap (numbers_at (lists_in column.touched.lists.items)) (found_next value_cmp value_cmp-total column.touched.places.entries p done rest left all e rise whole kept next)) ∙ is.touched e.0)
 
 -- a key of a write that touched a value is one of the writes of the numbers at it
 pub listed_at : (view : TableView) (column : ColumnIndex) (value : Value) (height : ℕ) (key : List Value) → IsColumn view.table (history_in view) view.noted view.index.now.chains column
-    → IsTouchedAbove view column.column value height key → IsListedAbove view (touched_at column.touched.entries value) height key
+    → IsTouchedAbove view column.column value height key → IsListedAbove view (touched_at column.touched value) height key
 listed_at view column value height key is above = (
   above.0,
   above.1,
@@ -108,8 +107,8 @@ listed_at view column value height key is above = (
 )
 
 -- and of one of the entries between two ends, where the value lies there
-pub by_listed : (view : TableView) (column : ColumnIndex) (low high : Option Value) (value : Value) (height : ℕ) (key : List Value) → IsBetween low high value → IsListedAbove view (touched_at column.touched.entries value) height key
-    → ByOne (filter (λ e. range_contains value_cmp (end_of low) (end_of high) e.0) column.touched.entries) (λ e k. IsListedAbove view e.1.items height k) key
+pub by_listed : (view : TableView) (column : ColumnIndex) (low high : Option Value) (value : Value) (height : ℕ) (key : List Value) → IsBetween low high value → IsListedAbove view (touched_at column.touched value) height key
+    → ByOne (filter (λ e. range_contains value_cmp (end_of low) (end_of high) e.0) column.touched.places.entries) (λ e k. IsListedAbove view (list_of column.touched e.1) height k) key
 by_listed view column low high value height key between above =
-    let found = by_numbers column.touched.entries low high value above.0 between above.2 in
+    let found = by_numbers column.touched low high value above.0 between above.2 in
     (found.0, found.1, (above.0, above.1, found.2, above.3, above.4, above.5))

@@ -44,6 +44,7 @@ module _ (table : ℕ) (history : List Stamped) (noted : ℕ) where
         living = λ key slot value own here.
             same.living value slot (is.living key slot value own (ap (λ column. has value (cell column (left_at (table, key) (take noted history)))) (sym same.column) ∙ here));
         touched = λ value. same.touched value ∙ is.touched value ∙ ap (λ column. passing (touches_at table column value history) noted) (sym same.column);
+        listed = same.listed is.listed;
       }
 
   pub column_with : (old new : Chains) → IsSame old new → (column : ColumnIndex) → IsColumn table history noted old column → IsColumn table history noted new column
@@ -51,6 +52,7 @@ module _ (table : ℕ) (history : List Stamped) (noted : ℕ) where
       record {
         living = λ key slot value own here. is.living key slot value (sym (slot_stays old new same key) ∙ own) here;
         touched = is.touched;
+        listed = is.listed;
       }
 
 module _ (table : ℕ) (history : List Stamped) (number : ℕ) (stamped : Stamped) (there : slice_get history number ≡ Some stamped) where
@@ -125,14 +127,14 @@ module _ (table : ℕ) (history : List Stamped) (number : ℕ) (stamped : Stampe
       more_if true xs = refl
       more_if false xs = sym (append-nil xs)
 
-      touched_next : (value : Value) → touched_at two.touched.entries value ≡ passing (touches_at table two.column value history) (suc number)
+      touched_next : (value : Value) → touched_at two.touched value ≡ passing (touches_at table two.column value history) (suc number)
       touched_next value =
-          more.touched value ∙ more_if (has value (cell one.column found) || has value (cell one.column stamped.1.write.before) || has value (cell one.column stamped.1.write.after)) (touched_at one.touched.entries value)
+          more.touched value ∙ more_if (has value (cell one.column found) || has value (cell one.column stamped.1.write.before) || has value (cell one.column stamped.1.write.after)) (touched_at one.touched value)
           ∙ (λ i. is.touched value i ++ cond (sym (touch_is one.column value) i) (number ∷ []) [])
           ∙ ap (λ column. passing (touches_at table column value history) (suc number)) (sym more.column)
 
       pub column_next : IsColumn table history (suc number) new two
-      column_next = record { living = living_next; touched = touched_next }
+      column_next = record { living = living_next; touched = touched_next; listed = more.listed }
 
   -- ---- a write of another table
 
@@ -145,6 +147,7 @@ module _ (table : ℕ) (history : List Stamped) (number : ℕ) (stamped : Stampe
         touched = λ value.
             is.touched value ∙ sym (append-nil (passing (touches_at table column.column value history) number))
             ∙ ap (λ b. passing (touches_at table column.column value history) number ++ cond b (number ∷ []) []) (sym (none column.column value));
+        listed = is.listed;
       }
     where
       none : (c : ℕ) (value : Value) → touches_at table c value history number ≡ false

@@ -1,5 +1,5 @@
 -- Walks back along the writes on a key.
-use Rattle.std.proofs.Common.{◌≡◌, ◌∙◌, ℕ, ◌<◌, ◌≤◌, ◌⊎◌, inl, inr, List, [], ◌∷◌, ◌++◌, Bool, true, false, cond, Option, Some, None, IfSome, refl, ap, sym, subst, arith, length, nat_le, slice_get, take}
+use Rattle.std.proofs.Common.{◌≡◌, ◌∙◌, ℕ, suc, drop, ◌&&◌, ◌<◌, ◌≤◌, ◌⊎◌, inl, inr, List, [], ◌∷◌, ◌++◌, Bool, true, false, cond, Option, Some, None, IfSome, refl, ap, sym, subst, arith, length, nat_le, slice_get, take}
 use Rattle.std.specs.Option.{IsSomeAnd, option_map}
 use Rattle.std.proofs.lemmas.Bool.Decides.{nat_tests}
 use Rattle.std.proofs.lemmas.List.{length-map}
@@ -8,7 +8,7 @@ use Rattle.rel_base.specs.Tables.{Stamped}
 use Rattle.rel_base.specs.declared.value.Value.{Value}
 use Rattle.row_sets.specs.Log.{history_of, stamped_of}
 use Rattle.row_sets.specs.declared.entry.LogEntry.{LogEntry}
-use Rattle.version_index.specs.Chain.{IsFirst, IsLast, IsLastFrom, is_late, is_on}
+use Rattle.version_index.specs.Chain.{IsFirst, IsLast, IsLastFrom, is_late, is_on, is_seen}
 use Rattle.version_index.specs.Log.{InOrder}
 use Rattle.version_index.specs.Numbers.{lesser, passes_at, passing}
 use Rattle.version_index.specs.View.{IsBack, history_in, noted_below}
@@ -129,6 +129,22 @@ module _ (entries : List LogEntry) (ref : ℕ × List Value) where
       let below = below_of_get P number (history_of entries) (subst (λ found. IsSomeAnd found P) (get_of_part P part number (history_of entries) last.0) last.0) in
       let same = length-map entries stamped_of in
       omega (arith, below, same)
+
+  pub last_below : (number : ℕ) → IsLast (is_on ref) (history_of entries) (Some number) → number < length entries
+  last_below number last =
+      let below = below_of_get (λ s. is_on ref s ≡ true) number (history_of entries) last.0 in
+      let same = length-map entries stamped_of in
+      omega (arith, below, same)
+
+  -- where the last write on the key is in no block above a height, it is the last of those up to it
+  pub last_is_seen : (height number : ℕ) (entry : LogEntry) → slice_get entries number ≡ Some entry → entry.block ≤ height → IsLast (is_on ref) (history_of entries) (Some number) → IsLast (is_seen ref height) (history_of entries) (Some number)
+  last_is_seen height number entry there low last =
+      let here = get_history entries number entry there in
+      let on : is_on ref (stamped_of entry) ≡ true = subst (λ found. IsSomeAnd found (λ s. is_on ref s ≡ true)) here last.0 in
+      let seen : is_seen ref height (stamped_of entry) ≡ true = (λ i. on i && le_true entry.block height low i) in (
+        subst (λ found. IsSomeAnd found (λ s. is_seen ref height s ≡ true)) (sym here) seen,
+        All-weaker (λ s. is_on ref s ≡ false) (λ s. is_seen ref height s ≡ false) (λ s apart. ap (λ b. b && nat_le s.0 height) apart) (drop (suc number) (history_of entries)) last.1,
+      )
 
   module _ (after upto : ℕ) where
     -- a walk along the writes on a key for the first that is late

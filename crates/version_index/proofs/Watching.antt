@@ -174,7 +174,7 @@ module _ (watch : Watch) (view : TableView) (column : ℕ) (low high : Option Va
 
   module _ (own : ColumnIndex) (is : IsColumn view.table (history_in view) view.noted view.index.now.chains own) (same : own.column ≡ column) where
     -- a noted write that is watched is among those that touched a value between the ends
-    pub watched_noted : (j : ℕ) → passes_at (is_watched watch) (history_in view) j ≡ true → j < view.noted → (value : Value) × IsBetween low high value × Contains (touched_at own.touched.entries value) j
+    pub watched_noted : (j : ℕ) → passes_at (is_watched watch) (history_in view) j ≡ true → j < view.noted → (value : Value) × IsBetween low high value × Contains (touched_at own.touched value) j
     watched_noted j passing_it below =
         let touched = watched_touches j passing_it in (
           touched.0,

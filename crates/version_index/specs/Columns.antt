@@ -1,22 +1,22 @@
 -- What an index by the values of a column keeps.
-use Rattle.std.specs.Prelude.{◌≡◌, ◌<◌, IsSomeAnd, ◌==◌, ◌&&◌, ◌||◌, ◌++◌, ◌∷◌, ℕ, List, [], Bool, true, false, not, Option, Some, None, cond, slice_get, take}
+use Rattle.std.specs.Prelude.{◌≡◌, IsSomeAnd, ◌==◌, ◌&&◌, ◌||◌, ◌++◌, ◌∷◌, ℕ, List, [], Bool, true, false, not, Option, Some, None, cond, length, slice_get, take}
 use Rattle.std.specs.BTreeMap.{is_at}
 use Rattle.std.specs.BTreeSet.{BTreeSet, contains}
 use Rattle.std.specs.Map.{lookup}
 use Rattle.std.specs.Option.{option_and_then}
 use Rattle.std.specs.Ordering.{nat_cmp}
-use Rattle.std.specs.Vec.{vec_capacity, vec_len}
 use Rattle.std.specs.declared.alloc.Global.{Global}
 use Rattle.std.specs.declared.vec.Vec.{Vec}
 use Rattle.rel_base.specs.Tables.{Stamped, write_ref}
 use Rattle.rel_base.specs.Value.{value_cmp, value_eq}
 use Rattle.rel_base.specs.declared.access.Write.{Write}
 use Rattle.rel_base.specs.declared.value.Value.{Value}
-use Rattle.version_index.specs.Chains.{slot_of}
+use Rattle.version_index.specs.Chains.{HasRoomForNumber, lists_in, numbers_at, slot_of}
 use Rattle.version_index.specs.Left.{left_at}
 use Rattle.version_index.specs.Numbers.{passing}
 use Rattle.version_index.specs.declared.chains.Chains.{Chains}
 use Rattle.version_index.specs.declared.column.ColumnIndex.{ColumnIndex}
+use Rattle.version_index.specs.declared.touched.Touched.{Touched}
 
 -- ---- the value of a row in a column
 
@@ -55,20 +55,36 @@ IsHeldUnless living row other slot = (value : Value) → (has value row && not (
 
 -- ---- numbers by values
 
-abbrev pub items_in : Option (Vec ℕ Global) → List ℕ
-items_in None = []
-items_in (Some numbers) = numbers.items
+-- the place of a value in a map
+abbrev pub place_in : List (Value × ℕ) → Value → Option ℕ
+place_in places value = lookup (is_at (value_cmp value)) places
+
+abbrev pub place_of : Touched → Value → Option ℕ
+place_of touched value = place_in touched.places.entries value
+
+-- the numbers at a place
+abbrev pub list_of : Touched → ℕ → List ℕ
+list_of touched place = numbers_at (lists_in touched.lists.items) (Some place)
 
 -- the numbers at a value
-abbrev pub touched_at : List (Value × Vec ℕ Global) → Value → List ℕ
-touched_at touched value = items_in (lookup (is_at (value_cmp value)) touched)
+abbrev pub touched_at : Touched → Value → List ℕ
+touched_at touched value = numbers_at (lists_in touched.lists.items) (place_of touched value)
 
 -- there is room for one more number at a value
-abbrev pub HasRoomAt : List (Value × Vec ℕ Global) → Value → Type 0
-HasRoomAt touched value = IsSomeAnd (lookup (is_at (value_cmp value)) touched) (λ numbers. vec_len numbers < vec_capacity numbers)
+abbrev pub HasRoomAt : Touched → Value → Type 0
+HasRoomAt touched value = IsSomeAnd (place_of touched value) (HasRoomForNumber touched.lists.items)
+
+-- a value has a place in the map exactly where it stands at that place, and each place has a list
+pub record HavePlaces (places : List (Value × ℕ)) (values : List Value) (lists : List (Vec ℕ Global)) : Type 0 where
+  pub own : (value : Value) (place : ℕ) → place_in places value ≡ Some place → slice_get values place ≡ Some value
+  pub keyed : (value : Value) (place : ℕ) → slice_get values place ≡ Some value → place_in places value ≡ Some place
+  pub long : length lists ≡ length values
+
+abbrev pub AreListed : Touched → Type 0
+AreListed touched = HavePlaces touched.places.entries touched.values.items touched.lists.items
 
 -- there is room at each value that a row may have
-abbrev pub IsRoomy : List (Value × Vec ℕ Global) → Option Value → Type 0
+abbrev pub IsRoomy : Touched → Option Value → Type 0
 IsRoomy touched row = (value : Value) → has value row ≡ true → HasRoomAt touched value
 
 -- ---- what they are of a history
@@ -89,7 +105,8 @@ touches_at table column value history number = touches table column value (take 
 pub record IsColumn (table : ℕ) (history : List Stamped) (noted : ℕ) (chains : Chains) (column : ColumnIndex) : Type 0 where
   pub living : (key : List Value) (slot : ℕ) (value : Value) → slot_of chains key ≡ Some slot → has value (cell column.column (left_at (table, key) (take noted history))) ≡ true
       → has_slot column.living.entries value slot ≡ true
-  pub touched : (value : Value) → touched_at column.touched.entries value ≡ passing (touches_at table column.column value history) noted
+  pub touched : (value : Value) → touched_at column.touched value ≡ passing (touches_at table column.column value history) noted
+  pub listed : AreListed column.touched
 
 -- ---- one more write
 
@@ -97,20 +114,23 @@ pub record IsColumn (table : ℕ) (history : List Stamped) (noted : ℕ) (chains
 pub record IsSameColumn (old new : ColumnIndex) : Type 0 where
   pub column : new.column ≡ old.column
   pub living : (value : Value) (slot : ℕ) → has_slot old.living.entries value slot ≡ true → has_slot new.living.entries value slot ≡ true
-  pub touched : (value : Value) → touched_at new.touched.entries value ≡ touched_at old.touched.entries value
+  pub touched : (value : Value) → touched_at new.touched value ≡ touched_at old.touched value
+  pub listed : AreListed old.touched → AreListed new.touched
 
 -- a write on the key of a slot, which found a row, can be noted without memory: its slot is at its new value already, where that is
 -- another one than the one that was found
 pub record IsReady (slot : ℕ) (found : Option (List Value)) (write : Write) (column : ColumnIndex) : Type 0 where
   pub held : IsHeldUnless column.living.entries (cell column.column write.after) (cell column.column found) slot
-  pub found_room : IsRoomy column.touched.entries (cell column.column found)
-  pub before_room : IsRoomy column.touched.entries (cell column.column write.before)
-  pub after_room : IsRoomy column.touched.entries (cell column.column write.after)
+  pub found_room : IsRoomy column.touched (cell column.column found)
+  pub before_room : IsRoomy column.touched (cell column.column write.before)
+  pub after_room : IsRoomy column.touched (cell column.column write.after)
+  pub listed : AreListed column.touched
 
 -- the slot of its key is at the value of its row after, no other slot is lost, and its number is the last one at each value that it touches
 pub record IsNotedIn (slot : ℕ) (found : Option (List Value)) (write : Write) (number : ℕ) (old new : ColumnIndex) : Type 0 where
   pub column : new.column ≡ old.column
   pub own : IsHeldUnless new.living.entries (cell old.column write.after) (cell old.column found) slot
   pub kept : (value : Value) (s : ℕ) → has_slot old.living.entries value s ≡ true → (s == slot && not (has value (cell old.column write.after))) ≡ false → has_slot new.living.entries value s ≡ true
-  pub touched : (value : Value) → touched_at new.touched.entries value
-      ≡ cond (has value (cell old.column found) || has value (cell old.column write.before) || has value (cell old.column write.after)) (touched_at old.touched.entries value ++ number ∷ []) (touched_at old.touched.entries value)
+  pub touched : (value : Value) → touched_at new.touched value
+      ≡ cond (has value (cell old.column found) || has value (cell old.column write.before) || has value (cell old.column write.after)) (touched_at old.touched value ++ number ∷ []) (touched_at old.touched value)
+  pub listed : AreListed new.touched

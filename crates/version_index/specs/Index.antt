@@ -50,7 +50,7 @@ row_by history numbers = row_after (option_and_then (slice_get history) (last_in
 
 -- an index that tells of no write
 abbrev pub IsEmptyColumn : ColumnIndex → Type 0
-IsEmptyColumn column = (column.living.entries ≡ []) × (column.touched.entries ≡ [])
+IsEmptyColumn column = (column.living.entries ≡ []) × (column.touched.places.entries ≡ []) × (column.touched.values.items ≡ []) × (column.touched.lists.items ≡ [])
 
 pub record IsEmptyIndex (index : TableIndex) : Type 0 where
   pub living : index.chains.living.entries ≡ []

@@ -1,10 +1,11 @@
 -- Which keys a span wants after the block of a height, and which of them changed since.
-use Rattle.std.specs.Prelude.{◌≡◌, ◌<◌, ◌≤◌, ◌⊎◌, ◌∷◌, ℕ, All, Bool, List, [], Option, Some, None, cond, false, map, slice_get}
+use Rattle.std.specs.Prelude.{◌≡◌, ◌<◌, ◌≤◌, ◌⊎◌, ◌∷◌, ◌&&◌, ℕ, All, Bool, List, [], Option, Some, None, cond, false, map, slice_get, true}
 use Rattle.std.specs.Borrow.{Bor}
 use Rattle.std.specs.declared.ops.Bound.{Bound}
 use Rattle.std.specs.FinMap.{get}
+use Rattle.std.specs.Ordering.{is_lt}
 use Rattle.rel_base.specs.Tables.{Stamped, tables_at}
-use Rattle.rel_base.specs.Value.{key_eq}
+use Rattle.rel_base.specs.Value.{key_cmp, key_eq}
 use Rattle.rel_base.specs.declared.access.Seen.{Seen}
 use Rattle.rel_base.specs.declared.value.Value.{Value}
 use Rattle.version_index.specs.Candidates.{IsBetween, IsTouchedAbove, IsWrittenFrom, StandsBetween}
@@ -66,3 +67,13 @@ is_again (Some last) key = key_eq last key
 abbrev pub distinct : Option (List Value) → List (List Value) → List (List Value)
 distinct last [] = []
 distinct last (key ∷ keys) = cond (is_again last key) (distinct last keys) (key ∷ distinct (Some key) keys)
+
+-- whether a key stands after one that may be there
+abbrev pub is_above : Option (List Value) → List Value → Bool
+is_above None key = true
+is_above (Some last) key = is_lt (key_cmp last key)
+
+-- whether each key stands after the one before it; one may be before them
+abbrev pub are_rising : Option (List Value) → List (List Value) → Bool
+are_rising last [] = true
+are_rising last (key ∷ keys) = is_above last key && are_rising (Some key) keys

@@ -3,7 +3,7 @@
 ghost use Rattle.std.specs.Prelude.{◌≡◌, ◌&&◌, ◌||◌, ◌==◌, ◌++◌, ◌∷◌, [], OnOk, cond, false, not, true, ℕ};
 ghost use Rattle.std.specs.Option.{option_copied};
 ghost use Rattle.rel_base.specs.declared.value.Value.{Value as Cell};
-ghost use Rattle.version_index.specs.Columns.{HasRoomAt, IsHeld, IsNotedIn, IsReady, IsRoomy, IsSameColumn, cell, has, has_same, has_slot, touched_at};
+ghost use Rattle.version_index.specs.Columns.{AreListed, HasRoomAt, IsHeld, IsNotedIn, IsReady, IsRoomy, IsSameColumn, cell, has, has_same, has_slot, touched_at};
 
 use crate::living::{Living, hold_slot, take_slot};
 use crate::touched::{Touched, hold_number, touch};
@@ -20,6 +20,8 @@ pub struct ColumnIndex {
     pub living: Living,
     /// For each value the numbers of the writes that found it, or have it in their row before or their row after.
     pub touched: Touched,
+    /// For each slot the place of the last value of its key, of which nothing is promised.
+    near: Vec<u32>,
 }
 
 /// The value in a column of a row that may be there, where the row has the column.
@@ -61,9 +63,11 @@ fn unless<'a>(value: Option<&'a Value>, other: Option<&Value>) -> Option<&'a Val
 
 /// Takes room for one more number at a value that may be there.
 fn hold_value(touched: &mut Touched, alloc: Global, value: Option<&Value>) -> Result<(), NoMemory>
-    ensures same { (v : Cell) → touched_at touched.new.entries v ≡ touched_at touched.old.entries v }
-    ensures room { OnOk result (IsRoomy touched.new.entries (option_copied value.entry)) }
-    ensures kept { (v : Cell) → HasRoomAt touched.old.entries v → HasRoomAt touched.new.entries v }
+    requires listed { AreListed touched.old }
+    ensures listed { AreListed touched.new }
+    ensures same { (v : Cell) → touched_at touched.new v ≡ touched_at touched.old v }
+    ensures room { OnOk result (IsRoomy touched.new (option_copied value.entry)) }
+    ensures kept { (v : Cell) → HasRoomAt touched.old v → HasRoomAt touched.new v }
 {
     match value {
         None => Ok(()),
@@ -79,10 +83,12 @@ fn hold_values(
     before: Option<&Value>,
     other: Option<&Value>,
 ) -> Result<(), NoMemory>
-    ensures same { (v : Cell) → touched_at touched.new.entries v ≡ touched_at touched.old.entries v }
-    ensures found { OnOk result (IsRoomy touched.new.entries (option_copied found.entry)) }
-    ensures before { OnOk result (IsRoomy touched.new.entries (option_copied before.entry)) }
-    ensures other { OnOk result (IsRoomy touched.new.entries (option_copied other.entry)) }
+    requires listed { AreListed touched.old }
+    ensures listed { AreListed touched.new }
+    ensures same { (v : Cell) → touched_at touched.new v ≡ touched_at touched.old v }
+    ensures found { OnOk result (IsRoomy touched.new (option_copied found.entry)) }
+    ensures before { OnOk result (IsRoomy touched.new (option_copied before.entry)) }
+    ensures other { OnOk result (IsRoomy touched.new (option_copied other.entry)) }
 {
     hold_value(touched, alloc, found)?;
     hold_value(touched, alloc, unless(before, found))?;
@@ -91,9 +97,11 @@ fn hold_values(
 
 /// Adds a number at a value that may be there, where there is room for it.
 fn touch_value(touched: &mut Touched, value: Option<&Value>, number: usize)
-    requires { IsRoomy touched.old.entries (option_copied value) }
-    ensures touched { (v : Cell) → touched_at touched.new.entries v ≡ cond (has v (option_copied value.entry)) (touched_at touched.old.entries v ++ number ∷ []) (touched_at touched.old.entries v) }
-    ensures kept { (v : Cell) → has v (option_copied value.entry) ≡ false → HasRoomAt touched.old.entries v → HasRoomAt touched.new.entries v }
+    requires listed { AreListed touched.old }
+    requires room { IsRoomy touched.old (option_copied value) }
+    ensures listed { AreListed touched.new }
+    ensures touched { (v : Cell) → touched_at touched.new v ≡ cond (has v (option_copied value.entry)) (touched_at touched.old v ++ number ∷ []) (touched_at touched.old v) }
+    ensures kept { (v : Cell) → has v (option_copied value.entry) ≡ false → HasRoomAt touched.old v → HasRoomAt touched.new v }
 {
     if let Some(value) = value {
         touch(touched, value, number);
@@ -108,12 +116,14 @@ fn touch_values(
     other: Option<&Value>,
     number: usize,
 )
-    requires found { IsRoomy touched.old.entries (option_copied found) }
-    requires before { IsRoomy touched.old.entries (option_copied before) }
-    requires other { IsRoomy touched.old.entries (option_copied other) }
+    requires listed { AreListed touched.old }
+    requires found { IsRoomy touched.old (option_copied found) }
+    requires before { IsRoomy touched.old (option_copied before) }
+    requires other { IsRoomy touched.old (option_copied other) }
     requires apart { (v : Cell) → has v (option_copied other) ≡ true → has v (option_copied found) ≡ false }
-    ensures { (v : Cell) → touched_at touched.new.entries v
-        ≡ cond (has v (option_copied found.entry) || has v (option_copied before.entry) || has v (option_copied other.entry)) (touched_at touched.old.entries v ++ number ∷ []) (touched_at touched.old.entries v) }
+    ensures listed { AreListed touched.new }
+    ensures touched { (v : Cell) → touched_at touched.new v
+        ≡ cond (has v (option_copied found.entry) || has v (option_copied before.entry) || has v (option_copied other.entry)) (touched_at touched.old v ++ number ∷ []) (touched_at touched.old v) }
 {
     touch_value(touched, found, number);
     touch_value(touched, unless(before, found), number);
@@ -161,28 +171,47 @@ fn gone<'a>(
     }
 }
 
+/// The place that a slot remembers.
+fn near_of(near: &[u32], slot: usize) -> usize {
+    match near.get(slot) {
+        None => 0,
+        Some(place) => *place as usize,
+    }
+}
+
+/// Has a slot remember a place, where that is a small number. It takes memory for the next slot.
+fn keep_near(near: &mut Vec<u32>, slot: usize, place: usize) -> Result<(), NoMemory> {
+    if slot == near.len() {
+        near.push(0)?;
+    }
+    if slot < near.len() {
+        near[slot] = u32::try_from(place).unwrap_or(0);
+    }
+    Ok(())
+}
+
 impl ColumnIndex {
     /// No values.
     pub fn new(alloc: Global, column: u32) -> ColumnIndex
         ensures column { result.column ≡ column }
         ensures living { result.living.entries ≡ [] }
-        ensures touched { result.touched.entries ≡ [] }
+        ensures places { result.touched.places.entries ≡ [] }
+        ensures values { result.touched.values.items ≡ [] }
+        ensures lists { result.touched.lists.items ≡ [] }
     {
         ColumnIndex {
             column,
             living: BTreeMap::new(alloc),
-            touched: BTreeMap::new(alloc),
+            touched: Touched::new(alloc),
+            near: Vec::new(alloc),
         }
     }
 
     /// The numbers of the writes that touched a value.
     pub fn numbers(&self, value: &Value) -> &[usize]
-        ensures { result.now ≡ touched_at self.now.touched.entries value.now }
+        ensures { result.now ≡ touched_at self.now.touched value.now }
     {
-        match self.touched.get(value) {
-            None => &[],
-            Some(numbers) => numbers.as_slice(),
-        }
+        self.touched.numbers(value)
     }
 
     /// Takes the memory that a write on the key of a slot needs, which found a row. What the index tells stays as it is, but for the slot,
@@ -194,6 +223,7 @@ impl ColumnIndex {
         found: Option<&Row>,
         write: &Write,
     ) -> Result<(), NoMemory>
+        requires listed { AreListed self.old.touched }
         ensures same { IsSameColumn self.old self.new }
         ensures ready { OnOk result (IsReady slot (option_copied found.entry) write.now self.new) }
     {
@@ -201,7 +231,9 @@ impl ColumnIndex {
         let before = value_in(write.before.as_ref(), self.column);
         let after = value_in(write.after.as_ref(), self.column);
         let other = unless(after, found);
+        self.touched.near = near_of(self.near.as_slice(), slot);
         hold_values(&mut self.touched, alloc, found, before, other)?;
+        keep_near(&mut self.near, slot, self.touched.near)?;
         hold_at(&mut self.living, alloc, other, slot)
     }
 
@@ -214,6 +246,7 @@ impl ColumnIndex {
         let before = value_in(write.before.as_ref(), self.column);
         let after = value_in(write.after.as_ref(), self.column);
         let other = unless(after, found);
+        self.touched.near = near_of(self.near.as_slice(), slot);
         touch_values(&mut self.touched, found, before, other, number);
         leave(&mut self.living, gone(found, after, other), slot);
     }

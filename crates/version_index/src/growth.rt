@@ -1,7 +1,7 @@
 //! How the log grows, and how its tail is noted in the indexes of the tables.
 
 ghost use Rattle.std.specs.Prelude.{◌≡◌, ◌<◌, ◌≤◌, ◌+◌, All, OnErr, OnOk, length};
-ghost use Rattle.row_sets.specs.Log.{history_of};
+ghost use Rattle.row_sets.specs.Log.{history_of, room_of};
 ghost use Rattle.version_index.specs.Index.{AreNoted, columns_in};
 
 use crate::index::TableIndex;
@@ -46,6 +46,18 @@ pub fn note_tail(
     while *noted < entries.len() {
         note_one(alloc, indexes, entries, *noted)?;
         *noted += 1;
+    }
+    Ok(())
+}
+
+/// Takes room in the log for so many writes. The log grows by a fourth, so that little of it stands empty.
+pub fn hold_log(log: &mut Vec<LogEntry>, writes: usize) -> Result<(), NoMemory>
+    ensures items { log.new.items ≡ log.old.items }
+    ensures room { OnOk result (writes ≤ room_of log.new) }
+    ensures kept { OnErr result (room_of log.new ≡ room_of log.old) }
+{
+    if log.capacity() - log.len() < writes {
+        log.reserve_exact(writes.max(log.len() / 4))?;
     }
     Ok(())
 }

@@ -107,12 +107,12 @@ fn first_between(
     let start = first_above(view.entries, watch.after);
     let mut spare = view.entries.len() - start;
     let mut first = first_hit(view.entries, watch, view.noted);
-    for (_, numbers) in column.touched.range((end(low), end(high))) {
+    for (_, place) in column.touched.places.range((end(low), end(high))) {
         if spare == 0 {
             return first_above_that_hits(view, watch);
         }
         spare -= 1;
-        first = first_among(view, watch, numbers.as_slice(), first);
+        first = first_among(view, watch, column.touched.list(*place), first);
     }
     first
 }

@@ -5,7 +5,7 @@ ghost use Rattle.std.specs.List.{AllZip};
 ghost use Rattle.std.specs.Option.{option_copied};
 ghost use Rattle.row_sets.specs.Log.{history_of};
 ghost use Rattle.version_index.specs.Chains.{slot_or};
-ghost use Rattle.version_index.specs.Columns.{IsNotedIn, IsReady, IsSameColumn};
+ghost use Rattle.version_index.specs.Columns.{AreListed, IsNotedIn, IsReady, IsSameColumn};
 ghost use Rattle.version_index.specs.Index.{HasColumns, IsEmptyColumn, IsEmptyIndex, IsIndexOf, index_columns, last_in, row_after, row_by};
 
 use crate::chains::{Chains, slot_at};
@@ -110,6 +110,7 @@ fn hold_all(
     found: Option<&Row>,
     write: &Write,
 ) -> Result<(), NoMemory>
+    requires listed { All (λ column. AreListed column.touched) columns.old.items }
     ensures same { AllZip IsSameColumn columns.old.items columns.new.items }
     ensures ready { OnOk result (All (IsReady slot (option_copied found.entry) write.now) columns.new.items) }
 {

@@ -1,7 +1,8 @@
 //! Walks along the writes on one key, from the last one back.
 
-ghost use Rattle.std.specs.Prelude.{◌≡◌, ◌≤◌, ◌<◌, IfSome, Some, cond, length, take};
+ghost use Rattle.std.specs.Prelude.{◌≡◌, ◌≤◌, ◌<◌, IfSome, List, Some, cond, length, take};
 ghost use Rattle.std.specs.Option.{option_map};
+ghost use Rattle.rel_base.specs.declared.value.Value.{Value as Cell};
 ghost use Rattle.version_index.specs.Chain.{IsFirst, IsLast, IsLastFrom, is_late, is_on, is_seen};
 ghost use Rattle.version_index.specs.Chains.{slot_of};
 ghost use Rattle.version_index.specs.View.{IsBack, IsView, history_in, noted_below};
@@ -117,6 +118,40 @@ pub fn last_up_to(
         }
     }
     last_uncounted::<Brand>(view, key, slot, height, Blank::new(1))
+}
+
+/// The number of the last write on the key of a slot, where there is no tail to look through.
+fn last_if_all_noted(view: &TableView<'_>, slot: Option<usize>) -> Option<usize>
+    requires { IsView view.now }
+    ensures { (key : List Cell) → slot ≡ slot_of view.now.index.now.chains key → IfSome result (λ number. IsLast (is_on (view.now.table, key)) (history_in view.now) (Some number)) }
+{
+    if view.noted < view.entries.len() {
+        return None;
+    }
+    match last_noted(view.index.chains.numbers(slot)) {
+        None => None,
+        Some(back) => Some(back.number),
+    }
+}
+
+/// The number of the last write on a key in a block up to a height, for a reader of many keys: the last write of all is looked at with
+/// no call, where there is no tail.
+pub fn last_of_many(
+    view: &TableView<'_>,
+    key: &Key,
+    slot: Option<usize>,
+    height: u64,
+) -> Option<usize>
+    requires view { IsView view.now }
+    requires slot { slot ≡ slot_of view.now.index.now.chains key.now }
+    ensures { IsLast (is_seen (view.now.table, key.now) height) (history_in view.now) result }
+{
+    if let Some(number) = last_if_all_noted(view, slot) {
+        if entry_at(view.entries, number).block <= height {
+            return Some(number);
+        }
+    }
+    last_up_to(view, key, slot, height)
 }
 
 /// A number where a test passed, and else what was found after it.

@@ -2,6 +2,7 @@
 //! have each value of a column.
 #![tactic(auto)]
 
+pub mod ahead;
 pub mod candidates;
 pub mod chains;
 pub mod column;

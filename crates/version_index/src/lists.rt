@@ -1,6 +1,6 @@
 //! Lists of numbers, one for each slot.
 
-ghost use Rattle.std.specs.Prelude.{◌≡◌, ◌<◌, ◌++◌, ◌∷◌, [], IfOk, OnOk, Some, length, slice_get, slice_set};
+ghost use Rattle.std.specs.Prelude.{◌≡◌, ◌<◌, ◌++◌, ◌∷◌, [], IfOk, OnOk, Some, length, slice_get, slice_set, ℕ};
 ghost use Rattle.version_index.specs.Chains.{HasRoomForNumber, list_or_none, lists_in, numbers_at};
 
 use rel_base::NoMemory;
@@ -30,6 +30,7 @@ pub fn hold_room(lists: &mut Vec<Vec<usize>>, slot: usize) -> Result<(), NoMemor
     requires { slot < length lists.old.items }
     ensures same { lists_in lists.new.items ≡ lists_in lists.old.items }
     ensures room { OnOk result (HasRoomForNumber lists.new.items slot) }
+    ensures kept { (s : ℕ) → HasRoomForNumber lists.old.items s → HasRoomForNumber lists.new.items s }
 {
     lists[slot].reserve(1)?;
     Ok(())
@@ -38,7 +39,8 @@ pub fn hold_room(lists: &mut Vec<Vec<usize>>, slot: usize) -> Result<(), NoMemor
 /// Adds a number to the list of a slot, which has room for it.
 pub fn push_at(lists: &mut Vec<Vec<usize>>, slot: usize, number: usize)
     requires { HasRoomForNumber lists.old.items slot }
-    ensures { lists_in lists.new.items ≡ slice_set (lists_in lists.old.items) slot (numbers_at (lists_in lists.old.items) (Some slot) ++ number ∷ []) }
+    ensures kept { (s : ℕ) → (s ≡ slot → ⊥) → HasRoomForNumber lists.old.items s → HasRoomForNumber lists.new.items s }
+    ensures pushed { lists_in lists.new.items ≡ slice_set (lists_in lists.old.items) slot (numbers_at (lists_in lists.old.items) (Some slot) ++ number ∷ []) }
 {
     lists[slot].push_reserved(number);
 }

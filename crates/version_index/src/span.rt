@@ -12,8 +12,9 @@ ghost use Rattle.version_index.specs.Candidates.{Adds, IsCandidate, has_key, is_
 ghost use Rattle.version_index.specs.Columns.{IsColumn};
 ghost use Rattle.version_index.specs.Log.{InOrder};
 ghost use Rattle.version_index.specs.Rows.{IsValueOf, rows_of_keys};
-ghost use Rattle.version_index.specs.Span.{HasCellAt, IsChangedAbove, IsChangedBetween, IsTouchedSince, IsWantedBy, distinct, is_again, keys_in};
+ghost use Rattle.version_index.specs.Span.{HasCellAt, IsChangedAbove, IsChangedBetween, IsTouchedSince, IsWantedBy, are_rising, distinct, is_above, is_again, keys_in};
 ghost use Rattle.version_index.specs.View.{IsAsked, IsView, history_in};
+ghost use Rattle.version_index.specs.declared.chains.Chains.{Chains};
 
 use crate::candidates::{Candidate, add_from, add_listed, add_living, end, is_in_order};
 use crate::column::ColumnIndex;
@@ -134,12 +135,12 @@ fn add_between<'a>(
 {
     let start = first_above(view.entries, height);
     let mut spare = view.entries.len() - start;
-    for (_, numbers) in column.touched.range((end(low), end(high))) {
+    for (_, place) in column.touched.places.range((end(low), end(high))) {
         if spare == 0 {
             return add_above(view, found, height);
         }
         spare -= 1;
-        add_listed(view, found, numbers.as_slice(), height)?;
+        add_listed(view, found, column.touched.list(*place), height)?;
     }
     add_from(view, found, view.noted)
 }
@@ -175,8 +176,64 @@ fn is_last(last: Option<&Key>, key: &Key) -> bool
     }
 }
 
-/// The rows of keys after the block of a height that a read covers, in the order of the keys. Some keys may stand there more than once,
-/// and the one value of the read may be given.
+/// Whether a key stands after the last one.
+fn is_next(last: Option<&Key>, key: &Key) -> bool
+    ensures { result ≡ is_above (option_copied last.entry) key.now }
+{
+    match last {
+        None => true,
+        Some(last) => last.cmp(key).is_lt(),
+    }
+}
+
+/// Whether each key stands after the one before it.
+fn are_rising(found: &[Candidate<'_>]) -> bool
+    ensures { result ≡ are_rising None (keys_in found.now) }
+{
+    let mut last = None;
+    for (key, _) in found {
+        if !is_next(last, *key) {
+            return false;
+        }
+        last = Some(*key);
+    }
+    true
+}
+
+/// Keys in order, each once, of keys in order, of which some may stand there more than once.
+fn once_each<'a>(alloc: Global, found: &[Candidate<'a>]) -> Result<Vec<Candidate<'a>>, NoMemory>
+    ensures keys { IfOk result (λ kept. keys_in kept.items ≡ distinct None (keys_in found.now)) }
+    ensures right { IfOk result (λ kept. (chains : Chains) → All (IsCandidate chains) found.now → All (IsCandidate chains) kept.items) }
+{
+    let mut kept = Vec::with_capacity(alloc, found.len())?;
+    let mut last = None;
+    for (key, slot) in found {
+        if !is_last(last, *key) {
+            kept.push((*key, *slot))?;
+            last = Some(*key);
+        }
+    }
+    Ok(kept)
+}
+
+/// Keys in order, each once. Mostly they are so as they were found, and then one look at each tells it.
+fn in_order<'a>(
+    alloc: Global,
+    mut found: Vec<Candidate<'a>>,
+) -> Result<Vec<Candidate<'a>>, NoMemory>
+    ensures rise { IfOk result (λ kept. IsStrictlySortedBy key_cmp (keys_in kept.items)) }
+    ensures all { IfOk result (λ kept. (key : List Cell) → has_key found.entry.items key ≡ true → has_key kept.items key ≡ true) }
+    ensures right { IfOk result (λ kept. (chains : Chains) → All (IsCandidate chains) found.entry.items → All (IsCandidate chains) kept.items) }
+{
+    if are_rising(found.as_slice()) {
+        return Ok(found);
+    }
+    found.sort()?;
+    let kept = once_each(alloc, found.as_slice())?;
+    Ok(kept)
+}
+
+/// The rows of keys after the block of a height that a read covers, in the order of the keys. The one value of the read may be given.
 fn rows_of_found(
     alloc: Global,
     view: &TableView<'_>,
@@ -188,21 +245,17 @@ fn rows_of_found(
     requires look { IsAsked look.now.def.now look.now.read.now view.now }
     requires value { IsValueOf look.now.read.now (option_copied value) }
     requires found { All (IsCandidate view.now.index.now.chains) found.now }
-    ensures { IfOk result (λ rows. rows ≡ rows_of_keys look.now.def.now look.now.read.now (tables_at look.now.height (history_in view.now)) view.now.table (distinct None (keys_in found.now))) }
+    ensures { IfOk result (λ rows. rows ≡ rows_of_keys look.now.def.now look.now.read.now (tables_at look.now.height (history_in view.now)) view.now.table (keys_in found.now)) }
 {
     let mut rows = List::from_vec(Vec::with_capacity(alloc, found.len())?);
-    let mut last = None;
     for (key, slot) in found {
-        if !is_last(last, *key) {
-            add_key_with(alloc, &mut rows, view, look, value, (*key, *slot))?;
-            last = Some(*key);
-        }
+        add_key_with(alloc, &mut rows, view, look, value, (*key, *slot))?;
     }
     Ok(rows)
 }
 
 /// The keys whose row after the block of a height may have a value of a column between the ends of a span, which are in order; the keys
-/// are in order too.
+/// are in order too, each once.
 fn keys_between<'a>(
     alloc: Global,
     view: &TableView<'a>,
@@ -213,7 +266,7 @@ fn keys_between<'a>(
     requires view { IsView view.now }
     requires forward { is_forward ends.low.now ends.high.now ≡ true }
     ensures found { IfOk result (λ found. All (IsCandidate view.now.index.now.chains) found.items) }
-    ensures rise { IfOk result (λ found. IsStrictlySortedBy key_cmp (distinct None (keys_in found.items))) }
+    ensures rise { IfOk result (λ found. IsStrictlySortedBy key_cmp (keys_in found.items)) }
     ensures all { IfOk result (λ found. (key : List Cell) → IsWantedBy view.now column ends.entry.low.now ends.entry.high.now height key → has_key found.items key ≡ true) }
 {
     let mut found = Vec::new(alloc);
@@ -221,11 +274,11 @@ fn keys_between<'a>(
         None => add_by_key(alloc, view, &mut found, ends, height)?,
         Some(own) => add_by_column(view, &mut found, own, ends, height)?,
     }
-    found.sort()?;
-    Ok(found)
+    let kept = in_order(alloc, found)?;
+    Ok(kept)
 }
 
-/// The keys whose row after the block of a height may have a value of a column between the ends of a span, in order.
+/// The keys whose row after the block of a height may have a value of a column between the ends of a span, in order, each once.
 fn keys_of_span<'a>(
     alloc: Global,
     view: &TableView<'a>,
@@ -235,7 +288,7 @@ fn keys_of_span<'a>(
 ) -> Result<Vec<Candidate<'a>>, NoMemory>
     requires { IsView view.now }
     ensures found { IfOk result (λ found. All (IsCandidate view.now.index.now.chains) found.items) }
-    ensures rise { IfOk result (λ found. IsStrictlySortedBy key_cmp (distinct None (keys_in found.items))) }
+    ensures rise { IfOk result (λ found. IsStrictlySortedBy key_cmp (keys_in found.items)) }
     ensures all { IfOk result (λ found. (key : List Cell) → IsWantedBy view.now column ends.entry.low.now ends.entry.high.now height key → has_key found.items key ≡ true) }
 {
     if is_in_order(ends.low, ends.high) {

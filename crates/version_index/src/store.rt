@@ -8,7 +8,8 @@ ghost use Rattle.version_index.specs.Index.{IsEmptyIndex, columns_in, index_colu
 ghost use Rattle.version_index.specs.Kept.{store_history, store_spare, store_tables, store_tail};
 ghost use Rattle.version_index.specs.View.{IsView, history_in};
 
-use crate::growth::note_tail;
+use crate::ahead::count_rows;
+use crate::growth::{hold_log, note_tail};
 use crate::index::TableIndex;
 use crate::lifespans::{all_back, chain_back, oldest_first};
 use crate::look_up::LookUp;
@@ -144,6 +145,13 @@ impl Versions for IndexVersions {
         rows_at(self.alloc, &view, &ReadAtHeight { def, read, height })
     }
 
+    fn look_ahead(&self, table: u32, keys: &[Key]) -> Result<usize, NoMemory> {
+        match self.indexes.as_slice().get(table as usize) {
+            None => Ok(0),
+            Some(index) => count_rows(self.alloc, self.log.as_slice(), &index.chains, keys),
+        }
+    }
+
     fn late_hit(&self, after: u64, upto: u64, read: &Read) -> Option<HitRef<'_>> {
         let def = def_of(self.tables.as_slice(), read);
         let view = view_of(
@@ -179,7 +187,7 @@ impl Versions for IndexVersions {
             self.log.as_slice(),
             &mut self.noted,
         )?;
-        self.log.reserve(writes)?;
+        hold_log(&mut self.log, writes)?;
         Ok(())
     }
 

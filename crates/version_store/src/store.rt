@@ -64,6 +64,11 @@ impl Versions for PlainVersions {
         )
     }
 
+    /// It looks at nothing ahead.
+    fn look_ahead(&self, _table: u32, _keys: &[Key]) -> Result<usize, NoMemory> {
+        Ok(0)
+    }
+
     fn late_hit(&self, after: u64, upto: u64, read: &Read) -> Option<HitRef<'_>> {
         late_at(
             self.tables.as_slice(),

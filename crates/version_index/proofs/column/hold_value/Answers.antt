@@ -9,5 +9,5 @@ use Rattle.version_index.proofs.column.hold_value.Goals as goal
 pub returns-in-Some-clause-room : goal.returns-in-Some-clause-room
 returns-in-Some-clause-room c =
     on_ok_then c.hold_number.result
-    (λ room. subst (IsRoomy c.hold_number.new.touched.entries) (sym (ap option_copied c.in-Some.is)) (roomy_one c.hold_number.new.touched.entries c.in-Some.value.now room))
+    (λ room. subst (IsRoomy c.hold_number.new.touched) (sym (ap option_copied c.in-Some.is)) (roomy_one c.hold_number.new.touched c.in-Some.value.now room))
     c.hold_number.ensures.room

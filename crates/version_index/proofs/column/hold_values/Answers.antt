@@ -11,14 +11,14 @@ returns-clause-found c =
 
 pub returns-clause-before : goal.returns-clause-before
 returns-clause-before c =
-    let touched = c.hold_value-3.new.touched.entries in
+    let touched = c.hold_value-3.new.touched in
     let first : IsRoomy touched (option_copied c.args.found) = λ v there. c.hold_value-3.ensures.kept v (c.in_ok-hold_value-2.ensures.kept v (c.in_ok-hold_value.ensures.room v there)) in
     let second : IsRoomy touched (option_copied c.unless.result) = λ v there. c.hold_value-3.ensures.kept v (c.in_ok-hold_value-2.ensures.room v there) in
     on_ok_then c.hold_value-3.result (λ third. roomy_unless touched (option_copied c.args.before) (option_copied c.args.found) (option_copied c.unless.result) c.unless.ensures first second) c.hold_value-3.ensures.room
 
 pub returns-clause-other : goal.returns-clause-other
 returns-clause-other c =
-    let touched = c.hold_value-3.new.touched.entries in
+    let touched = c.hold_value-3.new.touched in
     let found = option_copied c.args.found in
     let before = option_copied c.args.before in
     let first : IsRoomy touched found = λ v there. c.hold_value-3.ensures.kept v (c.in_ok-hold_value-2.ensures.kept v (c.in_ok-hold_value.ensures.room v there)) in

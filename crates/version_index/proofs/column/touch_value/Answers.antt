@@ -5,5 +5,5 @@ use Rattle.version_index.proofs.Cells.{value_itself}
 use Rattle.version_index.proofs.column.touch_value.Goals as goal
 
 -- the value is one with itself
-pub touch-requires : goal.touch-requires
-touch-requires c = c.requires c.in-Some.value.now (ap (λ value. has c.in-Some.value.now (option_copied value)) c.in-Some.is ∙ value_itself c.in-Some.value.now)
+pub touch-requires-clause-room : goal.touch-requires-clause-room
+touch-requires-clause-room c = c.requires.room c.in-Some.value.now (ap (λ value. has c.in-Some.value.now (option_copied value)) c.in-Some.is ∙ value_itself c.in-Some.value.now)

@@ -35,4 +35,4 @@ returns c =
         let value = c.args.value.now in
         let found = watched_noted c.args.watch.now c.args.view.now column.column (Some value) (Some value) c.requires.watch c.requires.span column c.requires.column refl j is below in
         let one : value ≡ found.0 = same_value value found.0 (pinned value found.0 found.1.0 found.1.1) in
-        inr (subst (λ numbers. Contains numbers j) (sym c.numbers.ensures) (subst (λ v. Contains (touched_at column.touched.entries v) j) (sym one) found.2))
+        inr (subst (λ numbers. Contains numbers j) (sym c.numbers.ensures) (subst (λ v. Contains (touched_at column.touched v) j) (sym one) found.2))

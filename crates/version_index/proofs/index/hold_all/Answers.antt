@@ -3,10 +3,21 @@ use Rattle.std.specs.List.{AllZip}
 use Rattle.std.specs.Option.{option_copied}
 use Rattle.std.proofs.lemmas.List.{take_all}
 use Rattle.std.proofs.lemmas.List.Elements.{All-nil}
-use Rattle.version_index.specs.Columns.{IsReady, IsSameColumn}
+use Rattle.version_index.specs.Columns.{AreListed, IsReady, IsSameColumn}
 use Rattle.version_index.proofs.Cells.{same_column, same_twice}
+use Rattle.version_index.proofs.Touching.{all_zip}
 use Rattle.version_index.proofs.Zipped.{all_set_next, lent_whole, zip_length, zip_same, zip_set}
 use Rattle.version_index.proofs.index.hold_all.Goals as goal
+
+-- the places of the column are those of before
+pub hold-requires : goal.hold-requires
+hold-requires c =
+    let old = c.args.columns.now.items in
+    let items = c.loop-column.column-items in
+    let index = c.loop-column.column-index in
+    let count = zip_length IsSameColumn old items c.loop-column.invariant.0 in
+    let below = subst (λ xs. index < length xs) c.deref_mut-column-items.ensures.value c.loop-column-test.true in
+    record { listed = all_zip (λ column. AreListed column.touched) (λ column. AreListed column.touched) IsSameColumn (λ one two are same. same.listed are) old items c.requires.listed c.loop-column.invariant.0 index c.column-item.result (omega (arith, count, below)) }
 
 pub loop-column-init : goal.loop-column-init
 loop-column-init c = (

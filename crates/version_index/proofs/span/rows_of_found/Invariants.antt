@@ -1,13 +1,12 @@
-use Rattle.std.proofs.Common.{◌≡◌, ◌++◌, None, drop}
-use Rattle.std.specs.Option.{option_copied}
+use Rattle.std.proofs.Common.{◌≡◌, ◌++◌, drop}
 use Rattle.rel_base.specs.Tables.{tables_at}
+use Rattle.version_index.specs.Rows.{rows_of_keys}
 use Rattle.version_index.specs.Span.{keys_in}
 use Rattle.version_index.specs.View.{history_in}
-use Rattle.version_index.proofs.Answered.{rows_of}
 use Rattle.version_index.proofs.span.rows_of_found.Given as goal
 
 -- the rows so far and those of the keys that are left are the rows of all
 abbrev pub invariant-loop-key : goal.invariant-loop-key
 invariant-loop-key l =
-    l.rows ++ rows_of l.look.def.now l.look.read.now (tables_at l.look.height (history_in l.view)) l.view.table (option_copied l.last) (keys_in (drop l.key-index l.found))
-    ≡ rows_of l.look.def.now l.look.read.now (tables_at l.look.height (history_in l.view)) l.view.table None (keys_in l.found)
+    l.rows ++ rows_of_keys l.look.def.now l.look.read.now (tables_at l.look.height (history_in l.view)) l.view.table (keys_in (drop l.key-index l.found))
+    ≡ rows_of_keys l.look.def.now l.look.read.now (tables_at l.look.height (history_in l.view)) l.view.table (keys_in l.found)

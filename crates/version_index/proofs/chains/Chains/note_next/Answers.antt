@@ -15,7 +15,7 @@ returns-clause-noted c =
       lives_now = placed.lives_now;
       apart = placed.apart c.requires.apart;
       lists =
-          c.push_at.ensures ∙ ap (λ lists. slice_set lists slot (numbers_at lists (Some slot) ++ c.args.number ∷ [])) c.in_ok-hold_room.ensures.same
+          c.push_at.ensures.pushed ∙ ap (λ lists. slice_set lists slot (numbers_at lists (Some slot) ++ c.args.number ∷ [])) c.in_ok-hold_room.ensures.same
           ∙ ap (λ s. with_number c.args.number s (lists_of old)) (sym c.requires.own);
       all_in = next_in old.living.entries old.ended.entries c.place_key.new.living.entries c.place_key.new.ended.entries key slot c.args.lives placed old.guesses.marks.items c.requires.own;
     }

@@ -1,4 +1,4 @@
-use Rattle.std.proofs.Common.{◌≡◌, ◌∙◌, ◌++◌, ◌&&◌, ◌||◌, ◌==◌, ◌∷◌, [], ap, cond, not, sym, subst, refl}
+use Rattle.std.proofs.Common.{◌∙◌, ◌++◌, ◌&&◌, ◌||◌, ◌==◌, ◌∷◌, [], ap, cond, not, sym, subst, refl}
 use Rattle.std.specs.Option.{option_copied}
 use Rattle.rel_base.proofs.Bits.{first_true, second_true}
 use Rattle.version_index.specs.Columns.{IsRoomy, cell, has, has_slot, touched_at}
@@ -6,10 +6,10 @@ use Rattle.version_index.proofs.Cells.{and_never, not_from, or_other, stays_ther
 use Rattle.version_index.proofs.column.ColumnIndex.note.Goals as goal
 
 pub touch_values-requires-clause-found : goal.touch_values-requires-clause-found
-touch_values-requires-clause-found c = subst (IsRoomy c.args.self.now.touched.entries) (sym c.value_in-found.ensures) c.requires.found_room
+touch_values-requires-clause-found c = subst (IsRoomy c.args.self.now.touched) (sym c.value_in-found.ensures) c.requires.found_room
 
 pub touch_values-requires-clause-before : goal.touch_values-requires-clause-before
-touch_values-requires-clause-before c = subst (IsRoomy c.args.self.now.touched.entries) (sym (c.value_in-before.ensures ∙ ap (cell c.args.self.now.column) c.as_ref.ensures.value)) c.requires.before_room
+touch_values-requires-clause-before c = subst (IsRoomy c.args.self.now.touched) (sym (c.value_in-before.ensures ∙ ap (cell c.args.self.now.column) c.as_ref.ensures.value)) c.requires.before_room
 
 -- the value after is not the one that was found, where it is passed
 pub touch_values-requires-clause-other : goal.touch_values-requires-clause-other
@@ -41,8 +41,9 @@ returns c =
           stays_there (has v gone) (s == slot) (has v (option_copied c.value_in-after.result)) (has_slot old v s) (has_slot c.leave.new.living.entries v s) (c.leave.ensures v s) (c.gone.ensures v)
           (ap (λ row. s == slot && not (has v row)) after ∙ off) had;
       touched = λ v.
-          c.touch_values.ensures v
-          ∙ ap (λ b. cond b (touched_at c.args.self.now.touched.entries v ++ c.args.number ∷ []) (touched_at c.args.self.now.touched.entries v))
+          c.touch_values.ensures.touched v
+          ∙ ap (λ b. cond b (touched_at c.args.self.now.touched v ++ c.args.number ∷ []) (touched_at c.args.self.now.touched v))
           (or_other (has v (option_copied c.value_in-found.result)) (has v (option_copied c.value_in-before.result)) (has v (option_copied c.value_in-after.result)) (has v (option_copied c.unless-other.result)) (c.unless-other.ensures v)
           ∙ (λ i. has v (found i) || has v (before i) || has v (after i)));
+      listed = c.touch_values.ensures.listed;
     }

@@ -1,12 +1,22 @@
 use Rattle.std.proofs.Common.{◌≡◌, ◌∙◌, ◌+◌, arith, length, refl, subst, suc}
 use Rattle.std.specs.Option.{option_copied}
+use Rattle.std.proofs.lemmas.List.Elements.{All-weaker}
+use Rattle.row_sets.specs.Log.{history_of}
 use Rattle.version_index.specs.Chains.{IsNoted, lists_of, slot_of}
-use Rattle.version_index.specs.Columns.{IsNotedIn, IsSameColumn}
+use Rattle.version_index.specs.Columns.{AreListed, IsColumn, IsNotedIn, IsSameColumn}
 use Rattle.version_index.specs.Index.{IsIndexOf}
 use Rattle.version_index.specs.declared.index.TableIndex.{TableIndex}
 use Rattle.version_index.proofs.Indexed.{finds, held_index, in_any_case, index_from, index_of, noted_index, own_place, spot_within}
 use Rattle.version_index.proofs.Touching.{map_zip}
 use Rattle.version_index.proofs.index.TableIndex.note.Goals as goal
+
+-- the values of the columns have their places
+pub hold_all-requires : goal.hold_all-requires
+hold_all-requires c =
+    let entry = c.entry_at.result.now in
+    let old = c.args.self.now in
+    let is = index_from c.args.entries.now c.args.number entry c.entry_at.ensures c.args.number old c.requires.old in
+    record { listed = All-weaker (IsColumn entry.placed.write.table (history_of c.args.entries.now) c.args.number old.chains) (λ column. AreListed column.touched) (λ column column_is. column_is.listed) old.columns.items is.columns }
 
 -- the columns tell the same
 pub returns-in_err-hold_all-clause-same : goal.returns-in_err-hold_all-clause-same

@@ -10,7 +10,7 @@ use Rattle.row_sets.specs.Log.{history_of}
 use Rattle.version_index.specs.Log.{InOrder}
 use Rattle.version_index.specs.View.{history_in}
 use Rattle.version_index.proofs.Answered.{told_least}
-use Rattle.version_index.proofs.Keeping.{is_asked}
+use Rattle.version_index.proofs.Keeping.{is_asked, is_view}
 use Rattle.version_index.proofs.store.IndexVersionsVersions.late_hit.Goals as goal
 
 pub late_at-requires-clause-watch : goal.late_at-requires-clause-watch
@@ -37,3 +37,10 @@ returns c =
 
 pub view_of-view-requires : goal.view_of-view-requires
 view_of-view-requires c = grind (arith, elements)
+
+pub late_at-requires-clause-view : goal.late_at-requires-clause-view
+late_at-requires-clause-view c =
+    let inside = c.self.inside in
+    let view = c.view_of-view.result in
+    let index = ap (slice_get inside.indexes.items) c.view_of-view.ensures.table ∙ subst (λ is. slice_get is c.table.result ≡ Some view.index.now) c.as_slice-3.ensures.value c.view_of-view.ensures.index in
+    is_view inside.tables inside.log.items inside.indexes.items inside.noted c.self.invariant view (c.view_of-view.ensures.entries ∙ c.as_slice-2.ensures.value) c.view_of-view.ensures.noted index

@@ -20,12 +20,12 @@ invariant_of-self c =
     kept_noted c.self.inside.tables c.self.inside.log.items c.self.inside.indexes.items c.self.inside.noted c.self.invariant c.note_tail.new.indexes.items c.note_tail.new.noted c.as_slice.result.now
     c.self.inside.log.items c.as_slice.ensures.value refl c.note_tail.ensures.within c.note_tail.ensures.new c.note_tail.ensures.columns
 
-pub invariant_of-self-in_err-reserve : goal.invariant_of-self-in_err-reserve
-invariant_of-self-in_err-reserve c =
+pub invariant_of-self-in_err-hold_log : goal.invariant_of-self-in_err-hold_log
+invariant_of-self-in_err-hold_log c =
     kept_noted c.self.inside.tables c.self.inside.log.items c.self.inside.indexes.items c.self.inside.noted c.self.invariant c.note_tail.new.indexes.items c.note_tail.new.noted c.as_slice.result.now
-    c.reserve.new.self.items c.as_slice.ensures.value c.reserve.ensures.items c.note_tail.ensures.within c.note_tail.ensures.new c.note_tail.ensures.columns
+    c.hold_log.new.log.items c.as_slice.ensures.value c.hold_log.ensures.items c.note_tail.ensures.within c.note_tail.ensures.new c.note_tail.ensures.columns
 
 pub invariant_of-self-2 : goal.invariant_of-self-2
 invariant_of-self-2 c =
     kept_noted c.self.inside.tables c.self.inside.log.items c.self.inside.indexes.items c.self.inside.noted c.self.invariant c.note_tail.new.indexes.items c.note_tail.new.noted c.as_slice.result.now
-    c.reserve.new.self.items c.as_slice.ensures.value c.reserve.ensures.items c.note_tail.ensures.within c.note_tail.ensures.new c.note_tail.ensures.columns
+    c.hold_log.new.log.items c.as_slice.ensures.value c.hold_log.ensures.items c.note_tail.ensures.within c.note_tail.ensures.new c.note_tail.ensures.columns

@@ -4,7 +4,7 @@ use Rattle.rel_base.specs.Among.{rows_in}
 use Rattle.rel_base.specs.Tables.{rows, tables_at}
 use Rattle.row_sets.specs.Log.{history_of}
 use Rattle.version_index.proofs.Answered.{rows_declared}
-use Rattle.version_index.proofs.Keeping.{is_asked}
+use Rattle.version_index.proofs.Keeping.{is_asked, is_view}
 use Rattle.version_index.proofs.store.IndexVersionsVersions.visible.Goals as goal
 
 pub rows_at-requires-clause-look : goal.rows_at-requires-clause-look
@@ -28,3 +28,10 @@ returns c =
     (ap (λ es. rows def read (tables_at c.args.height (history_of es))) (c.view_of-view.ensures.entries ∙ c.as_slice-2.ensures.value)
     ∙ sym (rows_declared inside.tables def read (tables_at c.args.height (history_of inside.log.items)) declared) ∙ ap (λ store. rows_in store.0 read (tables_at c.args.height store.1.0)) c.self.view_is)
     c.rows_at.ensures
+
+pub rows_at-requires-clause-view : goal.rows_at-requires-clause-view
+rows_at-requires-clause-view c =
+    let inside = c.self.inside in
+    let view = c.view_of-view.result in
+    let index = ap (slice_get inside.indexes.items) c.view_of-view.ensures.table ∙ subst (λ is. slice_get is c.table.result ≡ Some view.index.now) c.as_slice-3.ensures.value c.view_of-view.ensures.index in
+    is_view inside.tables inside.log.items inside.indexes.items inside.noted c.self.invariant view (c.view_of-view.ensures.entries ∙ c.as_slice-2.ensures.value) c.view_of-view.ensures.noted index
