@@ -12,6 +12,7 @@ ghost use Rattle.report_text.specs.Summary.{summary_text};
 
 use crate::application::read_application;
 use crate::reply::Reply;
+use crate::running::share_both;
 use crate::status::Status;
 use cluster_run::{Gate, run_cluster};
 use load_gen::{Load, generate};
@@ -19,7 +20,7 @@ use proc_check::Checked;
 use rel_base::NoMemory;
 use report_text::summary;
 use std::alloc::Global;
-use std::sync::{Arc, Wait};
+use std::sync::Wait;
 use std::thread::Threads;
 use version_index::IndexVersions;
 
@@ -33,25 +34,33 @@ fn run_load<R: Threads + Wait + Sync, G: Gate>(
     alloc: Global,
     number: u64,
     app: Checked,
-    load: &Load,
+    load: Load,
     gate: &G,
 ) -> Result<Reply, NoMemory>
-    requires blocks { NumberedFrom 1 load.now.blocks }
-    requires nodes { length load.now.arrivals ≡ 3 }
-    ensures means { IfOk result (λ reply. Means (says Status.Done (summary_text number (node_result app.app load.now.blocks).blocks)) reply) }
+    requires blocks { NumberedFrom 1 load.blocks }
+    requires nodes { length load.arrivals ≡ 3 }
+    ensures means { IfOk result (λ reply. Means (says Status.Done (summary_text number (node_result app.app load.blocks).blocks)) reply) }
     ensures kind { IfOk result (λ reply. is_answer reply.status ≡ true) }
 {
-    let app = Arc::new(alloc, app)?;
+    let Load {
+        app: text,
+        blocks,
+        arrivals,
+    } = load;
+    drop(text);
+    let (app, blocks) = share_both(alloc, app, blocks)?;
     let nodes = run_cluster::<IndexVersions, G, R>(
         rt,
         alloc,
         &app,
-        load.blocks.as_slice(),
-        load.arrivals.as_slice(),
+        blocks.as_slice(),
+        arrivals.as_slice(),
         LOAD_EXECUTORS,
         gate,
     );
     drop(app);
+    drop(blocks);
+    drop(arrivals);
     let nodes = nodes?;
     let bytes = summary(alloc, number, &nodes.as_slice()[0].blocks);
     drop(nodes);
@@ -74,11 +83,7 @@ pub fn answer_load<R: Threads + Wait + Sync, G: Gate>(
 {
     let load = generate(alloc, number)?;
     match read_application(alloc, load.app.as_slice()) {
-        Ok(app) => {
-            let reply = run_load(rt, alloc, number, app, &load, gate);
-            drop(load);
-            reply
-        }
+        Ok(app) => run_load(rt, alloc, number, app, load, gate),
         // The application of a load is accepted, so memory ran out.
         Err(_) => {
             drop(load);

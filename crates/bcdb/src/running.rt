@@ -20,10 +20,13 @@ use crate::folding::{ALL_BLOCKS, Folded};
 use crate::given::{BadSource, Given, fold_given, read_given};
 use crate::reply::{Reply, refuse_app, refuse_arrivals, refuse_schedule, report_nodes};
 use crate::sources::Sources;
-use cluster_run::{Gate, run_cluster};
+use chain_file::Fed;
+use cluster_run::{Gate, SharedBlock, run_cluster, share_blocks};
 use edge_traits::Shelf;
 use node_model::NodeResult;
 use plain_node::PlainNode;
+use proc_check::Checked;
+use proc_syntax::Block;
 use rel_base::{List, NoMemory};
 use report_text::Look;
 use std::alloc::Global;
@@ -126,7 +129,21 @@ fn answer_alone<S: Shelf>(
     Ok(reply)
 }
 
-// The reply that reports nodes, which run side by side.
+/// An application and blocks in memory that nodes may share. The list of the blocks is let go meanwhile.
+pub fn share_both(
+    alloc: Global,
+    app: Checked,
+    blocks: List<Block>,
+) -> Result<(Arc<Checked>, List<SharedBlock>), NoMemory>
+    ensures app { IfOk result (λ shared. shared.0.value ≡ app) }
+    ensures blocks { IfOk result (λ shared. shared.1 ≡ blocks) }
+{
+    let app = Arc::new(alloc, app)?;
+    let blocks = share_blocks(alloc, blocks)?;
+    Ok((app, blocks))
+}
+
+// The reply that reports nodes, which run side by side and share the blocks.
 #[tactic(auto, using(crate::proofs::Clustered::reply_nodes))]
 fn run_side_by_side<R: Threads + Wait + Sync, G: Gate>(
     rt: &R,
@@ -149,34 +166,34 @@ fn run_side_by_side<R: Threads + Wait + Sync, G: Gate>(
         read,
     } = given;
     drop(schedule);
-    let Ok(app) = Arc::new(alloc, app) else {
+    let Fed { blocks, fault } = read;
+    let Ok((app, blocks)) = share_both(alloc, app, blocks) else {
         drop(arrivals);
-        drop(read);
         return Err(NoMemory);
     };
     match run_cluster::<IndexVersions, G, R>(
         rt,
         alloc,
         &app,
-        read.blocks.as_slice(),
+        blocks.as_slice(),
         arrivals.as_slice(),
         executors,
         gate,
     ) {
         Ok(nodes) => {
-            let reply = report_nodes(alloc, look, app.tables(), &nodes, &read.fault);
+            let reply = report_nodes(alloc, look, app.tables(), &nodes, &fault);
             drop(app);
             // As above.
             forget(nodes);
             drop(arrivals);
-            drop(read);
+            drop(blocks);
             reply
         }
-        Err(fault) => {
+        Err(refused) => {
             drop(app);
             drop(arrivals);
-            drop(read);
-            Err(fault)
+            drop(blocks);
+            Err(refused)
         }
     }
 }

@@ -9,9 +9,10 @@ ghost use Rattle.proc_syntax.specs.Limits.{most_executors, most_nodes};
 use crate::crew::Crew;
 use crate::gate::Gate;
 use crate::node::run_node;
+use crate::shared_block::SharedBlock;
 use node_model::NodeResult;
 use proc_check::Checked;
-use proc_syntax::{Block, Tx};
+use proc_syntax::Tx;
 use rel_base::{List, NoMemory};
 use row_sets::Versions;
 use std::alloc::Global;
@@ -25,7 +26,7 @@ pub fn run_cluster<V: Versions + Send, G: Gate, R: Threads + Wait + Sync>(
     rt: &R,
     alloc: Global,
     app: &Arc<Checked>,
-    blocks: &[Block],
+    blocks: &[SharedBlock],
     arrivals: &[List<Tx>],
     executors: u32,
     gate: &G,

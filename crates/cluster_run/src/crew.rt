@@ -5,8 +5,10 @@ ghost use Rattle.proc_syntax.specs.Limits.{most_executors};
 
 use crate::bell::Bell;
 use crate::gate::{Gate, Point};
+use crate::shared_block::SharedBlock;
 use node_core::HeldJob;
-use proc_syntax::{Block, Tx};
+use proc_syntax::Tx;
+use rel_base::Read;
 use std::sync::Wait;
 
 /// The actors of a node: the processor, which is actor 0, executors from 1 on, and after them one that makes the arrivals. Each comes to
@@ -17,13 +19,15 @@ pub struct Crew<'a, G: Gate> {
     pub number: u32,
     pub executors: u32,
     /// What the processor processes, in order.
-    pub blocks: &'a [Block],
+    pub blocks: &'a [SharedBlock],
     /// What arrives at the node, in order.
     pub arrivals: &'a [Tx],
     /// Rung where there may be a job to claim.
     pub bell: Bell,
     /// Rung where an executor holds its job no more.
     pub ended: Bell,
+    /// Rung where a job reads a span. Nobody sleeps on it.
+    pub spans: Bell,
     gate: &'a G,
 }
 
@@ -32,7 +36,7 @@ impl<'a, G: Gate> Crew<'a, G> {
     pub fn new(
         number: u32,
         executors: u32,
-        blocks: &'a [Block],
+        blocks: &'a [SharedBlock],
         arrivals: &'a [Tx],
         gate: &'a G,
     ) -> Crew<'a, G>
@@ -49,6 +53,7 @@ impl<'a, G: Gate> Crew<'a, G> {
             arrivals,
             bell: Bell::new(),
             ended: Bell::new(),
+            spans: Bell::new(),
             gate,
         }
     }
@@ -71,6 +76,13 @@ impl<'a, G: Gate> Crew<'a, G> {
         ensures { result ≡ (actor == self.now.executors + 1) }
     {
         actor == self.executors + 1
+    }
+
+    /// A job is about to make the read that it wants.
+    pub fn note_read(&self, work: &HeldJob) {
+        if matches!(work.wanted(), Some(Read::Span { .. })) {
+            self.spans.ring();
+        }
     }
 
     /// An actor comes to a point of a job.

@@ -29,6 +29,27 @@ fn commit_next<V: Versions, R: Wait>(
     node.commit(rt, pass)
 }
 
+// While the job of the first undecided transaction waits, the processor runs it and decides that transaction.
+fn run_due<V: Versions, G: Gate, R: Wait>(
+    rt: &R,
+    node: &SharedNode<V>,
+    crew: &Crew<'_, G>,
+    pass: &mut NodePass<V>,
+) -> Result<(), NoMemory>
+    requires stands { Stands node.now.lock pass.old None }
+    requires processor { pass_number pass.old ≡ 0 }
+    ensures comes { Comes pass.old pass.new None }
+    ensures blocks { SameBlocks pass.old pass.new }
+{
+    for _ in rt.forever() {
+        if !run_one(rt, node, crew, pass, Pick::Due)? {
+            return Ok(());
+        }
+        commit_next(rt, node, pass)?;
+    }
+    unreachable!()
+}
+
 // One commit, and where it waits, the run of what it waits for. Answers whether nothing is undecided.
 fn decide_next<V: Versions, G: Gate, R: Wait>(
     rt: &R,
@@ -46,7 +67,7 @@ fn decide_next<V: Versions, G: Gate, R: Wait>(
     match commit_next(rt, node, pass) {
         Ok(Decided::Outcome { .. }) => Ok(false),
         Ok(Decided::NotReady { holder: None, .. }) => {
-            run_one(rt, node, crew, pass, Pick::Due)?;
+            run_due(rt, node, crew, pass)?;
             Ok(false)
         }
         Ok(

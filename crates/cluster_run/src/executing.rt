@@ -21,7 +21,9 @@ use std::sync::atomic::{AtomicBool, Ordering};
 // After so many arrivals the bell is rung: each ring wakes all idle executors.
 const ARRIVALS_A_RING: u32 = 32;
 
-// The first job that can be claimed is run, and who waits for its end is reported. Answers whether there was one.
+// The first job that can be claimed is run, and who waits for its end is reported. Answers whether to look for another at once: there was
+// one, and a span was read meanwhile. Calls of points alone are in turns for most of their time, so that the processor gets on faster where
+// others run few of them.
 fn run_first<V: Versions, G: Gate, R: Wait>(
     rt: &R,
     node: &SharedNode<V>,
@@ -31,14 +33,16 @@ fn run_first<V: Versions, G: Gate, R: Wait>(
     requires stands { Stands node.now.lock pass.old None }
     ensures comes { Comes pass.old pass.new None }
 {
+    let before = crew.spans.heard();
     let ran = run_one(rt, node, crew, pass, Pick::Nth(0));
     if !matches!(ran, Ok(false)) {
         crew.ended.ring();
     }
-    ran
+    Ok(ran? && crew.spans.heard() != before)
 }
 
-/// Claims jobs and runs them, until the executor's flag is set or memory runs out. It holds none afterwards.
+/// Claims jobs and runs them, until the executor's flag is set or memory runs out. It holds none afterwards. Where no span was read during a job
+/// it waits for the bell before the next one, as where there is no job.
 pub fn execute<V: Versions, G: Gate, R: Wait>(
     rt: &R,
     node: &SharedNode<V>,

@@ -8,9 +8,9 @@ ghost use Rattle.turn_lock.specs.Passes.{pass_number};
 use crate::crew::Crew;
 use crate::deciding::decide_all;
 use crate::gate::Gate;
+use crate::shared_block::SharedBlock;
 use node_core::{Delivered, Sealed};
 use node_shared::{NodePass, SharedNode};
-use proc_syntax::Block;
 use rel_base::NoMemory;
 use row_sets::Versions;
 use std::sync::Wait;
@@ -21,7 +21,7 @@ fn deliver_block<V: Versions, G: Gate, R: Wait>(
     node: &SharedNode<V>,
     crew: &Crew<'_, G>,
     pass: &mut NodePass<V>,
-    block: &Block,
+    block: &SharedBlock,
 ) -> Result<Delivered, NoMemory>
     requires stands { Stands node.now.lock pass.old None }
     requires processor { pass_number pass.old ≡ 0 }
@@ -30,8 +30,10 @@ fn deliver_block<V: Versions, G: Gate, R: Wait>(
     ensures comes { Comes pass.old pass.new None }
     ensures delivers { OnOk result (delivered_by pass.new ≡ delivered_by pass.old ++ block.now ∷ []) }
 {
-    crew.come_to_block(rt, block.number);
-    let delivered = node.deliver(rt, pass, block);
+    let shared = block.whole();
+    crew.come_to_block(rt, shared.number);
+    let txs = block.txs()?;
+    let delivered = node.deliver_shared(rt, pass, shared, txs.as_slice());
     crew.bell.ring();
     delivered
 }
@@ -61,7 +63,7 @@ pub fn process_block<V: Versions, G: Gate, R: Wait>(
     node: &SharedNode<V>,
     crew: &Crew<'_, G>,
     pass: &mut NodePass<V>,
-    block: &Block,
+    block: &SharedBlock,
 ) -> Result<(), NoMemory>
     requires stands { Stands node.now.lock pass.old None }
     requires processor { pass_number pass.old ≡ 0 }
@@ -83,7 +85,7 @@ pub fn process_all<V: Versions, G: Gate, R: Wait>(
     node: &SharedNode<V>,
     crew: &Crew<'_, G>,
     pass: &mut NodePass<V>,
-    blocks: &[Block],
+    blocks: &[SharedBlock],
 ) -> Result<(), NoMemory>
     requires stands { Stands node.now.lock pass.old None }
     requires processor { pass_number pass.old ≡ 0 }

@@ -79,7 +79,7 @@ fn share_tx(jobs: &Jobs, number: u64) -> Result<Arc<Tx>, NoMemory>
 }
 
 impl<V: Versions> NodeCore<V> {
-    ghost use Rattle.std.specs.Prelude.{IfSome, OnErr, false};
+    ghost use Rattle.std.specs.Prelude.{IfSome, OnErr};
     ghost use Rattle.node_core.specs.Answers.{claimed_as};
     ghost use Rattle.node_core.specs.Core.{IsHeld, MayAsk, Steps, world_of};
     ghost use Rattle.node_core.specs.Hands.{IsClaimed};
@@ -111,12 +111,13 @@ impl<V: Versions> NodeCore<V> {
                 let tx = share_tx(&self.jobs, job)?;
                 let time = self.chain.time_of(tx.height);
                 let machine = Machine::start(self.alloc, &self.chain.app, &tx, time)?;
+                let work = HeldJob::new(self.alloc, job, actor, tx, machine)?;
                 self.jobs.hold(job, actor);
                 self.journal.push_reserved(Entry {
                     actor,
                     event: Event::Claim { job },
                 });
-                Ok(Some(HeldJob::new(job, actor, tx, machine)))
+                Ok(Some(work))
             }
         }
     }

@@ -7,43 +7,24 @@ ghost use Rattle.proc_syntax.specs.Declaring.{tables_of};
 ghost use Rattle.rel_base.specs.Among.{ReadFitsIn};
 
 use crate::answers::Next;
+use crate::job_in_hand::JobInHand;
 use crate::jobs::Record;
-use proc_run::{Machine, Want};
+use proc_run::Machine;
 use proc_syntax::Tx;
-use proc_syntax::run::{Ending, Ran};
 use rel_base::{Id, List, NoMemory, Read, Seen};
 use std::alloc::Global;
 use std::marker::Model;
 use std::sync::Arc;
 
-/// A job that an actor holds, with its run so far. Its reads are answered by the node; between two reads it runs outside of every turn.
+/// A job that an actor holds, with its run so far. Its reads are answered by the node; between two reads it runs outside of every turn. It
+/// stands on the heap, so that whoever hands it on moves a pointer.
 pub struct HeldJob {
-    job: u64,
-    actor: u32,
-    tx: Arc<Tx>,
-    machine: Machine,
-    /// The read for whose rows the machine waits.
-    wants: Option<Read>,
-    /// Whether the machine has come to the end.
-    ended: bool,
-    /// Whether the run was cut, after a read that is late.
-    cut: bool,
-    /// Whether the last read found that the id is settled.
-    gone: bool,
+    work: Box<JobInHand>,
 }
 
 impl Drop for HeldJob {
     fn drop(self) {
-        let HeldJob {
-            job: _,
-            actor: _,
-            tx: _,
-            machine: _,
-            wants: _,
-            ended: _,
-            cut: _,
-            gone: _,
-        } = self;
+        let HeldJob { work: _ } = self;
     }
 }
 
@@ -53,65 +34,63 @@ impl Model for HeldJob {
     ghost use Rattle.rel_base.specs.contracts.access.Read as read_code;
     ghost use Rattle.proc_syntax.specs.contracts.call.Tx as tx_code;
     ghost use Rattle.proc_syntax.specs.contracts.tree.App as app_code;
-    ghost use Rattle.node_core.specs.InHand.{InHand, IsInHand};
+    ghost use Rattle.node_core.specs.InHand.{InHand};
 
     ghost Value = { InHand };
 
     ghost coded = { Prim.hlevel (codes, app_code.the_row.coded, tx_code.the_row.coded, made_code.the_row.coded, read_code.the_row.coded) };
 
-    ghost view = { λ work. record { job = work.job; actor = work.actor; told = work.machine; cut = work.cut; gone = work.gone } };
-
-    ghost invariant = { λ work. IsInHand work.tx.value work.machine work.wants work.ended work.cut };
+    ghost view = { λ held. held.work.value };
 }
 
 impl HeldJob {
-    ghost use Rattle.node_core.specs.InHand.{AreAllReads, IsNextRead, IsReady, IsRecordOf, IsSameRun, WantsRead, with_read};
+    ghost use Rattle.node_core.specs.InHand.{AreAllReads, IsNextRead, IsReady, IsRecordOf, IsSameRun, with_read};
     ghost use Rattle.node_core.specs.Hands.{GoesOn, Says};
 
     /// A job as an actor takes it, with a machine that has not begun.
-    pub fn new(job: u64, actor: u32, tx: Arc<Tx>, machine: Machine) -> HeldJob
+    pub fn new(
+        alloc: Global,
+        job: u64,
+        actor: u32,
+        tx: Arc<Tx>,
+        machine: Machine,
+    ) -> Result<HeldJob, NoMemory>
         requires same { machine.tx ≡ tx.value }
         requires fresh { (machine.asks ≡ None) × (machine.ended ≡ false) }
-        ensures { result ≡ record { job = job; actor = actor; told = machine; cut = false; gone = false } }
+        ensures { IfOk result (λ held. held ≡ record { job = job; actor = actor; told = machine; cut = false; gone = false }) }
     {
-        HeldJob {
-            job,
-            actor,
-            tx,
-            machine,
-            wants: None,
-            ended: false,
-            cut: false,
-            gone: false,
-        }
+        let work = JobInHand::new(job, actor, tx, machine);
+        Ok(HeldJob {
+            work: Box::new(alloc, work)?,
+        })
     }
 
     /// The number of the job.
     pub fn job(&self) -> u64
         ensures { result ≡ self.now.job }
     {
-        self.job
+        self.work.job()
     }
 
     /// The actor that holds it.
     pub fn actor(&self) -> u32
         ensures { result ≡ self.now.actor }
     {
-        self.actor
+        self.work.actor()
     }
 
     /// The id of its transaction.
     pub fn id(&self) -> &Id
         ensures { result.now ≡ self.now.told.tx.id }
     {
-        &self.tx.id
+        self.work.id()
     }
 
     /// The height whose tables it reads.
     pub fn height(&self) -> u64
         ensures { result ≡ self.now.told.tx.height }
     {
-        self.tx.height
+        self.work.height()
     }
 
     /// Runs to the next read or to the end, where it is at neither. Where memory is wanting, it is as before and may be asked again.
@@ -121,25 +100,7 @@ impl HeldJob {
         ensures same { IsSameRun self.old self.new }
         ensures err { OnErr result (self.new ≡ self.old) }
     {
-        if self.gone {
-            return Ok(Next::Gone);
-        }
-        if self.cut || self.ended {
-            return Ok(Next::Ready);
-        }
-        if self.wants.is_some() {
-            return Ok(Next::Wants);
-        }
-        match self.machine.next()? {
-            Want::Rows(read) => {
-                self.wants = Some(read);
-                Ok(Next::Wants)
-            }
-            Want::Ended => {
-                self.ended = true;
-                Ok(Next::Ready)
-            }
-        }
+        self.work.advance()
     }
 
     /// The read that it wants, which fits its table, and is the next of the run.
@@ -149,7 +110,7 @@ impl HeldJob {
         ensures fits { IfSome self.now.told.asks (ReadFitsIn (tables_of self.now.told.app)) }
         ensures not_cut { IsSome self.now.told.asks → self.now.cut ≡ false }
     {
-        self.wants.as_ref()
+        self.work.wanted()
     }
 
     /// Takes the rows of the read that it wants, after which its run may be cut. Takes no memory.
@@ -158,16 +119,14 @@ impl HeldJob {
         requires order { IfSome self.old.told.asks (λ read. StandInOrder (tables_of self.old.told.app) read rows) }
         ensures { IfSome self.old.told.asks (λ read. self.new ≡ with_read self.old read rows cut) }
     {
-        self.machine.feed(rows);
-        self.wants = None;
-        self.cut = cut;
+        self.work.answer(rows, cut);
     }
 
     /// Notes that its read found the id settled.
     pub fn miss(&mut self)
         ensures { self.new ≡ record self.old { gone = true } }
     {
-        self.gone = true;
+        self.work.miss();
     }
 
     /// What is recorded of the run at its end. Takes no memory.
@@ -176,25 +135,7 @@ impl HeldJob {
         ensures record { IsRecordOf self result }
         ensures all { self.cut ≡ false → AreAllReads self.told }
     {
-        let HeldJob {
-            machine,
-            cut,
-            job: _,
-            actor: _,
-            tx: _,
-            wants: _,
-            ended: _,
-            gone: _,
-        } = self;
-        let ran = if cut {
-            Ran {
-                reads: machine.cut(),
-                writes: List::new(alloc),
-                ending: Ending::Good,
-            }
-        } else {
-            machine.finish()
-        };
-        Record { ran, cut }
+        let HeldJob { work } = self;
+        Box::into_inner(work).into_record(alloc)
     }
 }

@@ -13,6 +13,7 @@ pub mod due;
 pub mod held_job;
 pub mod held_job_steps;
 pub mod index;
+pub mod job_in_hand;
 pub mod job_rows;
 pub mod jobs;
 pub mod kept_record;

@@ -6,10 +6,10 @@ ghost use Rattle.serial_laws.specs.Chained.{AreNumbered};
 use crate::calls::{accounts, block, calls};
 use crate::gating::SideBySide;
 use crate::journals::{arrival_of, finisher_of, keep_step};
-use cluster_run::{Crew, run_node};
+use cluster_run::{Crew, SharedBlock, run_node};
 use node_model::{Entry, Event};
 use proc_check::Checked;
-use proc_syntax::{Block, Tx};
+use proc_syntax::Tx;
 use std::alloc::Global;
 use std::sync::{Arc, Wait};
 use std::test::Fail;
@@ -27,11 +27,14 @@ const OPENINGS: [&[u8]; 4] = [
 const PAYMENTS: [&[u8]; 2] = [b"tx p1 1 pay 1 2 5", b"tx p2 1 pay 3 4 5"];
 
 // A block that adds four accounts, and one of the two payments.
-fn two_blocks(alloc: Global) -> Result<[Block; 2], Fail>
+fn two_blocks(alloc: Global) -> Result<[SharedBlock; 2], Fail>
     ensures { IfOk result (λ blocks. AreNumbered 1 blocks) }
 {
     let (openings, payments) = (calls(alloc, &OPENINGS)?, calls(alloc, &PAYMENTS)?);
-    Ok([block(1, openings)?, block(2, payments)?])
+    Ok([
+        SharedBlock::new(alloc, &block(1, openings)?)?,
+        SharedBlock::new(alloc, &block(2, payments)?)?,
+    ])
 }
 
 // Whether an entry is an arrival.
@@ -59,7 +62,7 @@ fn run_at_once<R: Threads + Wait + Sync>(
     rt: &R,
     alloc: Global,
     app: &Arc<Checked>,
-    blocks: &[Block],
+    blocks: &[SharedBlock],
     arrivals: &[Tx],
 ) -> Result<bool, Fail>
     requires { AreNumbered 1 blocks.now }

@@ -3,5 +3,5 @@ use Rattle.bcdb.proofs.Loads.{loads_numbered}
 use Rattle.bcdb.proofs.loading.answer_load.Goals as goal
 use Rattle.chain_file.specs.Numbered.{NumberedFrom}
 
-pub run_load-reply-requires-clause-blocks : goal.run_load-reply-requires-clause-blocks
-run_load-reply-requires-clause-blocks g c κs within = subst (NumberedFrom 1) (sym c.in_ok-load.ensures.blocks) (loads_numbered c.args.number)
+pub run_load-requires-clause-blocks : goal.run_load-requires-clause-blocks
+run_load-requires-clause-blocks g c κs within = subst (NumberedFrom 1) (sym c.in_ok-load.ensures.blocks) (loads_numbered c.args.number)

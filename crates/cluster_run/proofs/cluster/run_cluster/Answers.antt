@@ -7,11 +7,11 @@ use Rattle.std.proofs.Crossing.{crosses}
 use Rattle.cluster_run.proofs.Arriving.{fed_first, fed_rest, fed_snoc}
 use Rattle.cluster_run.proofs.Crossing.{checked_send, checked_sync}
 use Rattle.cluster_run.proofs.Forks.{all_more, counts_one}
+use Rattle.cluster_run.proofs.shared_block.SharedBlock.TheSendSync as shared_block
 use Rattle.cluster_run.specs.Arrivals.{AreFedBy, IsFedBy}
 use Rattle.cluster_run.specs.Nodes.{IsNodeOf}
 use Rattle.node_model.specs.declared.result.NodeResult.{NodeResult}
 use Rattle.proc_syntax.specs.declared.call.Tx.{Tx}
-use Rattle.proc_syntax.proofs.call.Block.TheSendSync as block
 use Rattle.proc_syntax.proofs.call.Tx.TheSendSync as tx
 use Rattle.rel_base.proofs.list.List.TheSendSync as list
 use Rattle.cluster_run.proofs.cluster.run_cluster.Goals as goal
@@ -20,7 +20,7 @@ pub map_indices-requires-sync-F : goal.map_indices-requires-sync-F
 map_indices-requires-sync-F g c κs within =
     let gate : IsSync (param 1 g.row.G) = search (rules, c.requires, param_sync) parts 8 in
     let runtime : IsSync (param 2 g.row.R) = search (rules, c.requires, param_sync) parts 8 in
-    search (checked_send, checked_sync, list.the_sync, block.the_sync, tx.the_sync, crosses, sendable) depth 60 fits 20000
+    search (checked_send, checked_sync, list.the_sync, shared_block.the_sync, tx.the_sync, crosses, sendable) depth 60 fits 20000
 
 pub loop-node-init : goal.loop-node-init
 loop-node-init g c =

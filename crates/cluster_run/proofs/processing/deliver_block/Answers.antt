@@ -1,13 +1,24 @@
+use Rattle.std.proofs.Common.{OnOk, ap, subst, ◌+◌, ◌++◌, ◌∙◌, ◌≡◌, ◌∷◌, []}
 use Rattle.cluster_run.proofs.Blocks.{deliver_leaves, deliver_takes}
+use Rattle.cluster_run.proofs.Following.{same_self}
+use Rattle.cluster_run.specs.Standing.{delivered_by}
+use Rattle.proc_syntax.specs.declared.call.Block.{Block}
 use Rattle.cluster_run.proofs.processing.deliver_block.Goals as goal
+
+pub returns-in_err-txs-clause-comes : goal.returns-in_err-txs-clause-comes
+returns-in_err-txs-clause-comes g c = record { same = same_self c.args.pass.now; no_turn = c.requires.stands.no_turn; hand = c.requires.stands.hand }
 
 pub returns-clause-comes : goal.returns-clause-comes
 returns-clause-comes g c = record {
-  same = c.deliver-delivered.ensures.same;
-  no_turn = c.deliver-delivered.ensures.no_turn;
-  hand = deliver_leaves c.args.pass.now c.deliver-delivered.new.pass c.deliver-delivered.ensures.same c.requires.processor c.requires.stands.hand c.args.block.now c.deliver-delivered.result c.deliver-delivered.ensures.turn c.deliver-delivered.ensures.err;
+  same = c.deliver_shared-delivered.ensures.same;
+  no_turn = c.deliver_shared-delivered.ensures.no_turn;
+  hand = deliver_leaves c.args.pass.now c.deliver_shared-delivered.new.pass c.deliver_shared-delivered.ensures.same c.requires.processor c.requires.stands.hand c.whole-shared.result.now.value
+      c.deliver_shared-delivered.result c.deliver_shared-delivered.ensures.turn c.deliver_shared-delivered.ensures.err;
 }
 
 pub returns-clause-delivers : goal.returns-clause-delivers
 returns-clause-delivers g c =
-    deliver_takes c.args.pass.now c.deliver-delivered.new.pass c.deliver-delivered.ensures.same c.requires.processor c.requires.stands.hand c.args.block.now c.deliver-delivered.result c.deliver-delivered.ensures.turn c.requires.rests c.requires.next
+    let pass = c.deliver_shared-delivered.new.pass in
+    subst (λ (block : Block). OnOk c.deliver_shared-delivered.result (delivered_by pass ≡ delivered_by c.args.pass.now ++ block ∷ [])) c.whole-shared.ensures
+    (deliver_takes c.args.pass.now pass c.deliver_shared-delivered.ensures.same c.requires.processor c.requires.stands.hand c.whole-shared.result.now.value c.deliver_shared-delivered.result c.deliver_shared-delivered.ensures.turn
+    c.requires.rests (ap (λ (block : Block). block.number) c.whole-shared.ensures ∙ c.requires.next))

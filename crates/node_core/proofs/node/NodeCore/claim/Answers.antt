@@ -45,8 +45,8 @@ invariant_of-self-in-Some g c =
           longer,
     )
 
-pub returns-in_ok-machine-in-Some-clause-held : goal.returns-in_ok-machine-in-Some-clause-held
-returns-in_ok-machine-in-Some-clause-held g c =
+pub returns-in_ok-work-in-Some-clause-held : goal.returns-in_ok-work-in-Some-clause-held
+returns-in_ok-work-in-Some-clause-held g c =
     let s = c.self.inside in
     let view : record { app = s.chain.app.value.app; journal = s.journal.items } ≡ c.args.self.now = c.self.view_is ∙ c.choose.ensures.same in
     let chose : chosen c.args.self.now.app (world_of c.args.self.now) c.args.pick ≡ Some c.in-Some.job = search rules in
@@ -56,10 +56,10 @@ returns-in_ok-machine-in-Some-clause-held g c =
     let tx = c.in_ok-tx-in-Some.tx.value in
     let shares : option_map (λ row. row.tx.value) (row_at s.jobs c.in-Some.job) ≡ Some tx = search rules in
     let told : c.in_ok-machine-in-Some.machine ≡ record { app = s.chain.app.value.app; tx = tx; time = c.time_of-time.result; fed = []; asks = None; ended = false } = search rules in
-    let work : c.new.result ≡ record { job = c.in-Some.job; actor = c.args.actor; told = c.in_ok-machine-in-Some.machine; cut = false; gone = false } = search rules in
+    let work : c.in_ok-work-in-Some.work ≡ record { job = c.in-Some.job; actor = c.args.actor; told = c.in_ok-machine-in-Some.machine; cut = false; gone = false } = search rules in
     let sealed = (world s.chain.app.value.app s.journal.items).sealed in
     let time : c.time_of-time.result ≡ time_at tx.height sealed = c.time_of-time.ensures sealed c.self.invariant.0.holds ∙ ap (λ (t : Tx). time_at t.height sealed) c.deref.ensures in
-    claim_held _ c.self.invariant.0 c.args.actor c.in-Some.job c.args.pick may is c.push_reserved.new.self.items more c.new.result c.in_ok-machine-in-Some.machine tx c.time_of-time.result work told shares time
+    claim_held _ c.self.invariant.0 c.args.actor c.in-Some.job c.args.pick may is c.push_reserved.new.self.items more c.in_ok-work-in-Some.work c.in_ok-machine-in-Some.machine tx c.time_of-time.result work told shares time
 
 -- what holds whatever a result is holds where it is a failure
 on_err : {A E P : Type 0} (result : Result A E) → P → OnErr result P

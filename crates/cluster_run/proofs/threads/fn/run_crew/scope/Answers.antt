@@ -7,8 +7,8 @@ use Rattle.cluster_run.proofs.Following.{keeps_then}
 use Rattle.cluster_run.proofs.Arriving.{brings_same, more_joined, none_joined, same_joined}
 use Rattle.cluster_run.proofs.Forks.{all_more}
 use Rattle.cluster_run.proofs.Sharing.{node_sync, pass_send}
+use Rattle.cluster_run.proofs.shared_block.SharedBlock.TheSendSync as shared_block
 use Rattle.cluster_run.specs.Standing.{AllBring, KeepsBlocks}
-use Rattle.proc_syntax.proofs.call.Block.TheSendSync as block
 use Rattle.proc_syntax.proofs.call.Tx.TheSendSync as tx
 use Rattle.turn_lock.specs.Passes.{made, mine, pass_number}
 use Rattle.cluster_run.proofs.threads.fn.run_crew.scope.Goals.{in-Err, in-Ok}
@@ -21,7 +21,7 @@ spawn_with-start-requires-send-F g c κs within =
     let pass = pass_send (param 0 g.row.V) g.V.Versions v in
     let gate : IsSync (param 1 g.row.G) = search (rules, c.requires, param_sync) parts 8 in
     let runtime : IsSync (param 2 g.row.R) = search (rules, c.requires, param_sync) parts 8 in
-    search (block.the_sync, tx.the_sync, crosses, sendable) depth 60 fits 20000
+    search (shared_block.the_sync, tx.the_sync, crosses, sendable) depth 60 fits 20000
 
 pub spawn_with-start-requires-send-T : goal.spawn_with-start-requires-send-T
 spawn_with-start-requires-send-T g c κs within =

@@ -4,7 +4,7 @@ use Rattle.node_core.proofs.Going.{ready_goes, wants_goes}
 use Rattle.node_core.proofs.Hand.{asked, at_end}
 use Rattle.node_core.specs.Hands.{GoesOn}
 use Rattle.node_core.specs.declared.answers.Next.TheVariants as next
-use Rattle.node_core.proofs.held_job.HeldJob.advance.Goals as goal
+use Rattle.node_core.proofs.job_in_hand.JobInHand.advance.Goals as goal
 
 pub invariant_of-self-in-Rows : goal.invariant_of-self-in-Rows
 invariant_of-self-in-Rows c =
