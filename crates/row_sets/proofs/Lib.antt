@@ -1,6 +1,7 @@
 pub mod Cells
 pub mod Endings
 pub mod Entries
+pub mod Few
 pub mod Filling
 pub mod Flat
 pub mod Histories

@@ -3,6 +3,7 @@
 
 pub mod cover;
 pub mod entry;
+pub mod few_writes;
 pub mod hits;
 pub mod merge;
 pub mod net;

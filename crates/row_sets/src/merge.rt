@@ -70,6 +70,22 @@ fn set_covered(
     }
 }
 
+/// Lays a few own writes over the rows of a read of their table, one after the other.
+pub fn lay_few(
+    alloc: Global,
+    def: &TableDef,
+    read: &Read,
+    rows: &mut BTreeMap<Key, Row>,
+    few: &[(Key, OwnWrite)],
+) -> Result<(), NoMemory>
+    ensures { OnOk result (rows.new.entries ≡ lay_keys def.now read.now rows.old.entries few.now) }
+{
+    for (key, own) in few {
+        set_covered(alloc, def, read, rows, key, &own.after)?;
+    }
+    Ok(())
+}
+
 /// Lays own writes over the rows of a read of their table, one after the other.
 pub fn lay_each(
     alloc: Global,

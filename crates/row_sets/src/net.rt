@@ -28,6 +28,18 @@ fn push_write(writes: &mut Vec<Write>, table: u32, key: Key, own: OwnWrite)
     });
 }
 
+/// Puts the net writes of a few own writes of a table at the end of others, which have room for them.
+pub fn push_few(few: Vec<(Key, OwnWrite)>, table: u32, writes: &mut Vec<Write>)
+    requires { vec_len writes.old + length few.items ≤ vec_capacity writes.old }
+    ensures writes { writes.new.items ≡ writes.old.items ++ net_writes (in_table table few.items) }
+    ensures len { vec_len writes.new ≤ vec_len writes.old + length few.items }
+    ensures room { vec_capacity writes.new ≡ vec_capacity writes.old }
+{
+    for (key, own) in few {
+        push_write(writes, table, key, own);
+    }
+}
+
 /// Puts the net writes of a table at the end of others, which have room for them, in the order of their keys.
 pub fn push_each(own: BTreeMap<Key, OwnWrite>, table: u32, writes: &mut Vec<Write>)
     requires { vec_len writes.old + length own.entries ≤ vec_capacity writes.old }

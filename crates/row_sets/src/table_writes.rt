@@ -1,14 +1,18 @@
 //! A transaction's own writes of one table.
 
 ghost use Rattle.std.specs.Prelude.{◌≡◌, ◌+◌, ◌≤◌, ◌++◌, IfOk, IfSome, OnErr, OnOk, not, is_some, length};
+ghost use Rattle.std.specs.BTreeMap.{IsOrdered};
 ghost use Rattle.std.specs.FinMap as map;
+ghost use Rattle.std.specs.FinMap.Entries.{find};
 ghost use Rattle.std.specs.Option.{option_copied, option_map};
 ghost use Rattle.std.specs.Vec.{vec_len, vec_capacity};
 ghost use Rattle.rel_base.specs.OwnWrites.{own_or};
+ghost use Rattle.rel_base.specs.Value.{key_cmp};
 ghost use Rattle.row_sets.specs.Overlay.{in_table, lay_keys, net_writes, put_own};
 
-use crate::merge::lay_each;
-use crate::net::push_each;
+use crate::few_writes::{find_few, move_all, put_few};
+use crate::merge::{lay_each, lay_few};
+use crate::net::{push_each, push_few};
 use rel_base::{Key, NoMemory, Read, Row, TableDef, Write};
 use std::alloc::Global;
 use std::collections::BTreeMap;
@@ -22,17 +26,28 @@ pub struct OwnWrite {
     pub after: Option<Row>,
 }
 
+/// The number of writes that a vector holds at most.
+const MOST_FEW: usize = 8;
+
 /// A transaction's own writes of one table, by their keys.
+///
+/// The first writes stand in a vector in the order of their keys, so that a transaction of a few writes takes no node of a map,
+/// which has room for many. Before more are put, all of them are moved to a map, so that a look takes a number of steps that
+/// grows with the logarithm of their number.
 #[derive(Drop)]
 pub struct TableWrites {
-    rows: BTreeMap<Key, OwnWrite>,
+    few: Vec<(Key, OwnWrite)>,
+    /// The keys of these are greater than those of the vector.
+    many: BTreeMap<Key, OwnWrite>,
 }
 
 impl Model for TableWrites {
-    ghost use Rattle.std.specs.BTreeMap.{IsOrdered};
+    ghost use Rattle.std.proofs.Common.{T};
     ghost use Rattle.std.specs.Coded.{coded_list};
     ghost use Rattle.std.specs.FinMap as map;
     ghost use Rattle.std.specs.FinMap.{FinMap};
+    ghost use Rattle.std.specs.FinMap.Entries.{is_sorted};
+    ghost use Rattle.row_sets.specs.Few.{in_order};
     ghost use Rattle.rel_base.specs.contracts.value.Value as value;
     ghost use Rattle.rel_base.specs.Value.{key_cmp};
     ghost use Rattle.row_sets.specs.contracts.table_writes.OwnWrite as own_write;
@@ -42,9 +57,9 @@ impl Model for TableWrites {
 
     ghost coded = { map.code (coded_list value.the_row.coded) own_write.the_row.coded };
 
-    ghost view = { λ writes. map.from_entries {R = key_cmp} writes.rows.entries };
+    ghost view = { λ writes. map.from_entries {R = key_cmp} (in_order writes.few writes.many) };
 
-    ghost invariant = { λ writes. IsOrdered key_cmp writes.rows };
+    ghost invariant = { λ writes. T (is_sorted key_cmp (in_order writes.few writes.many)) };
 }
 
 impl TableWrites {
@@ -53,7 +68,8 @@ impl TableWrites {
         ensures { result ≡ map.empty }
     {
         TableWrites {
-            rows: BTreeMap::new(alloc),
+            few: Vec::new(alloc),
+            many: BTreeMap::new(alloc),
         }
     }
 
@@ -61,8 +77,8 @@ impl TableWrites {
     pub fn look<'a>(&'a self, key: &Key, base: Option<&'a Row>) -> Option<&'a Row>
         ensures { option_copied result ≡ own_or (option_map (λ own. own.after) (map.get self.now key.now)) (option_copied base.entry) }
     {
-        match self.rows.get(key) {
-            None => base,
+        match find_few(self.few.as_slice(), key) {
+            None => look_many(&self.many, key, base),
             Some(own) => row_of(&own.after),
         }
     }
@@ -78,12 +94,11 @@ impl TableWrites {
         ensures first { IfOk result (λ first. first ≡ not (map.contains_key self.old key)) }
         ensures unchanged { OnErr result (self.new ≡ self.old) }
     {
-        if let Some(own) = self.rows.get_mut(&key) {
-            own.after = after;
-            return Ok(false);
+        if self.many.is_empty() && self.few.len() < MOST_FEW {
+            return put_few(&mut self.few, key, before, after);
         }
-        let _ = self.rows.insert(key, OwnWrite { before, after })?;
-        Ok(true)
+        move_all(&mut self.few, &mut self.many)?;
+        put_many(&mut self.many, key, before, after)
     }
 
     /// Lays the writes over rows of a read of their table.
@@ -96,7 +111,8 @@ impl TableWrites {
     ) -> Result<(), NoMemory>
         ensures { OnOk result (rows.new.entries ≡ lay_keys def.now read.now rows.old.entries (map.entries self.now)) }
     {
-        lay_each(alloc, def, read, rows, &self.rows)
+        lay_few(alloc, def, read, rows, self.few.as_slice())?;
+        lay_each(alloc, def, read, rows, &self.many)
     }
 
     /// Puts the net writes at the end of others, which have room for them.
@@ -106,8 +122,44 @@ impl TableWrites {
         ensures len { vec_len writes.new ≤ vec_len writes.old + length (map.entries self) }
         ensures room { vec_capacity writes.new ≡ vec_capacity writes.old }
     {
-        push_each(self.rows, table, writes)
+        let TableWrites { few, many } = self;
+        push_few(few, table, writes);
+        push_each(many, table, writes)
     }
+}
+
+/// The row that was left at a key, where the key was written, and else another.
+fn look_many<'a>(
+    many: &'a BTreeMap<Key, OwnWrite>,
+    key: &Key,
+    base: Option<&'a Row>,
+) -> Option<&'a Row>
+    ensures { option_copied result ≡ own_or (option_map (λ own. own.after) (find key_cmp key.now many.now.entries)) (option_copied base.entry) }
+{
+    match many.get(key) {
+        None => base,
+        Some(own) => row_of(&own.after),
+    }
+}
+
+/// A row is left at a key, or none: whether the key was not written before.
+fn put_many(
+    many: &mut BTreeMap<Key, OwnWrite>,
+    key: Key,
+    before: Option<Row>,
+    after: Option<Row>,
+) -> Result<bool, NoMemory>
+    ensures put { OnOk result (map.from_entries {R = key_cmp} many.new.entries ≡ put_own (map.from_entries many.old.entries) key before after) }
+    ensures first { IfOk result (λ first. first ≡ not (map.contains_key (map.from_entries {R = key_cmp} many.old.entries) key)) }
+    ensures unchanged { OnErr result (many.new.entries ≡ many.old.entries) }
+    ensures ordered { IsOrdered key_cmp many.new }
+{
+    if let Some(own) = many.get_mut(&key) {
+        own.after = after;
+        return Ok(false);
+    }
+    let _ = many.insert(key, OwnWrite { before, after })?;
+    Ok(true)
 }
 
 /// The row that may be there.

@@ -1,20 +1,30 @@
-use Rattle.std.proofs.Common.{◌≡◌, ap, sym, ◌∙◌, Option}
-use Rattle.std.specs.FinMap.{get}
+use Rattle.std.proofs.Common.{◌≡◌, ◌++◌, ap, sym, ◌∙◌, Option, Some, None}
+use Rattle.std.specs.FinMap.{get, get-from_entries}
+use Rattle.std.specs.FinMap.Entries.{find}
 use Rattle.std.specs.Option.{option_copied, option_map}
 use Rattle.rel_base.specs.OwnWrites.{own_or}
-use Rattle.rel_base.specs.Value.{key_cmp, key_cmp-total, key_cmp-exact}
+use Rattle.rel_base.specs.Value.{key_cmp, key_cmp-total}
 use Rattle.row_sets.specs.declared.table_writes.OwnWrite.{OwnWrite}
-use Rattle.row_sets.proofs.Entries.{get_is_lookup}
+use Rattle.row_sets.proofs.Few.{found_first, found_later}
 use Rattle.row_sets.proofs.table_writes.TableWrites.look.Goals as goal
 
+-- the map is asked
 pub returns-in-None : goal.returns-in-None
 returns-in-None c =
-    let got : get c.args.self.now c.args.key.now ≡ option_copied c.get.result =
-    ap (λ m. get m c.args.key.now) (sym c.self.view_is) ∙ get_is_lookup key_cmp key_cmp-total key_cmp-exact c.self.inside.rows.entries c.args.key.now ∙ sym c.get.ensures.value in
-    sym (ap (λ (found : Option OwnWrite). own_or (option_map (λ own. own.after) found) (option_copied c.args.base)) (got ∙ ap option_copied c.in-None.is))
+    let key = c.args.key.now in
+    let few = c.self.inside.few.items in
+    let many = c.self.inside.many.entries in
+    let missed : find key_cmp key few ≡ None = ap (find key_cmp key) (sym c.as_slice.ensures.value) ∙ sym c.find_few.ensures ∙ ap option_copied c.in-None.is in
+    let got : get c.args.self.now key ≡ find key_cmp key many = ap (λ m. get m key) (sym c.self.view_is) ∙ get-from_entries key_cmp-total (few ++ many) key ∙ found_later key few many missed in
+    c.look_many.ensures ∙ sym (ap (λ (found : Option OwnWrite). own_or (option_map (λ own. own.after) found) (option_copied c.args.base)) got)
 
+-- it stands in the vector
 pub returns-in-Some : goal.returns-in-Some
 returns-in-Some c =
-    let got : get c.args.self.now c.args.key.now ≡ option_copied c.get.result =
-    ap (λ m. get m c.args.key.now) (sym c.self.view_is) ∙ get_is_lookup key_cmp key_cmp-total key_cmp-exact c.self.inside.rows.entries c.args.key.now ∙ sym c.get.ensures.value in
-    c.row_of.ensures ∙ sym (ap (λ (found : Option OwnWrite). own_or (option_map (λ own. own.after) found) (option_copied c.args.base)) (got ∙ ap option_copied c.in-Some.is))
+    let key = c.args.key.now in
+    let few = c.self.inside.few.items in
+    let many = c.self.inside.many.entries in
+    let found : find key_cmp key few ≡ Some c.in-Some.own.now = ap (find key_cmp key) (sym c.as_slice.ensures.value) ∙ sym c.find_few.ensures ∙ ap option_copied c.in-Some.is in
+    let got : get c.args.self.now key ≡ Some c.in-Some.own.now =
+    ap (λ m. get m key) (sym c.self.view_is) ∙ get-from_entries key_cmp-total (few ++ many) key ∙ found_first key few many c.in-Some.own.now found in
+    c.row_of.ensures ∙ sym (ap (λ (found : Option OwnWrite). own_or (option_map (λ own. own.after) found) (option_copied c.args.base)) got)

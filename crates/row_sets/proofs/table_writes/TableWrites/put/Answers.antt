@@ -1,48 +1,49 @@
-use Rattle.std.proofs.Common.{◌≡◌, ap, sym, subst, ◌∙◌, List, cond, Option, Some, None, is_some, not}
-use Rattle.std.specs.BTreeMap.{BTreeMap, is_at}
-use Rattle.std.specs.FinMap.{get, insert}
-use Rattle.std.specs.Map.{lookup}
-use Rattle.std.specs.Option.{option_copied_mut}
-use Rattle.rel_base.specs.Value.{key_cmp, key_cmp-total, key_cmp-exact}
-use Rattle.rel_base.specs.declared.value.Value.{Value}
-use Rattle.row_sets.specs.Overlay.{first_before}
-use Rattle.row_sets.specs.declared.table_writes.OwnWrite.{OwnWrite}
-use Rattle.row_sets.proofs.Entries.{get_is_lookup, one_set}
+use Rattle.std.proofs.Common.{◌≡◌, ◌++◌, ap, sym, subst, ◌∙◌, IfOk, T, is_some, not, length}
+use Rattle.std.specs.FinMap.{from_entries, get, get-from_entries}
+use Rattle.std.specs.FinMap.Entries.{find, is_sorted, is_sorted-put}
+use Rattle.rel_base.specs.Value.{key_cmp, key_cmp-total}
+use Rattle.row_sets.specs.Few.{put_over}
+use Rattle.row_sets.specs.Overlay.{put_own}
+use Rattle.row_sets.proofs.Endings.{either_way, on_ok_then}
+use Rattle.row_sets.proofs.Entries.{sorted_from_keys}
+use Rattle.row_sets.proofs.Few.{alone, put_is_own}
 use Rattle.row_sets.proofs.table_writes.TableWrites.put.Goals as goal
 
--- a key that was written keeps its row before
-pub returns-in-Some-clause-put : goal.returns-in-Some-clause-put
-returns-in-Some-clause-put c =
-    let es = c.self.inside.rows.entries in
-    let key = c.args.key in
-    let looked = sym c.get_mut.ensures.value ∙ ap option_copied_mut c.in-Some.is in
-    let got : get c.args.self.now key ≡ Some c.in-Some.own.now = ap (λ writes. get writes key) (sym c.self.view_is) ∙ get_is_lookup key_cmp key_cmp-total key_cmp-exact es key ∙ looked in
-    let new : OwnWrite = record { before = c.in-Some.own.now.before; after = c.args.after } in
-    one_set key_cmp key_cmp-total key_cmp-exact es (c.get_mut.follows.lender new).entries key new ((c.get_mut.follows.holds new).3 (ap is_some looked)).0
-    ∙ ap (λ writes. insert writes key new) c.self.view_is
-    ∙ ap (λ (found : Option OwnWrite). insert c.args.self.now key (record { before = first_before c.args.before found; after = c.args.after })) (sym got)
+-- all writes stand in the vector
+pub invariant_of-self : goal.invariant_of-self
+invariant_of-self c =
+    let few = c.self.inside.few.items in
+    let new = c.put_few.new.few.items in
+    let many = c.self.inside.many.entries in
+    let none : length many ≡ 0 = c.is_empty.ensures.0 c.if-is_empty.true in
+    let sorted : T (is_sorted key_cmp few) = subst (λ own. T (is_sorted key_cmp own)) (alone few many none) c.self.invariant in
+    subst (λ own. T (is_sorted key_cmp own)) (sym (alone new many none))
+    (either_way c.put_few.result (λ put. subst (λ own. T (is_sorted key_cmp own)) (sym put)
+    (is_sorted-put key_cmp key_cmp-total c.args.key (put_over c.args.before c.args.after (find key_cmp c.args.key few)) few sorted))
+    (λ same. subst (λ own. T (is_sorted key_cmp own)) (sym same) sorted) c.put_few.ensures.put c.put_few.ensures.unchanged)
 
-pub returns-in-Some-clause-first : goal.returns-in-Some-clause-first
-returns-in-Some-clause-first c =
-    let looked = sym c.get_mut.ensures.value ∙ ap option_copied_mut c.in-Some.is in
-    ap (λ (found : Option OwnWrite). not (is_some found))
-    (sym (ap (λ writes. get writes c.args.key) (sym c.self.view_is) ∙ get_is_lookup key_cmp key_cmp-total key_cmp-exact c.self.inside.rows.entries c.args.key ∙ looked))
+pub returns-then-len-lt-MOST_FEW-clause-put : goal.returns-then-len-lt-MOST_FEW-clause-put
+returns-then-len-lt-MOST_FEW-clause-put c =
+    let few = c.self.inside.few.items in
+    let new = c.put_few.new.few.items in
+    let many = c.self.inside.many.entries in
+    let none : length many ≡ 0 = c.is_empty.ensures.0 c.if-is_empty.true in
+    let all : from_entries {R = key_cmp} few ≡ c.args.self.now = ap (from_entries {R = key_cmp}) (sym (alone few many none)) ∙ c.self.view_is in
+    on_ok_then c.put_few.result (λ put. ap (from_entries {R = key_cmp}) (alone new many none ∙ put)
+    ∙ put_is_own c.args.key c.args.before c.args.after few
+    ∙ ap (λ own. put_own own c.args.key c.args.before c.args.after) all) c.put_few.ensures.put
 
--- a key that was not written
-pub returns-clause-put : goal.returns-clause-put
-returns-clause-put c =
-    let es = c.self.inside.rows.entries in
-    let key = c.args.key in
-    let looked = sym c.get_mut.ensures.value ∙ ap option_copied_mut c.in_default.is in
-    let got : get c.args.self.now key ≡ None = ap (λ writes. get writes key) (sym c.self.view_is) ∙ get_is_lookup key_cmp key_cmp-total key_cmp-exact es key ∙ looked in
-    let new : OwnWrite = record { before = c.args.before; after = c.args.after } in
-    one_set key_cmp key_cmp-total key_cmp-exact es c.insert.new.self.entries key new
-    (subst (λ (rows : BTreeMap (List Value) OwnWrite). (q : List Value) → lookup (is_at (key_cmp q)) c.insert.new.self.entries ≡ cond (is_at (key_cmp key) q) (Some new) (lookup (is_at (key_cmp q)) rows.entries)) c.get_mut.follows.holds-at-none c.in_ok-insert.ensures.updates.0)
-    ∙ ap (λ writes. insert writes key new) c.self.view_is
-    ∙ ap (λ (found : Option OwnWrite). insert c.args.self.now key (record { before = first_before c.args.before found; after = c.args.after })) (sym got)
+pub returns-then-len-lt-MOST_FEW-clause-first : goal.returns-then-len-lt-MOST_FEW-clause-first
+returns-then-len-lt-MOST_FEW-clause-first c =
+    let few = c.self.inside.few.items in
+    let many = c.self.inside.many.entries in
+    let none : length many ≡ 0 = c.is_empty.ensures.0 c.if-is_empty.true in
+    let got : get c.args.self.now c.args.key ≡ find key_cmp c.args.key few =
+    ap (λ own. get own c.args.key) (sym c.self.view_is) ∙ get-from_entries key_cmp-total (few ++ many) c.args.key ∙ ap (find key_cmp c.args.key) (alone few many none) in
+    subst (λ own. IfOk c.put_few.result (λ first. first ≡ not (is_some own))) (sym got) c.put_few.ensures.first
 
-pub returns-clause-first : goal.returns-clause-first
-returns-clause-first c =
-    let looked = sym c.get_mut.ensures.value ∙ ap option_copied_mut c.in_default.is in
-    ap (λ (found : Option OwnWrite). not (is_some found))
-    (sym (ap (λ writes. get writes c.args.key) (sym c.self.view_is) ∙ get_is_lookup key_cmp key_cmp-total key_cmp-exact c.self.inside.rows.entries c.args.key ∙ looked))
+-- all stand in the map
+pub invariant_of-self-2 : goal.invariant_of-self-2
+invariant_of-self-2 c =
+    let many = c.put_many.new.many.entries in
+    subst (λ own. T (is_sorted key_cmp (own ++ many))) (sym c.in_ok-move_all.ensures.all) (sorted_from_keys key_cmp many c.put_many.ensures.ordered)
