@@ -1,10 +1,11 @@
 -- One position placed: what is left, and what is made.
-use Rattle.std.proofs.Common.{ap, append_assoc, arith, cond, length, map, not, refl, subst, suc, sym, zero, Bool, List, MatchOption, None, Option, Some, true, false, [], ◌+◌, ◌++◌, ◌-◌, ◌==◌, ◌∙◌, ◌≡◌, ◌&&◌, ◌∷◌, ℕ, ⊎_elim}
+use Rattle.std.proofs.Common.{ap, append_assoc, arith, cond, length, map, not, refl, reverse, subst, suc, sym, zero, Bool, List, MatchOption, None, Option, Some, true, false, [], ◌+◌, ◌++◌, ◌-◌, ◌==◌, ◌∙◌, ◌≡◌, ◌&&◌, ◌∷◌, ℕ, ⊎_elim}
 use Rattle.std.specs.Option.{option_map, unwrap_or}
 use Rattle.std.proofs.lemmas.Bool.Decides.{eqb_tells}
 use Rattle.std.proofs.lemmas.List.{append-nil}
 use Rattle.node_model.specs.Order.{is_free, order, order_from, place, take_first}
 use Rattle.serial_order.proofs.Mapped.{take_first-map}
+use Rattle.serial_order.proofs.Maps.{map_reverse}
 use Rattle.serial_order.proofs.Unreached.{comers-cons}
 use Rattle.serial_order.proofs.Taken.{IsTaken, Takes, here, taken, takes_length, there}
 use Rattle.serial_order.specs.Counts.{IsLeft, predecessors, entries, entry_of, has_none, lowered}
@@ -67,13 +68,20 @@ module _ (has : ℕ → ℕ → Bool) where
                 ap (λ n. order_from has n h.set) long ∙ ap (place (order_from has (length s.1))) e
 
     -- as the clause of `take_free` says it
-    pub step_of : (left new : List Left) (list : List ℕ) (result : Option ℕ) (from : ℕ) (X : Type 0) (o : Option (Left × List Left)) → take_first has_none left ≡ o
+    step_of : (left new : List Left) (list : List ℕ) (result : Option ℕ) (from : ℕ) (X : Type 0) (o : Option (Left × List Left)) → take_first has_none left ≡ o
         → MatchOption o ((result ≡ None) × X) (λ r. (result ≡ Some r.0.pos) × (new ≡ r.1)) → result ≡ Some from → IsLeft has all left list → IsLeft has all (map (lowered has from) new) (list ++ from ∷ [])
     step_of left new list result from X None e m is h = let bad : None ≡ Some from = sym m.0 ∙ is in cc
     step_of left new list result from X (Some r) e m is h =
         let same : r.0.pos ≡ from = ap (λ o. unwrap_or o from) (sym m.0 ∙ is) in
         subst (λ f. IsLeft has all (map (lowered has f) new) (list ++ f ∷ [])) same
         (subst (λ l. IsLeft has all (map (lowered has r.0.pos) l) (list ++ r.0.pos ∷ [])) (sym m.1) (step left list r h e))
+
+    -- the same of entries that stand in reverse order
+    pub step_back : (left new : List Left) (list : List ℕ) (result : Option ℕ) (from : ℕ) (X : Type 0) (o : Option (Left × List Left)) → take_first has_none (reverse left) ≡ o
+        → MatchOption o ((result ≡ None) × X) (λ r. (result ≡ Some r.0.pos) × (reverse new ≡ r.1)) → result ≡ Some from → IsLeft has all (reverse left) list
+        → IsLeft has all (reverse (map (lowered has from) new)) (list ++ from ∷ [])
+    step_back left new list result from X o e m is h =
+        subst (λ l. IsLeft has all l (list ++ from ∷ [])) (map_reverse (lowered has from) new) (step_of (reverse left) (reverse new) list result from X o e m is h)
 
     pub done_of : (left new : List Left) (list : List ℕ) (result : Option ℕ) (X : Type 0) (o : Option (Left × List Left)) → take_first has_none left ≡ o
         → MatchOption o ((result ≡ None) × X) (λ r. (result ≡ Some r.0.pos) × (new ≡ r.1)) → result ≡ None → IsLeft has all left list → list ≡ order has all

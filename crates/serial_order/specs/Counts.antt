@@ -2,11 +2,11 @@
 use Rattle.node_model.specs.Order.{order, order_from, take_first}
 use Rattle.serial_order.specs.declared.left.Left.{Left}
 use Rattle.std.specs.List.{count_by, slice_index_or}
-use Rattle.std.specs.Prelude.{Bool, List, Some, cond, length, map, remove, ◌++◌, ◌-◌, ◌<◌, ◌==◌, ◌≡◌, ℕ}
+use Rattle.std.specs.Prelude.{Bool, List, Some, cond, length, map, remove, reverse, ◌++◌, ◌-◌, ◌<◌, ◌==◌, ◌≡◌, ℕ}
 
--- what is taken out first is the element at a place
+-- of a list whose first stands last: what is taken out first is the element at a place
 abbrev pub IsTakenAt : {A : Type 0} → (A → Bool) → List A → ℕ → Type 0
-IsTakenAt {A} test list index = (index < length list) × ((d : A) → take_first test list ≡ Some (slice_index_or list index d, remove list index))
+IsTakenAt {A} test list index = (index < length list) × ((d : A) → take_first test (reverse list) ≡ Some (slice_index_or list index d, reverse (remove list index)))
 
 -- how many of some positions have an edge to a position
 abbrev pub predecessors : (ℕ → ℕ → Bool) → List ℕ → ℕ → ℕ

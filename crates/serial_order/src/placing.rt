@@ -1,6 +1,6 @@
 //! The serial order, by counting the edges that come to each position from those that are left.
 
-ghost use Rattle.std.specs.Prelude.{ℕ, Bool, IfOk, IfSome, List, MatchOption, None, Some, false, map, vec_len, ◌<◌, ◌≡◌};
+ghost use Rattle.std.specs.Prelude.{ℕ, Bool, IfOk, IfSome, List, MatchOption, None, Some, false, map, reverse, vec_len, ◌<◌, ◌≡◌};
 ghost use Rattle.node_model.specs.Order.{IsSerialOrder, order, take_first};
 ghost use Rattle.rw_graph.specs.Graph.{has_edge, positions_of};
 ghost use Rattle.serial_order.specs.Cycles.{HasNoCycle};
@@ -52,9 +52,9 @@ fn count_to(set: &EdgeSet, to: u32) -> usize
     }
 }
 
-// Each position, with how many edges come to it.
+// Each position, with how many edges come to it. The earliest stands last, so that little moves where it is taken out.
 fn counted(alloc: Global, set: &EdgeSet) -> Result<Vec<Left>, NoMemory>
-    ensures { IfOk result (λ left. left.items ≡ entries (has_edge set.now) (positions_of set.now)) }
+    ensures { IfOk result (λ left. reverse left.items ≡ entries (has_edge set.now) (positions_of set.now)) }
 {
     let mut left = Vec::new(alloc);
     for to in set.positions() {
@@ -63,6 +63,7 @@ fn counted(alloc: Global, set: &EdgeSet) -> Result<Vec<Left>, NoMemory>
             predecessors: count_to(set, *to),
         })?;
     }
+    left.reverse();
     Ok(left)
 }
 
@@ -100,11 +101,11 @@ fn lower(set: &EdgeSet, from: u32, left: &mut Vec<Left>)
     }
 }
 
-// The place of the first entry to which no edge comes.
-fn first_free(left: &[Left]) -> Option<usize>
-    ensures { MatchOption result (take_first has_none left.now ≡ None) (λ index. IsTakenAt has_none left.now index) }
+// The place of the last entry to which no edge comes.
+fn last_free(left: &[Left]) -> Option<usize>
+    ensures { MatchOption result (take_first has_none (reverse left.now) ≡ None) (λ index. IsTakenAt has_none left.now index) }
 {
-    for index in 0..left.len() {
+    for index in (0..left.len()).rev() {
         if left[index].predecessors == 0 {
             return Some(index);
         }
@@ -112,12 +113,13 @@ fn first_free(left: &[Left]) -> Option<usize>
     None
 }
 
-// Takes out the first position to which no edge comes.
+// Takes out the earliest position to which no edge comes.
 fn take_free(left: &mut Vec<Left>) -> Option<u32>
-    ensures taken { MatchOption (take_first has_none left.old.items) ((result ≡ None) × (left.new ≡ left.old)) (λ taken. (result ≡ Some taken.0.pos) × (left.new.items ≡ taken.1)) }
+    ensures taken { MatchOption (take_first has_none (reverse left.old.items)) ((result ≡ None) × (left.new ≡ left.old))
+        (λ taken. (result ≡ Some taken.0.pos) × (reverse left.new.items ≡ taken.1)) }
     ensures len { IfSome result (λ _. vec_len left.new < vec_len left.old) }
 {
-    match first_free(left.as_slice()) {
+    match last_free(left.as_slice()) {
         None => None,
         Some(index) => Some(left.remove(index).pos),
     }
