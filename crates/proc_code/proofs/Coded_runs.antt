@@ -16,7 +16,7 @@ use Rattle.proc_syntax.specs.Run.{ran, no_run, start, takes, procedure_named, ca
 use Rattle.proc_syntax.specs.Steps.{Going, Stopped}
 use Rattle.proc_syntax.specs.Values.{have_kinds}
 use Rattle.proc_code.specs.Coded as coded
-use Rattle.proc_code.specs.Coded.{Slots, given, begin, code_named, accepts, code_called, do_all}
+use Rattle.proc_code.specs.Coded.{Slots, begin, code_called, do_all}
 use Rattle.proc_code.specs.Laws.{CodeRunsAreRuns}
 use Rattle.proc_code.specs.Numbers.{Names, bound_names, column_names, column_places, joined, slots_of}
 use Rattle.proc_code.specs.Resolved.{action_of, param_of, proc_of, code_of}

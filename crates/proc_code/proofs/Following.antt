@@ -25,7 +25,7 @@ use Rattle.proc_syntax.proofs.Trees.{Such, bare, stripped, every_stmt}
 use Rattle.proc_code.specs.declared.tree.Action.{Action, Action-F, fold-roll-Action, map-Action, roll-Action}
 use Rattle.proc_code.specs.declared.tree.Action.TheOpen as action
 use Rattle.proc_code.specs.Coded as coded
-use Rattle.proc_code.specs.Coded.{Slots, table_at, do_step, do_action, do_all}
+use Rattle.proc_code.specs.Coded.{Slots, do_step, do_action, do_all}
 use Rattle.proc_code.specs.Numbers.{Names, has_name, number_of_name, joined, bound_step, bound_names, table_number, column_of_table, column_names, column_places}
 use Rattle.proc_code.specs.Resolved.{term_of, setting_of, action_step, action_of}
 use Rattle.proc_code.proofs.Numbered.{all_front, all_back}

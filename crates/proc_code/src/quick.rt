@@ -13,6 +13,7 @@ use proc_syntax::Op;
 use rel_base::{List, Value};
 
 /// The number that a value is.
+#[inline(always)]
 fn number_in(value: Option<&Value>) -> Option<i64>
     ensures { IfSome result (λ n. option_copied value.entry ≡ Some (Int n)) }
 {
@@ -23,6 +24,7 @@ fn number_in(value: Option<&Value>) -> Option<i64>
 }
 
 /// Whether an operator may give a number of two numbers, so that it is worth looking for them.
+#[inline(always)]
 fn is_counting(op: Op) -> bool {
     match op {
         Op::Add | Op::Sub | Op::Mul => true,
@@ -31,6 +33,7 @@ fn is_counting(op: Op) -> bool {
 }
 
 /// The number that an operator gives of two numbers, where it gives one.
+#[inline(always)]
 fn number_by(op: Op, left: i64, right: i64) -> Option<i64>
     ensures { IfSome result (λ n. apply op (Int left) (Ok (Int right)) ≡ Ok (Int n)) }
 {
@@ -135,6 +138,7 @@ pub fn deep_number(
 }
 
 /// Whether an operator compares, so that it is worth looking for two numbers.
+#[inline(always)]
 fn is_comparison(op: Op) -> bool {
     match op {
         Op::Eq | Op::Ne | Op::Lt | Op::Le | Op::Gt | Op::Ge => true,
@@ -143,6 +147,7 @@ fn is_comparison(op: Op) -> bool {
 }
 
 /// What a comparison of two numbers gives.
+#[inline(always)]
 fn test_by(op: Op, left: i64, right: i64) -> Option<bool>
     ensures { IfSome result (λ b. apply op (Int left) (Ok (Int right)) ≡ Ok (Bool b)) }
 {
@@ -159,6 +164,7 @@ fn test_by(op: Op, left: i64, right: i64) -> Option<bool>
 }
 
 /// What a comparison of two leaves gives, where they are numbers.
+#[inline(always)]
 fn test_of_leaves(
     columns: &List<List<Option<usize>>>,
     environment: &Environment,
@@ -177,6 +183,7 @@ fn test_of_leaves(
 }
 
 /// The truth value that an expression is, where it compares two leaves that are numbers.
+#[inline(always)]
 pub fn quick_test(
     columns: &List<List<Option<usize>>>,
     environment: &Environment,

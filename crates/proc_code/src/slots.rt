@@ -18,6 +18,7 @@ pub struct Environment {
 }
 
 /// What a variable stands for.
+#[inline(always)]
 pub fn in_slot<'a>(slots: &'a [Option<Binding>], slot: usize) -> Option<&'a Binding>
     ensures { option_copied result ≡ in_slot slots.now slot }
 {
@@ -28,6 +29,7 @@ pub fn in_slot<'a>(slots: &'a [Option<Binding>], slot: usize) -> Option<&'a Bind
 }
 
 /// The number that a column of a name, by the name's number, has in a table.
+#[inline(always)]
 pub fn column_at(columns: &List<List<Option<usize>>>, name: usize, table: u32) -> Option<usize>
     ensures { result ≡ column_at columns.now name table }
 {
@@ -37,6 +39,7 @@ pub fn column_at(columns: &List<List<Option<usize>>>, name: usize, table: u32) -
 }
 
 /// The value of what a variable stands for, in such a column.
+#[inline(always)]
 fn cell_of<'a>(
     columns: &List<List<Option<usize>>>,
     name: usize,
@@ -54,6 +57,7 @@ fn cell_of<'a>(
 }
 
 /// The value of what a variable stands for, where it stands for one.
+#[inline(always)]
 pub fn plain_in<'a>(slots: &'a [Option<Binding>], slot: usize) -> Option<&'a Value>
     ensures { option_copied result ≡ option_and_then plain_of (in_slot slots.now slot) }
 {
@@ -64,6 +68,7 @@ pub fn plain_in<'a>(slots: &'a [Option<Binding>], slot: usize) -> Option<&'a Val
 }
 
 /// The value of the row that a variable holds, in the column of a name, where there is one.
+#[inline(always)]
 pub fn field_in<'a>(
     columns: &List<List<Option<usize>>>,
     slots: &'a [Option<Binding>],

@@ -22,7 +22,7 @@ pub fn changed(
     ensures { Gives result (found (row_under def.now key.now (set_columns old.now changes.now))) }
 {
     let row = with_columns(alloc, old, changes)?;
-    if is_under(alloc, def, key, &row)? {
+    if is_under(def, key, &row) {
         Ok(row)
     } else {
         Err(Halt::Stop(Stop::IllTyped))

@@ -3,7 +3,8 @@
 ghost use Rattle.std.specs.Prelude.{◌≡◌, ◌==◌, ◌&&◌, cond, IfOk, OnOk, map, take, Some, None, slice_set};
 ghost use Rattle.std.specs.List.{list_any};
 ghost use Rattle.rel_base.specs.Schema.{kind_at, key_of_row, span_columns};
-ghost use Rattle.rel_base.specs.Value.{key_eq};
+ghost use Rattle.rel_base.specs.Row.{value_at};
+ghost use Rattle.rel_base.specs.Value.{key_eq, value_eq};
 ghost use Rattle.proc_syntax.specs.Values.{has_kind, have_kinds};
 ghost use Rattle.proc_syntax.specs.Meaning.{end_has, span_on, row_fits, key_for, set_columns};
 
@@ -148,14 +149,34 @@ pub fn key_for(alloc: Global, def: &TableDef, row: &Row) -> Result<Option<Key>, 
     }
 }
 
-/// Whether a row fits and has a key.
-pub fn is_under(alloc: Global, def: &TableDef, key: &Key, row: &Row) -> Result<bool, NoMemory>
-    ensures { IfOk result (λ under. under ≡ (row_fits def.now row.now && key_eq (key_of_row def.now row.now) key.now)) }
+/// Whether a row has a value in a column.
+fn has_value(row: &Row, column: u32, value: &Value) -> bool
+    ensures { result ≡ value_eq (value_at row.now column) value.now }
 {
-    match key_for(alloc, def, row)? {
-        None => Ok(false),
-        Some(found) => Ok(found.cmp(key).is_eq()),
+    match row.get(column as usize) {
+        None => Value::Int(0) == *value,
+        Some(found) => found == value,
     }
+}
+
+/// Whether a row has some values in some columns, one in each, in order.
+#[tactic(auto, using(crate::proofs::Keyed::key_eq_next))]
+fn has_values(row: &Row, columns: &[u32], values: &[Value]) -> bool
+    ensures { result ≡ key_eq (map (value_at row.now) columns.now) values.now }
+{
+    match (columns.split_first(), values.split_first()) {
+        (None, None) => true,
+        (Some((column, columns)), Some((value, values))) => has_value(row, *column, value)
+            && has_values(row, columns, values),
+        _ => false,
+    }
+}
+
+/// Whether a row fits and has a key. The key is compared with the row's own values, so it takes no memory.
+pub fn is_under(def: &TableDef, key: &Key, row: &Row) -> bool
+    ensures { result ≡ (row_fits def.now row.now && key_eq (key_of_row def.now row.now) key.now) }
+{
+    fits_table(def, row) && has_values(row, def.key.as_slice(), key.as_slice())
 }
 
 /// Sets a column among the values of a row that has it.

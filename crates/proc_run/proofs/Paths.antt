@@ -1,13 +1,13 @@
 -- One more spot is one more frame.
 use Rattle.std.proofs.Common.{◌≡◌, ℕ, ◌+◌, ◌<◌, ◌≤◌, refl, sym, ap, ◌∙◌, List, [], ◌∷◌, ◌++◌, length, drop, add-one, true, false, Bool, cond, Ok, Err, Option, Some, None}
-use Rattle.std.specs.Prelude.{slice_get}
+use Rattle.std.specs.Prelude.{◌==◌, slice_get}
 use Rattle.std.specs.List.{find}
-use Rattle.std.proofs.lemmas.Bool.{lt-ltb, le-ltb}
+use Rattle.std.proofs.lemmas.Bool.{lt-ltb, le-ltb, eqb-true}
 use Rattle.std.proofs.lemmas.List.{drop_all}
 use Rattle.rel_base.specs.declared.schema.TableDef.{TableDef}
 use Rattle.rel_base.specs.declared.value.Value.{Value}
 use Rattle.rel_base.specs.Tables.{Tables}
-use Rattle.rel_base.proofs.Lists.{drop_next, item_of}
+use Rattle.rel_base.proofs.Lists.{drop_next, item_of, nil_of}
 use Rattle.proc_syntax.specs.declared.fault.Fault.TheVariants as fault
 use Rattle.proc_syntax.specs.declared.run.Stop.{Stop}
 use Rattle.proc_syntax.specs.declared.run.Stop.TheVariants as stop
@@ -21,13 +21,16 @@ use Rattle.proc_run.specs.declared.path.Spot.TheVariants as spot
 use Rattle.proc_run.specs.declared.plan.Plan.{Plan}
 use Rattle.proc_run.specs.Path.{Frame, part_of, step_into, block_of, frame_at, frames_of}
 use Rattle.proc_run.specs.Planned.{plan_of}
-use Rattle.proc_run.specs.Remains.{do_plan, run_frame, run_frames}
+use Rattle.proc_run.specs.Remains.{do_plan, run_frame, run_frames, IsEntered, IsSamePath}
 use Rattle.proc_run.proofs.Planning.{goes_at}
 
 -- ---- lists
 
 pub one_left : {X : Type 0} (xs : List X) (n : ℕ) (x : X) → slice_get xs n ≡ Some x → drop n xs ≡ x ∷ drop (n + 1) xs
 one_left xs n x h = drop_next xs n x h ∙ ap (λ m. x ∷ drop m xs) (sym (add-one n))
+
+pub none_of : {X : Type 0} (xs : List X) → (length xs == 0) ≡ true → xs ≡ []
+none_of xs h = nil_of xs (eqb-true (length xs) 0 h)
 
 -- ---- outcomes
 
@@ -125,6 +128,24 @@ module _ (declared : List TableDef) (columns : List (List (Option ℕ))) (S : Ta
           ∙ ap (λ o. then_do o later) (sym (goes_at declared columns S block next a counted here))
           ∙ ap (then_do (act counted)) (λ i st. block_rest root ss at (next + 1) branch block st same i)
           ∙ block_acts low
+
+  -- ---- a block that is done, or in which there is nothing
+
+  pub rest_done : (root : List Action) (ss : List Spot) (at next : ℕ) (branch : Branch) → length (part_of (block_of root ss) at branch) ≤ next
+      → IsSamePath declared columns S root (ss ++ spot.Done at branch ∷ []) (ss ++ spot.Block at branch next ∷ [])
+  rest_done root ss at next branch over = (
+    block_push root ss (spot.Done at branch) ∙ sym (block_push root ss (spot.Block at branch next)),
+    λ st. path_push root ss (spot.Done at branch) st
+        ∙ ap (λ left. then_do (do_all declared columns S left st) (runs (frames_of root ss))) (sym (drop_all next (part_of (block_of root ss) at branch) over))
+        ∙ sym (path_push root ss (spot.Block at branch next) st),
+  )
+
+  pub done_over : (root : List Action) (before ss : List Spot) (at : ℕ) (branch : Branch) (st : State) → before ≡ ss ++ spot.Done at branch ∷ []
+      → runs (frames_of root ss) st ≡ runs (frames_of root before) st
+  done_over root before ss at branch st was = sym (path_push root ss (spot.Done at branch) st) ∙ ap (λ path. runs (frames_of root path) st) (sym was)
+
+  pub none_inside : (root : List Action) (ss : List Spot) (at : ℕ) (branch : Branch) → part_of (block_of root ss) at branch ≡ [] → IsEntered declared columns S root at branch ss ss
+  none_inside root ss at branch empty = λ st. ap (λ block. then_do (do_all declared columns S block st) (runs (frames_of root ss))) (sym empty)
 
   -- ---- the rows of a `for`
 

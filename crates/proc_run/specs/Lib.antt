@@ -1,3 +1,4 @@
+pub mod Got
 pub mod Changed
 pub mod Path
 pub mod Planned

@@ -23,6 +23,7 @@ use Rattle.proc_run.specs.declared.state.Phase.TheVariants as phase
 use Rattle.proc_run.specs.declared.state.Run.{Run}
 use Rattle.proc_run.specs.declared.state.Want.{Want}
 use Rattle.proc_run.specs.declared.state.Want.TheVariants as want
+use Rattle.proc_run.specs.Got.{as_made}
 use Rattle.proc_run.specs.Path.{body_at}
 use Rattle.proc_run.specs.Remains.{state, remains, waits, PhaseFits, StandInOrder}
 use Rattle.proc_syntax.specs.Limits.{most_steps}
@@ -48,7 +49,7 @@ read_of (phase.Stopped why) = None
 abbrev pub given_of : Phase → List Made
 given_of phase.Running = []
 given_of (phase.Ask at asked) = []
-given_of (phase.Answered at asked) = asked.made ∷ []
+given_of (phase.Answered at asked) = as_made asked.made ∷ []
 given_of phase.Good = []
 given_of (phase.Stopped why) = []
 

@@ -54,6 +54,7 @@ part_of block at Second = block_in second_block (slice_get block at)
 
 abbrev pub step_into : List Action → Spot → List Action
 step_into block (spot.Block at branch next) = part_of block at branch
+step_into block (spot.Done at branch) = part_of block at branch
 step_into block (spot.Loop at slot table rows next) = block
 
 -- the block to which a path leads
@@ -68,6 +69,7 @@ pub data Frame : Type 0 where
 
 abbrev pub frame_at : List Action → Spot → Frame
 frame_at block (spot.Block at branch next) = Rest (drop next (part_of block at branch))
+frame_at block (spot.Done at branch) = Rest []
 frame_at block (spot.Loop at slot table rows next) = Rows slot table (drop next rows) (part_of block at First)
 
 -- the last is the first to go on

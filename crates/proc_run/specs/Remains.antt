@@ -79,6 +79,14 @@ module _ (declared : List TableDef) (columns : List (List (Option ℕ))) (tables
   run_frames [] state = Going state
   run_frames (frame ∷ frames) state = then_do (run_frames frames state) (run_frame frame)
 
+  -- two paths lead to one block, and what is left on them comes to the same
+  abbrev pub IsSamePath : List Action → List Spot → List Spot → Type 0
+  IsSamePath root one other = (block_of root one ≡ block_of root other) × ((state : State) → run_frames (frames_of root one) state ≡ run_frames (frames_of root other) state)
+
+  -- a block of the statement of a number is done before what is left on a path
+  abbrev pub IsEntered : List Action → ℕ → Branch → List Spot → List Spot → Type 0
+  IsEntered root at branch old new = (state : State) → run_frames (frames_of root new) state ≡ then_do (do_all declared columns tables (part_of (block_of root old) at branch) state) (run_frames (frames_of root old))
+
   -- what remains once the step of the next statement of a block is counted: what the statement's plan comes to, and the rest of the block
   abbrev pub goes_past : List Action → List Spot → ℕ → Branch → ℕ → Plan → State → Progress
   goes_past root spots at branch next plan state =

@@ -1,16 +1,24 @@
 //! A read that a run asks, on the heap.
 
 ghost use Rattle.std.specs.Prelude.{◌≡◌, [], IfOk};
+ghost use Rattle.proc_run.specs.Got.{as_made};
 
 use crate::plan::Pending;
-use rel_base::{List, Made, NoMemory, Read, Seen};
+use rel_base::{List, Made, NoMemory, Read, Seen, SeenRows};
 use std::alloc::Global;
 use std::marker::Model;
+
+/// A read, and its rows once it has them.
+#[derive(Drop)]
+pub struct Got {
+    pub read: Read,
+    pub rows: List<Seen>,
+}
 
 /// A read, its rows once it has them, and what is done with them.
 #[derive(Drop)]
 pub struct Asked {
-    pub made: Made,
+    pub made: Got,
     pub pending: Pending,
 }
 
@@ -38,7 +46,7 @@ impl HeldAsked {
         ensures { IfOk result (λ asked. asked ≡ record { made = record { read = read; rows = [] }; pending = pending }) }
     {
         let rows = List::new(alloc);
-        let made = Made { read, rows };
+        let made = Got { read, rows };
         Ok(HeldAsked {
             held: Box::new(alloc, Asked { made, pending })?,
         })
@@ -60,12 +68,16 @@ impl HeldAsked {
         &self.held
     }
 
-    /// The read and its rows, off the heap.
+    /// The read as it was made. Its rows are let go.
     pub fn into_made(self) -> Made
-        ensures { result ≡ self.made }
+        ensures { result ≡ as_made self.made }
     {
         let HeldAsked { held } = self;
         let Asked { made, pending: _ } = Box::into_inner(held);
-        made
+        let Got { read, rows } = made;
+        Made {
+            read,
+            rows: SeenRows::of(&rows),
+        }
     }
 }

@@ -14,6 +14,7 @@ use rel_base::List;
 use std::alloc::Global;
 
 /// Counts a step, and gives a variable the value of an expression, where there is one. Where there is none, nothing is done.
+#[inline(never)]
 fn assign_value(
     alloc: Global,
     columns: &List<List<Option<usize>>>,
@@ -39,6 +40,7 @@ fn assign_value(
 }
 
 /// The same, where a value that is a number is found with no value on the way.
+#[inline(always)]
 fn assign(
     alloc: Global,
     columns: &List<List<Option<usize>>>,
@@ -64,6 +66,7 @@ fn assign(
 }
 
 /// Does the statement of a number in a block, where it is an assignment that can be done. Where it is not, nothing is done.
+#[inline(always)]
 fn assign_next(
     alloc: Global,
     columns: &List<List<Option<usize>>>,
@@ -91,6 +94,7 @@ fn assign_next(
 
 /// Does the statements of a block from a number on while they are assignments that can be done, and answers the number of the first
 /// that is not.
+#[inline(always)]
 pub fn assign_all(
     alloc: Global,
     columns: &List<List<Option<usize>>>,

@@ -26,6 +26,7 @@ use row_sets::Overlay;
 use std::alloc::Global;
 
 /// Puts the read that was answered last on the list, which has room for it.
+#[inline(always)]
 pub fn keep(made: &mut Vec<Made>, phase: Phase)
     requires { vec_len made.old + held_of phase ≤ vec_capacity made.old }
     ensures items { made.new.items ≡ made.old.items ++ given_of phase }
@@ -105,6 +106,7 @@ pub fn settle(
 }
 
 /// A run stands in another way from now on.
+#[inline(always)]
 pub fn stand(phase: &mut Phase, next: Phase)
     ensures { phase.new ≡ next }
 {
@@ -144,6 +146,7 @@ pub fn go_on(
 
 /// Runs a call of an application to its next read or to its end, from where it stands. Where memory is wanting, what remains of the
 /// run is as before.
+#[inline(always)]
 pub fn go_to_read(
     alloc: Global,
     app: &Checked,

@@ -1,8 +1,9 @@
 //! The machine.
 
-ghost use Rattle.std.specs.Prelude.{◌≡◌, [], ◌∷◌, ◌++◌, None, IfOk, OnErr, IfSome, IsSome, true, false};
+ghost use Rattle.std.specs.Prelude.{◌≡◌, ◌≤◌, [], ◌∷◌, ◌++◌, None, IfOk, OnErr, IfSome, IsSome, true, false};
 ghost use Rattle.rel_base.specs.Tables.{Tables};
 ghost use Rattle.proc_syntax.specs.Declaring.{tables_of};
+ghost use Rattle.proc_syntax.specs.Limits.{most_steps};
 ghost use Rattle.proc_syntax.specs.Run.{run};
 ghost use Rattle.proc_run.specs.Remains.{StandInOrder};
 ghost use Rattle.proc_run.specs.declared.path.Branch.TheVariants.{Whole};
@@ -152,6 +153,13 @@ impl Machine {
             }
             _ => unreachable!(),
         }
+    }
+
+    /// The number of steps that the run took so far.
+    pub fn steps(&self) -> u32
+        ensures few { result ≤ most_steps }
+    {
+        self.run.steps
     }
 
     /// What the run gave, which has ended: on any tables on which the reads have the rows that were fed, it is the run of the call there.

@@ -25,6 +25,11 @@ pub enum Spot {
         branch: Branch,
         next: usize,
     },
+    /// A block of a statement of which nothing is left. It stands on the path because its last statement does.
+    Done {
+        at: usize,
+        branch: Branch,
+    },
     /// The rows of a `for`, with the number of the row that is next. Each row goes into a variable.
     Loop {
         at: usize,
@@ -99,6 +104,7 @@ pub fn block_at<'a>(root: &'a [Action], spots: &[Spot]) -> &'a [Action]
     for spot in spots {
         block = match spot {
             Spot::Block { at, branch, .. } => part(block, *at, *branch),
+            Spot::Done { at, branch } => part(block, *at, *branch),
             Spot::Loop { .. } => block,
         };
     }

@@ -9,6 +9,7 @@ ghost use Rattle.proc_eval.specs.declared.halt.Halt.TheVariants as halt;
 ghost use Rattle.proc_run.specs.Planned.{ask, plan_of, plan_set, plan_if, plan_key, plan_for, plan_insert, plan_update};
 
 use crate::asked::HeldAsked;
+use proc_code::quick::quick_test;
 use proc_code::slots::Environment;
 use proc_code::values::{eval, eval_end, eval_key, eval_row, eval_settings};
 use proc_code::{Action, Setting, Term};
@@ -57,6 +58,7 @@ pub fn find_table(tables: &List<TableDef>, table: u32) -> Result<&TableDef, Halt
 }
 
 /// The point read of a key that fits.
+#[inline(always)]
 fn point_read(def: &TableDef, table: u32, key: Key) -> Result<Read, Stop>
     ensures { result ≡ found (point_of def.now table key) }
 {
@@ -97,6 +99,7 @@ fn key_of_fit(alloc: Global, def: &TableDef, row: &Row) -> Result<Key, Halt>
 }
 
 /// A read is next.
+#[inline(always)]
 fn ask(alloc: Global, read: Read, pending: Pending) -> Result<Plan, Halt>
     ensures { Gives result (Ok (ask read pending)) }
 {
@@ -127,12 +130,16 @@ impl Scene<'_> {
     fn test(&self, test: &Term) -> Result<Plan, Halt>
         ensures { Gives result (plan_if self.now.columns.now test.now self.now.environment.now) }
     {
+        if let Some(first) = quick_test(self.columns, self.environment, test) {
+            return Ok(Plan::Enter { first });
+        }
         let value = eval(self.alloc, self.columns, self.environment, test)?;
         let first = flag(&value)?;
         Ok(Plan::Enter { first })
     }
 
     /// The point read of a key.
+    #[inline(always)]
     fn ask_key(&self, table: u32, key: &[Term], pending: Pending) -> Result<Plan, Halt>
         ensures { Gives result (plan_key self.now.tables.now self.now.columns.now table key.now pending self.now.environment.now) }
     {

@@ -20,6 +20,7 @@ ghost use Rattle.proc_run.specs.Changed.{changed_at};
 ghost use Rattle.proc_run.specs.Path.{part_of, block_of, frames_of};
 ghost use Rattle.proc_run.specs.Remains.{state, seen_in, StandInOrder, at_key, answered, run_frames, Ends, Comes, KeepsFound};
 
+use crate::asked::Got;
 use crate::path::{Branch, Holder, Spot};
 use crate::plan::{Pending, find_table};
 use crate::state::Run;
@@ -28,7 +29,7 @@ use crate::variables::hold;
 use proc_eval::Halt;
 use proc_eval::change::changed;
 use proc_syntax::{Fault, Stop};
-use rel_base::{Key, List, Made, NoMemory, Read, Row, Seen, TableDef, Twin, Value};
+use rel_base::{Key, List, NoMemory, Read, Row, Seen, TableDef, Twin, Value};
 use row_sets::Overlay;
 use row_sets::merge::first_of;
 use std::alloc::Global;
@@ -38,7 +39,7 @@ fn seen_rows(
     alloc: Global,
     tables: &List<TableDef>,
     own: &Overlay,
-    made: &Made,
+    made: &Got,
 ) -> Result<List<Row>, NoMemory>
     requires { StandInOrder tables.now made.now.read made.now.rows }
     ensures { IfOk result (λ rows. rows ≡ seen_in tables.now made.now.read (own_of own.now) made.now.rows) }
@@ -110,7 +111,7 @@ fn first_seen(
     alloc: Global,
     tables: &List<TableDef>,
     own: &Overlay,
-    made: &Made,
+    made: &Got,
 ) -> Result<Option<Row>, NoMemory>
     requires { StandInOrder tables.now made.now.read made.now.rows }
     ensures { IfOk result (λ row. row ≡ slice_get (seen_in tables.now made.now.read (own_of own.now) made.now.rows) 0) }
@@ -163,7 +164,7 @@ fn leave(
 fn put_new(
     alloc: Global,
     tables: &List<TableDef>,
-    made: &Made,
+    made: &Got,
     row: &Row,
     run: &mut Run,
 ) -> Result<(), Halt>
@@ -190,7 +191,7 @@ fn put_new(
 fn put_changed(
     alloc: Global,
     tables: &List<TableDef>,
-    made: &Made,
+    made: &Got,
     changes: &[(usize, Value)],
     run: &mut Run,
 ) -> Result<(), Halt>
@@ -211,7 +212,7 @@ fn put_changed(
 }
 
 /// Deletes the row of a key.
-fn put_none(alloc: Global, tables: &List<TableDef>, made: &Made, run: &mut Run) -> Result<(), Halt>
+fn put_none(alloc: Global, tables: &List<TableDef>, made: &Got, run: &mut Run) -> Result<(), Halt>
     ensures ends { Ends result (asked (state run.new) made.now.read made.now.rows)
         (at_key made.now.read (λ table key. delete_at table key (seen_in tables.now made.now.read (own_of run.old.own) made.now.rows)) (asked (state run.old) made.now.read made.now.rows)) }
     ensures found { KeepsFound made.now.read made.now.rows run.old.own run.new.own }
@@ -252,7 +253,7 @@ fn enter(spots: &mut Vec<Spot>, run: &mut Run, holder: Holder, row: Option<Row>)
 #[derive(Clone, Copy)]
 pub struct AnsweredRead<'a> {
     pub at: usize,
-    pub made: &'a Made,
+    pub made: &'a Got,
     pub pending: &'a Pending,
 }
 

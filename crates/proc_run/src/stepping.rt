@@ -9,13 +9,13 @@ ghost use Rattle.proc_run.specs.declared.path.Branch.TheVariants.{First, Second}
 ghost use Rattle.proc_run.specs.declared.state.Phase.TheVariants as phase;
 ghost use Rattle.proc_run.specs.Path.{block_of, frames_of, part_of};
 ghost use Rattle.proc_run.specs.Planned.{PlanFits};
-ghost use Rattle.proc_run.specs.Remains.{state, goes_past, run_frames, remains, has_rows, PhaseFits};
+ghost use Rattle.proc_run.specs.Remains.{state, goes_past, run_frames, remains, has_rows, IsEntered, PhaseFits};
 ghost use Rattle.proc_syntax.specs.Limits.{most_steps};
 
-use crate::path::{Branch, Cursor, Holder, Program, Spot};
+use crate::path::{Branch, Cursor, Holder, Program, Spot, part};
 use crate::plan::{Plan, plan_action};
 use crate::state::{MOST_RUN_STEPS, Phase, Run};
-use crate::turn::{push_block, push_rows};
+use crate::turn::{push_block, push_rest, push_rows};
 use crate::variables::{hold, put};
 use proc_code::Action;
 use proc_eval::Halt;
@@ -30,13 +30,30 @@ fn branch_of(first: bool) -> Branch
     if first { Branch::First } else { Branch::Second }
 }
 
+/// Puts a block of the statement of a number in a block at the end of a path, unless there is nothing in it. There is room for it.
+fn enter_block(spots: &mut Vec<Spot>, block: &[Action], at: usize, branch: Branch)
+    requires { vec_len spots.old < vec_capacity spots.old }
+    ensures runs { (tables : List Def) (columns : List (List (Option ℕ))) (S : Tables) (root : List Act) → block.now ≡ block_of root spots.old.items → IsEntered tables columns S root at branch spots.old.items spots.new.items }
+    ensures len { vec_len spots.new ≤ vec_len spots.old + 1 }
+{
+    if !part(block, at, branch).is_empty() {
+        push_block(spots, at, branch, 0);
+    }
+}
+
 /// Counts the step of the next statement of a block, and does what it comes to, once the rest of the block is on the path. There is
 /// room for two spots.
-fn perform(spots: &mut Vec<Spot>, run: &mut Run, cursor: Cursor, plan: Plan) -> Phase
+fn perform(
+    spots: &mut Vec<Spot>,
+    run: &mut Run,
+    block: &[Action],
+    cursor: Cursor,
+    plan: Plan,
+) -> Phase
     requires room { vec_len spots.old + 2 ≤ vec_capacity spots.old }
     requires steps { run.old.steps < most_steps }
     requires next { cursor.next + 1 < 2 ^ 64 }
-    ensures remains { (tables : List Def) (columns : List (List (Option ℕ))) (S : Tables) (root : List Act) → remains tables columns S root result spots.new.items (state run.new)
+    ensures remains { (tables : List Def) (columns : List (List (Option ℕ))) (S : Tables) (root : List Act) → block.now ≡ part_of (block_of root spots.old.items) cursor.at cursor.branch → remains tables columns S root result spots.new.items (state run.new)
         ≡ goes_past tables columns S root spots.old.items cursor.at cursor.branch cursor.next plan (state run.old) }
     ensures steps { run.new.steps ≡ run.old.steps + 1 }
     ensures own { run.new.own ≡ run.old.own }
@@ -47,14 +64,19 @@ fn perform(spots: &mut Vec<Spot>, run: &mut Run, cursor: Cursor, plan: Plan) -> 
 {
     let Cursor { at, branch, next } = cursor;
     run.steps += 1;
-    push_block(spots, at, branch, next + 1);
+    let after = Cursor {
+        at,
+        branch,
+        next: next + 1,
+    };
+    push_rest(spots, after, block.len());
     match plan {
         Plan::Set { slot, value } => {
             put(&mut run.environment.slots, slot, Binding::Plain(value));
             Phase::Running
         }
         Plan::Enter { first } => {
-            push_block(spots, next, branch_of(first), 0);
+            enter_block(spots, block, next, branch_of(first));
             Phase::Running
         }
         Plan::Ask { asked } => Phase::Ask { at: next, asked },
@@ -107,7 +129,7 @@ pub fn step_block(
             run.steps += 1;
             Ok(Phase::Stopped(why))
         }
-        Ok(plan) => Ok(perform(spots, run, cursor, plan)),
+        Ok(plan) => Ok(perform(spots, run, block, cursor, plan)),
     }
 }
 

@@ -7,9 +7,9 @@ ghost use Rattle.proc_code.specs.declared.tree.Action.{Action as Act};
 ghost use Rattle.proc_run.specs.declared.path.Spot.TheVariants as spot;
 ghost use Rattle.proc_run.specs.declared.path.Branch.TheVariants.{First, Second};
 ghost use Rattle.proc_run.specs.declared.state.Phase.TheVariants as phase;
-ghost use Rattle.proc_run.specs.Path.{frames_of};
+ghost use Rattle.proc_run.specs.Path.{block_of, frames_of, part_of};
 ghost use Rattle.proc_run.specs.Planned.{PlanFits};
-ghost use Rattle.proc_run.specs.Remains.{state, goes_past, run_frames, remains, waits, has_rows, PhaseFits};
+ghost use Rattle.proc_run.specs.Remains.{state, goes_past, run_frames, remains, waits, has_rows, IsSamePath, PhaseFits};
 ghost use Rattle.proc_syntax.specs.Limits.{most_steps};
 
 use crate::assigning::assign_all;
@@ -41,6 +41,23 @@ pub fn push_block(spots: &mut Vec<Spot>, at: usize, branch: Branch, next: usize)
     ensures capacity { vec_capacity spots.old ≤ vec_capacity spots.new }
 {
     push(spots, Spot::Block { at, branch, next });
+}
+
+/// Puts what is left of a block at the end of a path, which has room for it: the block's own statement of a number is next, where there is
+/// one. The block has a number of statements.
+pub fn push_rest(spots: &mut Vec<Spot>, cursor: Cursor, whole: usize)
+    requires { vec_len spots.old < vec_capacity spots.old }
+    ensures same { (tables : List Def) (columns : List (List (Option ℕ))) (S : Tables) (root : List Act) → whole ≡ length (part_of (block_of root spots.old.items) cursor.at cursor.branch)
+        → IsSamePath tables columns S root spots.new.items (spots.old.items ++ spot.Block cursor.at cursor.branch cursor.next ∷ []) }
+    ensures len { vec_len spots.new ≡ vec_len spots.old + 1 }
+    ensures capacity { vec_capacity spots.old ≤ vec_capacity spots.new }
+{
+    let Cursor { at, branch, next } = cursor;
+    if next < whole {
+        push_block(spots, at, branch, next);
+    } else {
+        push(spots, Spot::Done { at, branch });
+    }
 }
 
 /// Puts the rows of a `for` at the end of a path, which has room for them. The row of a number is next.
@@ -134,6 +151,7 @@ fn turn_loop(
 }
 
 /// One turn: the last spot goes on. Where memory is wanting, what remains is as before.
+#[tactic(auto, using(crate::proofs::Paths::done_over))]
 fn turn(
     alloc: Global,
     program: &Program<'_>,
@@ -159,6 +177,7 @@ fn turn(
             let cursor = Cursor { at, branch, next };
             turn_block(alloc, program, spots, run, cursor)
         }
+        Some(Spot::Done { .. }) => Ok(Phase::Running),
         Some(
             Spot::Loop {
                 at,

@@ -12,6 +12,7 @@ use std::alloc::Global;
 use std::mem::{forget, replace, swap};
 
 /// A variable stands for something from now on.
+#[inline(always)]
 pub fn put(slots: &mut List<Option<Binding>>, slot: usize, binding: Binding)
     ensures { slots.new ≡ slice_set slots.old slot (Some binding) }
 {
@@ -63,6 +64,7 @@ fn number_at(variables: &mut Vec<Option<Binding>>, slot: usize, number: i64)
 }
 
 /// A variable is a number from now on.
+#[inline(always)]
 pub fn put_number(alloc: Global, slots: &mut List<Option<Binding>>, slot: usize, number: i64)
     ensures { slots.new ≡ slice_set slots.old slot (Some (Plain (Int number))) }
 {
@@ -115,6 +117,7 @@ fn change_at(variables: &mut Vec<Option<Binding>>, slot: usize, table: u32, row:
 }
 
 /// A variable that holds a row holds another from now on, with which it changes places. Whether it was so.
+#[inline(always)]
 pub fn exchange(
     alloc: Global,
     slots: &mut List<Option<Binding>>,

@@ -56,13 +56,3 @@ impl Twin for Ending {
         }
     }
 }
-
-impl Twin for Ran {
-    fn copy(&self, alloc: Global) -> Result<Self, NoMemory> {
-        Ok(Ran {
-            reads: self.reads.copy(alloc)?,
-            writes: self.writes.copy(alloc)?,
-            ending: self.ending.copy(alloc)?,
-        })
-    }
-}

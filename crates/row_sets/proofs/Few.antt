@@ -1,10 +1,11 @@
 -- A few own writes in the order of their keys, and others of greater keys.
-use Rattle.std.proofs.Common.{◌≡◌, ◌∙◌, ◌≤◌, ◌<◌, ◌+◌, ℕ, suc, List, [], ◌∷◌, ◌++◌, Option, Some, None, Ok, Err, arith, refl, cond, true, false, ap, sym, subst, length, T, append-nil}
-use Rattle.std.specs.Prelude.{slice_index_or, slice_set}
-use Rattle.std.specs.List.{insert}
+use Rattle.std.proofs.Common.{◌≡◌, ◌∙◌, ◌≤◌, ◌<◌, ◌+◌, ◌-◌, ℕ, zero, suc, List, [], ◌∷◌, ◌++◌, Option, Some, None, Ok, Err, arith, refl, cond, true, false, ap, sym, subst, length, T, append-nil}
+use Rattle.std.specs.Prelude.{slice_get, slice_index_or, slice_set}
+use Rattle.std.specs.List.{insert, AllByRecursion}
 use Rattle.std.specs.BTreeMap.{insert_entry}
+use Rattle.std.specs.declared.cmp.Ordering.{Ordering}
 use Rattle.std.specs.declared.cmp.Ordering.TheVariants.{Less, Equal, Greater}
-use Rattle.std.specs.Ordering.{is_eq, is_lt, eq_by_cmp}
+use Rattle.std.specs.Ordering.{is_eq, is_gt, is_lt, eq_by_cmp, ordering_reverse}
 use Rattle.std.specs.FinMap as finite
 use Rattle.std.specs.FinMap.{from_entries, get-from_entries, get-insert, same_map}
 use Rattle.std.specs.FinMap.Entries.{find, put, is_sorted, below_all, by_order, find-put}
@@ -110,6 +111,52 @@ module _ {X : Type 0} (key : List Value) where
       let same : missed.0 ≡ place = omega (arith, missed.1) in
       subst (BelongsAt key es) same missed.2
 
+-- ---- a key after the last one
+
+pub is_Greater : (o : Ordering) → is_gt o ≡ true → o ≡ Greater
+is_Greater Less h = cc
+is_Greater Equal h = cc
+is_Greater Greater h = refl
+
+module _ {X : Type 0} (key : List Value) where
+  -- each key stands before it where the last one does
+  all_before : (es : List (List Value × X)) (i : ℕ) (last : List Value × X) → T (is_sorted key_cmp es) → i + 1 ≡ length es → slice_get es i ≡ Some last → key_cmp last.0 key ≡ Less
+      → AllByRecursion (λ e. key_cmp e.0 key ≡ Less) es
+  all_before [] i last up end is less = tt
+  all_before (e ∷ []) zero last up end is less = let same : e ≡ last = cc in (subst (λ x. key_cmp x.0 key ≡ Less) (sym same) less, tt)
+  all_before (e ∷ []) (suc i) last up end is less = absurd (omega (arith, end))
+  all_before (e ∷ f ∷ es) zero last up end is less = absurd (omega (arith, end))
+  all_before (e ∷ f ∷ es) (suc i) last up end is less =
+      let rest = all_before (f ∷ es) i last (second (below_all key_cmp e.0 (f ∷ es)) _ up) (omega (arith, end)) is less in
+      let next : key_cmp e.0 f.0 ≡ Less = is_Less _ (first (is_lt (key_cmp e.0 f.0)) _ (first _ _ up)) in
+      (key_cmp-total.trans e.0 f.0 key next rest.0, rest)
+
+  greater : (e : List Value × X) → key_cmp e.0 key ≡ Less → key_cmp key e.0 ≡ Greater
+  greater e less = key_cmp-total.antisymm key e.0 ∙ ap ordering_reverse less
+
+  missed_after : (es : List (List Value × X)) → AllByRecursion (λ e. key_cmp e.0 key ≡ Less) es → find key_cmp key es ≡ None
+  missed_after [] before = refl
+  missed_after (e ∷ es) before = ap (λ o. cond (is_eq o) (Some e.1) (find key_cmp key es)) (greater e before.0) ∙ missed_after es before.1
+
+  place_after : (at : ℕ) (es : List (List Value × X)) → AllByRecursion (λ e. key_cmp e.0 key ≡ Less) es → place_from at key es ≡ Err (at + length es)
+  place_after at [] before = ap Err (omega arith)
+  place_after at (e ∷ es) before =
+      let one : at + 1 + length es ≡ at + suc (length es) = omega arith in
+      ap (λ o. by_order o (Err at) (Ok at) (place_from (at + 1) key es)) (greater e before.0) ∙ place_after (at + 1) es before.1 ∙ ap Err one
+
+  -- a key after all others is not found, and its place is the end
+  pub record IsPast (es : List (List Value × X)) : Type 0 where
+    pub missing : find key_cmp key es ≡ None
+    pub place : place_from 0 key es ≡ Err (length es)
+
+  pub past : (es : List (List Value × X)) (last : List Value × X) → T (is_sorted key_cmp es) → slice_get es (length es - 1) ≡ Some last → key_cmp key last.0 ≡ Greater → IsPast es
+  past [] last up is more = record { missing = refl; place = refl }
+  past (e ∷ es) last up is more =
+      let end : length (e ∷ es) - 1 + 1 ≡ length (e ∷ es) = omega arith in
+      let before = all_before (e ∷ es) (length (e ∷ es) - 1) last up end is (key_cmp-total.antisymm last.0 key ∙ ap ordering_reverse more) in
+      let all : 0 + length (e ∷ es) ≡ length (e ∷ es) = omega arith in
+      record { missing = missed_after (e ∷ es) before; place = place_after 0 (e ∷ es) before ∙ ap Err all }
+
 -- ---- as a finite map
 
 pub put_is_own : (key : List Value) (before after : Option (List Value)) (es : List (List Value × OwnWrite))
@@ -137,6 +184,15 @@ module _ {X : Type 0} (key : List Value) where
   found_later (x ∷ xs) ys none =
       elim (eq_by_cmp key_cmp key x.0) as (λ b. cond b (Some x.1) (find key_cmp key xs) ≡ None → cond b (Some x.1) (find key_cmp key (xs ++ ys)) ≡ find key_cmp key ys)
       [ true ↦ λ none. cc | false ↦ λ none. found_later xs ys none ] none
+
+-- the first part of entries in order is in order
+below_first : {X : Type 0} (k : List Value) (xs ys : List (List Value × X)) → T (below_all key_cmp k (xs ++ ys)) → T (below_all key_cmp k xs)
+below_first k [] ys below = tt
+below_first k (x ∷ xs) ys below = both _ _ (first _ _ below) (below_first k xs ys (second (is_lt (key_cmp k x.0)) _ below))
+
+pub sorted_first : {X : Type 0} (xs ys : List (List Value × X)) → T (is_sorted key_cmp (xs ++ ys)) → T (is_sorted key_cmp xs)
+sorted_first [] ys up = tt
+sorted_first (x ∷ xs) ys up = both _ _ (below_first x.0 xs ys (first _ _ up)) (sorted_first xs ys (second (below_all key_cmp x.0 (xs ++ ys)) _ up))
 
 -- the last of the first part is put among the others
 pub put_last : {X : Type 0} (xs ys : List (List Value × X)) (key : List Value) (v : X) → T (is_sorted key_cmp ((xs ++ (key, v) ∷ []) ++ ys)) → xs ++ insert_entry key_cmp ys key v ≡ (xs ++ (key, v) ∷ []) ++ ys

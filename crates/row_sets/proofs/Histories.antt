@@ -1,5 +1,5 @@
 -- Items of lists by their numbers, and histories of committed writes.
-use Rattle.std.proofs.Common.{◌≡◌, ◌∙◌, ℕ, List, ◌++◌, Bool, true, false, ◌&&◌, ◌==◌, cond, Option, Some, refl, ap, sym, subst, arith, All, slice_get, nat_lt}
+use Rattle.std.proofs.Common.{◌≡◌, ◌∙◌, ℕ, List, ◌++◌, true, false, ◌&&◌, ◌==◌, cond, Some, refl, ap, subst, arith, All, slice_get, nat_lt}
 use Rattle.std.specs.Option.{IsSomeAnd, unwrap_or}
 use Rattle.std.specs.Ordering.{is_eq, nat_cmp, ordering_then}
 use Rattle.std.specs.declared.cmp.Ordering.{Ordering}

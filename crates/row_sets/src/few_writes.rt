@@ -1,6 +1,6 @@
 //! A few own writes of a table, in a vector in the order of their keys.
 
-ghost use Rattle.std.specs.Prelude.{◌≡◌, ◌<◌, [], IfOk, OnErr, OnOk, not, is_some};
+ghost use Rattle.std.specs.Prelude.{◌≡◌, ◌<◌, [], Err, IfOk, None, OnErr, OnOk, length, not, is_some, true};
 ghost use Rattle.std.proofs.Common.{T};
 ghost use Rattle.std.specs.FinMap.Entries.{find, put, is_sorted};
 ghost use Rattle.std.specs.Option.{option_copied};
@@ -12,6 +12,18 @@ use crate::table_writes::OwnWrite;
 use rel_base::{Key, NoMemory, Row};
 use std::cmp::Ordering;
 use std::collections::BTreeMap;
+
+/// Whether a key stands after those of several writes, by one look at the last of them. Keys that rise from write to write do.
+fn is_after(few: &[(Key, OwnWrite)], key: &Key) -> bool
+    requires { T (is_sorted key_cmp few.now) }
+    ensures missing { result ≡ true → find key_cmp key.now few.now ≡ None }
+    ensures place { result ≡ true → place_from 0 key.now few.now ≡ Err (length few.now) }
+{
+    match few.last() {
+        Some((last, _)) if few.len() > 1 => key.cmp(last).is_gt(),
+        _ => false,
+    }
+}
 
 /// What was done to a key, where it was written.
 pub fn find_few<'a>(few: &'a [(Key, OwnWrite)], key: &Key) -> Option<&'a OwnWrite>
@@ -25,10 +37,25 @@ pub fn find_few<'a>(few: &'a [(Key, OwnWrite)], key: &Key) -> Option<&'a OwnWrit
     None
 }
 
+/// What was done to a key, where it was written. The writes stand in the order of their keys.
+pub fn find_in_order<'a>(few: &'a [(Key, OwnWrite)], key: &Key) -> Option<&'a OwnWrite>
+    requires { T (is_sorted key_cmp few.now) }
+    ensures { option_copied result ≡ find key_cmp key.now few.now }
+{
+    if is_after(few, key) {
+        return None;
+    }
+    find_few(few, key)
+}
+
 /// Where a key stands, and else the place that is its in the order.
 fn search(few: &[(Key, OwnWrite)], key: &Key) -> Result<usize, usize>
+    requires { T (is_sorted key_cmp few.now) }
     ensures { result ≡ place_from 0 key.now few.now }
 {
+    if is_after(few, key) {
+        return Err(few.len());
+    }
     for (place, (held, _)) in few.iter().enumerate() {
         match key.cmp(held) {
             Ordering::Less => return Err(place),

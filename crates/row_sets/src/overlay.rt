@@ -23,8 +23,9 @@ use std::marker::Model;
 
 /// A transaction's own writes: for each table and key that it wrote, the row at its snapshot and the row that it left there.
 ///
-/// The writes of each table stand in a map by their keys, so that a look takes a number of steps that grows with the logarithm
-/// of their number, and copies no key. There is room for the net writes of all keys from the moment that they are put.
+/// Up to eight writes of a table stand in a vector in the order of their keys, and more in a map by their keys, so that a look
+/// takes a number of steps that grows with the logarithm of their number, and copies no key. There is room for the net writes of
+/// all keys from the moment that they are put.
 #[derive(Drop)]
 pub struct Overlay {
     alloc: Global,

@@ -10,7 +10,7 @@ ghost use Rattle.rel_base.specs.OwnWrites.{own_or};
 ghost use Rattle.rel_base.specs.Value.{key_cmp};
 ghost use Rattle.row_sets.specs.Overlay.{in_table, lay_keys, net_writes, put_own};
 
-use crate::few_writes::{find_few, move_all, put_few};
+use crate::few_writes::{find_in_order, move_all, put_few};
 use crate::merge::{lay_each, lay_few};
 use crate::net::{push_each, push_few};
 use rel_base::{Key, NoMemory, Read, Row, TableDef, Write};
@@ -77,7 +77,7 @@ impl TableWrites {
     pub fn look<'a>(&'a self, key: &Key, base: Option<&'a Row>) -> Option<&'a Row>
         ensures { option_copied result ≡ own_or (option_map (λ own. own.after) (map.get self.now key.now)) (option_copied base.entry) }
     {
-        match find_few(self.few.as_slice(), key) {
+        match find_in_order(self.few.as_slice(), key) {
             None => look_many(&self.many, key, base),
             Some(own) => row_of(&own.after),
         }

@@ -31,7 +31,7 @@ pub returns-in-Ok-clause-remains : goal.returns-in-Ok-clause-remains
 returns-in-Ok-clause-remains c = λ S.
     let b = c.requires.here in
     let here : slice_get c.args.block.now c.args.cursor.next ≡ Some c.index-block-next.result = slice_get-get_or c.args.block.now c.args.cursor.next c.index-block-next.result c.if-next-block.false ∙ ap Some (sym c.index-block-next.is) in
-    rw (c.perform.ensures.remains c.args.program.now.tables.now c.args.program.now.columns.now S c.args.program.now.root.now)
+    rw (c.perform.ensures.remains c.args.program.now.tables.now c.args.program.now.columns.now S c.args.program.now.root.now b)
     (block_goes c.args.program.now.tables.now c.args.program.now.columns.now S c.args.program.now.root.now c.args.spots.now.items c.args.cursor.at c.args.cursor.next c.args.cursor.branch c.args.block.now (state c.args.run.now) b c.index-block-next.result here c.in-Ok.plan c.if-run-ge-MOST_RUN_STEPS.false c.in-Ok.ensures)
 
 pub returns-in-Ok-clause-fits : goal.returns-in-Ok-clause-fits
