@@ -37,6 +37,7 @@ module _ (history more : List Stamped) (noted : ℕ) (within : noted ≤ length 
         own = is.own;
         keyed = is.keyed;
         all_in = is.all_in;
+        lasts = is.lasts;
       }
 
   -- a noted write touches the same values

@@ -17,6 +17,7 @@ use Rattle.row_sets.specs.Log.{history_of, stamped_of}
 use Rattle.row_sets.specs.declared.entry.LogEntry.{LogEntry}
 use Rattle.version_index.specs.Chains.{AreChains, lists_in, lists_of, numbers_at, slot_by, slot_in, slot_of}
 use Rattle.version_index.specs.Columns.{IsColumn, place_in}
+use Rattle.version_index.specs.Numbers.{last_in}
 use Rattle.version_index.specs.Index.{AreNoted, HasColumns, IsEmptyColumn, IsEmptyIndex, IsIndex, columns_in, index_columns}
 use Rattle.version_index.specs.Kept.{IsStore}
 use Rattle.version_index.specs.Log.{InOrder}
@@ -141,6 +142,7 @@ module _ (table : ℕ) (index : TableIndex) (empty : IsEmptyIndex index) where
         own = λ one other slot is same. absurd (some_slot one slot is);
         keyed = λ slot below. let none = ap (λ xs. length (lists_in xs)) empty.numbers in absurd (omega (arith, below, none));
         all_in = λ key some. absurd (no_both (is_some (slot_of index.chains key)) some (ap is_some (no_slots key)));
+        lasts = ap (map (λ n. Some n)) empty.lasts ∙ sym (ap (λ lists. map last_in (lists_in lists)) empty.numbers);
       }
 
   empty_column : (column : ColumnIndex) → IsEmptyColumn column → IsColumn table [] 0 index.chains column

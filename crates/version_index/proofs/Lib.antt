@@ -14,6 +14,7 @@ pub mod Adding
 pub mod Keys
 pub mod Zipped
 pub mod Passing
+pub mod LastNumbers
 pub mod Noting
 pub mod Touching
 pub mod Indexed

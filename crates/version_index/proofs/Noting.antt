@@ -1,5 +1,5 @@
 -- One more write that is noted: what becomes of the writes on the keys of a table.
-use Rattle.std.proofs.Common.{◌≡◌, ◌∙◌, ℕ, suc, zero, ◌<◌, ◌≤◌, List, [], ◌∷◌, ◌++◌, Bool, true, false, ◌&&◌, ◌==◌, cond, Option, Some, None, is_some, refl, ap, sym, subst, arith, slice_get, take, length}
+use Rattle.std.proofs.Common.{◌≡◌, ◌∙◌, ℕ, suc, zero, ◌<◌, ◌≤◌, List, [], ◌∷◌, ◌++◌, Bool, true, false, ◌&&◌, ◌==◌, cond, Option, Some, None, is_some, refl, ap, sym, subst, arith, slice_get, take, length, map}
 use Rattle.std.specs.Ordering.{is_eq}
 use Rattle.std.proofs.lemmas.Bool.Decides.{Decides-eqb}
 use Rattle.std.proofs.lemmas.List.{append-nil, length_push, length-set}
@@ -11,7 +11,7 @@ use Rattle.row_sets.proofs.Histories.{same_parts, unwrapped}
 use Rattle.version_index.specs.Chain.{is_on}
 use Rattle.version_index.specs.Chains.{AreApart, AreChains, IsNoted, IsSame, list_or_none, lists_of, numbers_at, numbers_of, slot_by, slot_in, slot_of, slot_or, with_number}
 use Rattle.version_index.specs.Left.{left_at}
-use Rattle.version_index.specs.Numbers.{passes, passes_at, passing}
+use Rattle.version_index.specs.Numbers.{last_in, passes, passes_at, passing}
 use Rattle.version_index.specs.declared.chains.Chains.{Chains}
 use Rattle.version_index.proofs.Keys.{key_itself, same_key}
 use Rattle.version_index.proofs.Passing.{left_next}
@@ -103,6 +103,7 @@ module _ (table : ℕ) (history : List Stamped) (number : ℕ) (stamped : Stampe
           own = own_next;
           keyed = keyed_next;
           all_in = noted.all_in are.all_in;
+          lasts = noted.lasts are.lasts;
         }
       where
         slot_within : (s : ℕ) → slot_of old key ≡ Some s → s < length (lists_of old)
@@ -187,6 +188,7 @@ module _ (table : ℕ) (history : List Stamped) (number : ℕ) (stamped : Stampe
         own = are.own;
         keyed = are.keyed;
         all_in = are.all_in;
+        lasts = are.lasts;
       }
 
 -- ---- nothing changed
@@ -206,4 +208,5 @@ chains_stay table history noted old new same are =
           let was = are.keyed slot (subst (λ lists. slot < length lists) same.lists below) in
           (was.0, slot_stays old new same was.0 ∙ was.1);
       all_in = same.all_in are.all_in;
+      lasts = ap (map (λ n. Some n)) same.lasts ∙ are.lasts ∙ ap (map last_in) (sym same.lists);
     }

@@ -7,9 +7,9 @@ use Rattle.rel_base.specs.declared.value.Value.{Value}
 use Rattle.rel_base.specs.Tables.{Stamped}
 use Rattle.row_sets.proofs.Histories.{unwrapped}
 use Rattle.version_index.specs.Chain.{is_on}
-use Rattle.version_index.specs.Index.{last_in, row_after, row_by}
+use Rattle.version_index.specs.Index.{row_after, row_by}
 use Rattle.version_index.specs.Left.{left_at, left_from}
-use Rattle.version_index.specs.Numbers.{passes, passes_at, passing}
+use Rattle.version_index.specs.Numbers.{last_in, passes, passes_at, passing}
 use Rattle.version_index.proofs.Points.{below_or}
 
 -- ---- lists with one item more

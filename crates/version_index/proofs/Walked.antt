@@ -83,22 +83,27 @@ module _ (view : TableView) (key : List Value) where
     top : (back : Back) → left ≡ back.left.now ++ back.number ∷ [] → IsTop (passes_at test history) (lesser end view.noted) back.number back.left.now
     top back parts = top_of (passes_at test history) (lesser end view.noted) back.number back.left.now (sym is ∙ parts)
 
+    -- the last of them is the last of all
+    pub last_at : (number : ℕ) (before : List ℕ) → left ≡ before ++ number ∷ [] → IsLast (is_on (view.table, key)) (take end (history_in view)) (Some number)
+    last_at number before parts =
+        let is_top = top_of (passes_at test history) (lesser end view.noted) number before (sym is ∙ parts) in
+        let down = lesser_down end view.noted in
+        let low = is_top.below in
+        last_points test (take end history) number (take_at test end history number (omega (arith, down, low)) ∙ is_top.on) (λ j up. either j up (below_or j end) (below_or j view.noted))
+      where
+        either : (j : ℕ) → number < j → (j < end) ⊎ (end ≤ j) → (j < view.noted) ⊎ (view.noted ≤ j) → passes_at test (take end history) j ≡ false
+        either j up (inr past) w = take_past test end history j past
+        either j up (inl below) (inl low) =
+            take_at test end history j below ∙ (top_of (passes_at test history) (lesser end view.noted) number before (sym is ∙ parts)).none j up (below_both j end view.noted below low)
+        either j up (inl below) (inr high) = drop_fails test view.noted (take end history) none j high
+
     pub back_last : (found : Option Back) → IsBack left found → IsLast (is_on (view.table, key)) (take end (history_in view)) (option_map (λ back. back.number) found)
     back_last None empty = fails_take test end history (λ j below. either j below (below_or j view.noted))
       where
         either : (j : ℕ) → j < end → (j < view.noted) ⊎ (view.noted ≤ j) → passes_at test history j ≡ false
         either j below (inl low) = none_of (passes_at test history) (lesser end view.noted) (sym is ∙ empty) j (below_both j end view.noted below low)
         either j below (inr high) = sym (take_at test end history j below) ∙ drop_fails test view.noted (take end history) none j high
-    back_last (Some back) parts =
-        let is_top = top back parts in
-        let down = lesser_down end view.noted in
-        let low = is_top.below in
-        last_points test (take end history) back.number (take_at test end history back.number (omega (arith, down, low)) ∙ is_top.on) (λ j up. either j up (below_or j end) (below_or j view.noted))
-      where
-        either : (j : ℕ) → back.number < j → (j < end) ⊎ (end ≤ j) → (j < view.noted) ⊎ (view.noted ≤ j) → passes_at test (take end history) j ≡ false
-        either j up (inr past) w = take_past test end history j past
-        either j up (inl below) (inl low) = take_at test end history j below ∙ (top back parts).none j up (below_both j end view.noted below low)
-        either j up (inl below) (inr high) = drop_fails test view.noted (take end history) none j high
+    back_last (Some back) parts = last_at back.number back.left.now parts
 
     pub back_left : (found : Option Back) → IsBack left found → IfSome found (λ back. back.left.now ≡ noted_below view key back.number)
     back_left None empty = tt

@@ -14,7 +14,7 @@ use Rattle.row_sets.specs.declared.entry.LogEntry.{LogEntry}
 use Rattle.version_index.specs.Chain.{is_on}
 use Rattle.version_index.specs.Hashing.{key_hash, may_be_in}
 use Rattle.version_index.specs.Left.{left_at}
-use Rattle.version_index.specs.Numbers.{passes_at, passing}
+use Rattle.version_index.specs.Numbers.{last_in, passes_at, passing}
 use Rattle.version_index.specs.declared.chains.Chains.{Chains}
 
 -- the slot of a key in one of the maps
@@ -57,6 +57,10 @@ lists_in lists = map (λ numbers. numbers.items) lists
 abbrev pub lists_of : Chains → List (List ℕ)
 lists_of chains = lists_in chains.numbers.items
 
+-- numbers are the last ones of lists, each of which has one
+abbrev pub AreLasts : List ℕ → List (List ℕ) → Type 0
+AreLasts lasts lists = map Some lasts ≡ map last_in lists
+
 -- the list of a slot has room for one more number
 abbrev pub HasRoomForNumber : List (Vec ℕ Global) → ℕ → Type 0
 HasRoomForNumber lists slot = IsSomeAnd (slice_get lists slot) (λ numbers. vec_len numbers < vec_capacity numbers)
@@ -85,6 +89,7 @@ pub record AreChains (table : ℕ) (history : List Stamped) (noted : ℕ) (chain
   pub own : (one other : List Value) (slot : ℕ) → slot_of chains one ≡ Some slot → slot_of chains other ≡ Some slot → one ≡ other
   pub keyed : (slot : ℕ) → slot < length (lists_of chains) → (key : List Value) × (slot_of chains key ≡ Some slot)
   pub all_in : AreAllIn chains
+  pub lasts : AreLasts chains.lasts.items (lists_of chains)
 
 -- they tell those of some table among the first of a log
 abbrev pub AreChainsOf : List LogEntry → Chains → Type 0
@@ -95,6 +100,7 @@ pub record IsSame (old new : Chains) : Type 0 where
   pub living : new.living.entries ≡ old.living.entries
   pub ended : new.ended.entries ≡ old.ended.entries
   pub lists : lists_of new ≡ lists_of old
+  pub lasts : new.lasts.items ≡ old.lasts.items
   pub all_in : AreAllIn old → AreAllIn new
 
 -- a slot that may be there, and else the next one
@@ -113,4 +119,5 @@ pub record IsNoted (key : List Value) (lives : Bool) (number : ℕ) (old new : C
   pub lives_now : (k : List Value) → lives_in new k ≡ cond (key_eq k key) lives (lives_in old k)
   pub apart : AreApart new.living.entries new.ended.entries
   pub lists : lists_of new ≡ with_number number (slot_of old key) (lists_of old)
+  pub lasts : AreLasts old.lasts.items (lists_of old) → AreLasts new.lasts.items (lists_of new)
   pub all_in : AreAllIn old → AreAllIn new

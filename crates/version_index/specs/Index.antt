@@ -7,6 +7,7 @@ use Rattle.rel_base.specs.declared.value.Value.{Value}
 use Rattle.row_sets.specs.Log.{history_of}
 use Rattle.row_sets.specs.declared.entry.LogEntry.{LogEntry}
 use Rattle.version_index.specs.Chains.{AreChains}
+use Rattle.version_index.specs.Numbers.{last_in}
 use Rattle.version_index.specs.Columns.{IsColumn}
 use Rattle.version_index.specs.declared.column.ColumnIndex.{ColumnIndex}
 use Rattle.version_index.specs.declared.index.TableIndex.{TableIndex}
@@ -33,12 +34,6 @@ AreNoted indexes history noted = (table : ℕ) (index : TableIndex) → slice_ge
 abbrev pub columns_in : List TableIndex → List (List ℕ)
 columns_in indexes = map (λ index. map (λ column. column.column) index.columns.items) indexes
 
--- the last of some numbers
-abbrev pub last_in : List ℕ → Option ℕ
-last_in [] = None
-last_in (number ∷ []) = Some number
-last_in (number ∷ other ∷ rest) = last_in (other ∷ rest)
-
 -- the row that a write that may be there left
 abbrev pub row_after : Option Stamped → Option (List Value)
 row_after None = None
@@ -56,6 +51,7 @@ pub record IsEmptyIndex (index : TableIndex) : Type 0 where
   pub living : index.chains.living.entries ≡ []
   pub ended : index.chains.ended.entries ≡ []
   pub numbers : index.chains.numbers.items ≡ []
+  pub lasts : index.chains.lasts.items ≡ []
   pub columns : All IsEmptyColumn index.columns.items
 
 -- the index of the table of the entry of a number tells the first entries, as many as are noted

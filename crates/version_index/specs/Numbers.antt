@@ -10,6 +10,12 @@ passing test (suc number) = passing test number ++ cond (test number) (number �
 abbrev pub ArePassing : ℕ → List ℕ → Type 0
 ArePassing end numbers = (test : ℕ → Bool) × (numbers ≡ passing test end)
 
+-- the last of some numbers
+abbrev pub last_in : List ℕ → Option ℕ
+last_in [] = None
+last_in (number ∷ []) = Some number
+last_in (number ∷ other ∷ rest) = last_in (other ∷ rest)
+
 -- whether an item that may be there passes a test
 abbrev pub passes : {X : Type 0} → (X → Bool) → Option X → Bool
 passes test None = false

@@ -3,7 +3,6 @@
 
 use crate::chains::Chains;
 use crate::key_hash::hash_of;
-use crate::lists::list_at;
 use rel_base::{Key, NoMemory, Row, Value};
 use row_sets::entry::LogEntry;
 use std::alloc::Global;
@@ -23,8 +22,8 @@ fn guessed_slots(alloc: Global, chains: &Chains, keys: &[Key]) -> Result<Vec<usi
 fn last_numbers(alloc: Global, chains: &Chains, slots: &[usize]) -> Result<Vec<usize>, NoMemory> {
     let mut numbers = Vec::with_capacity(alloc, slots.len())?;
     for slot in slots {
-        if let Some((number, _)) = list_at(chains.numbers.as_slice(), *slot).split_last() {
-            numbers.push(*number)?;
+        if let Some(number) = chains.last(*slot) {
+            numbers.push(number)?;
         }
     }
     Ok(numbers)

@@ -57,9 +57,9 @@ fn add_slot<'a>(
     requires { IsView view.now }
     ensures { OnOk result (Adds view.now.index.now.chains found.old.items found.new.items (HasSlot view.now slot)) }
 {
-    match view.index.chains.numbers(Some(slot)).split_last() {
+    match view.index.chains.last(slot) {
         None => Ok(()),
-        Some((number, _)) => push_key(view, found, *number, Some(slot)),
+        Some(number) => push_key(view, found, number, Some(slot)),
     }
 }
 

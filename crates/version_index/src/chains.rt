@@ -6,7 +6,8 @@ ghost use Rattle.std.specs.Vec.{vec_len, vec_capacity};
 ghost use Rattle.rel_base.specs.Value.{key_eq};
 ghost use Rattle.rel_base.specs.declared.value.Value.{Value as Cell};
 ghost use Rattle.version_index.specs.Hashing.{key_hash};
-ghost use Rattle.version_index.specs.Chains.{AreAllIn, AreApart, IsNoted, IsPlaced, IsSame, lists_of, lives_in, numbers_at, slot_by, slot_in, slot_of};
+ghost use Rattle.version_index.specs.Chains.{AreAllIn, AreApart, AreLasts, IsNoted, IsPlaced, IsSame, lists_of, lives_in, numbers_at, slot_by, slot_in, slot_of};
+ghost use Rattle.version_index.specs.Numbers.{last_in};
 
 use crate::guesses::{Guesses, hold_guess};
 use crate::key_hash::hash_of;
@@ -24,6 +25,8 @@ pub struct Chains {
     pub ended: BTreeMap<Key, usize>,
     /// For each slot the numbers of the writes on its key, rising.
     pub numbers: Vec<Vec<usize>>,
+    /// For each slot the last of these numbers once more, since most reads want no other: they stand close together.
+    pub lasts: Vec<usize>,
     /// Guesses at the slots of the keys, of which nothing is promised, and marks of all keys that have one.
     pub guesses: Guesses,
 }
@@ -151,11 +154,13 @@ impl Chains {
         ensures living { result.living.entries ≡ [] }
         ensures ended { result.ended.entries ≡ [] }
         ensures numbers { result.numbers.items ≡ [] }
+        ensures lasts { result.lasts.items ≡ [] }
     {
         Chains {
             living: BTreeMap::new(alloc),
             ended: BTreeMap::new(alloc),
             numbers: Vec::new(alloc),
+            lasts: Vec::new(alloc),
             guesses: Guesses::new(alloc),
         }
     }
@@ -210,6 +215,16 @@ impl Chains {
         }
     }
 
+    /// The number of the last write on the key of a slot, where there is such a slot.
+    pub fn last(&self, slot: usize) -> Option<usize>
+        ensures { AreLasts self.now.lasts.items (lists_of self.now) → result ≡ last_in (numbers_at (lists_of self.now) (Some slot)) }
+    {
+        match self.lasts.as_slice().get(slot) {
+            None => None,
+            Some(number) => Some(*number),
+        }
+    }
+
     /// Notes the first write on a key. Where memory is wanting, all stays as it was.
     fn note_first(
         &mut self,
@@ -231,10 +246,12 @@ impl Chains {
             &self.ended,
         )?;
         self.numbers.reserve(1)?;
+        self.lasts.reserve(1)?;
         let numbers = one_number(alloc, number)?;
         let slot = self.numbers.len();
         settle_key(&mut self.living, &mut self.ended, alloc, key, slot, lives)?;
         self.numbers.push_reserved(numbers);
+        self.lasts.push_reserved(number);
         self.guesses.put(hash_of(key), slot);
         Ok(())
     }
@@ -251,6 +268,7 @@ impl Chains {
         requires own { slot_of self.old key.now ≡ Some spot.slot }
         requires lived { spot.lives ≡ lives_in self.old key.now }
         requires within { spot.slot < length self.old.numbers.items }
+        requires lasts { AreLasts self.old.lasts.items (lists_of self.old) }
         requires apart { AreApart self.old.living.entries self.old.ended.entries }
         ensures noted { OnOk result (IsNoted key.now lives number self.old self.new) }
         ensures same { OnErr result (IsSame self.old self.new) }
@@ -258,6 +276,7 @@ impl Chains {
         hold_room(&mut self.numbers, spot.slot)?;
         place_key(&mut self.living, &mut self.ended, alloc, key, spot, lives)?;
         push_at(&mut self.numbers, spot.slot, number);
+        self.lasts[spot.slot] = number;
         Ok(())
     }
 
@@ -274,6 +293,7 @@ impl Chains {
         requires own { option_map (λ spot. spot.slot) spot ≡ slot_of self.old key.now }
         requires lived { IfSome spot (λ spot. spot.lives ≡ lives_in self.old key.now) }
         requires within { IfSome spot (λ spot. spot.slot < length (lists_of self.old)) }
+        requires lasts { AreLasts self.old.lasts.items (lists_of self.old) }
         requires apart { AreApart self.old.living.entries self.old.ended.entries }
         ensures noted { OnOk result (IsNoted key.now lives number self.old self.new) }
         ensures same { OnErr result (IsSame self.old self.new) }

@@ -34,13 +34,14 @@ fn spot_at(entries: &[LogEntry], chains: &Chains, key: &Key, slot: usize) -> Opt
     ensures slot { IfSome result (λ spot. slot_of chains.now key.now ≡ Some spot.slot) }
     ensures lives { IfSome result (λ spot. spot.lives ≡ lives_in chains.now key.now) }
 {
-    match chains.numbers(Some(slot)).split_last() {
+    match chains.last(slot) {
         None => None,
-        Some((number, _)) => spot_by(&entry_at(entries, *number).placed.write, key, slot),
+        Some(number) => spot_by(&entry_at(entries, number).placed.write, key, slot),
     }
 }
 
 /// Where a key stands, where the guess at its slot is right.
+#[inline(always)]
 fn guessed_spot(entries: &[LogEntry], chains: &Chains, key: &Key, hash: u64) -> Option<KeySlot>
     requires { AreChainsOf entries.now chains.now }
     ensures slot { IfSome result (λ spot. slot_of chains.now key.now ≡ Some spot.slot) }
@@ -54,6 +55,7 @@ fn guessed_spot(entries: &[LogEntry], chains: &Chains, key: &Key, hash: u64) -> 
 
 /// Where a key stands, where it was ever written: by a guess, and where that is wrong by the maps, unless the marks tell that it was
 /// never written. The guess tells it in fewer looks into memory, and most of what it looks at is read next.
+#[inline(always)]
 pub fn spot_of(entries: &[LogEntry], chains: &Chains, key: &Key) -> Option<KeySlot>
     requires { AreChainsOf entries.now chains.now }
     ensures slot { option_map (λ spot. spot.slot) result ≡ slot_of chains.now key.now }

@@ -6,7 +6,8 @@ ghost use Rattle.std.specs.Option.{option_copied};
 ghost use Rattle.row_sets.specs.Log.{history_of};
 ghost use Rattle.version_index.specs.Chains.{slot_or};
 ghost use Rattle.version_index.specs.Columns.{AreListed, IsNotedIn, IsReady, IsSameColumn};
-ghost use Rattle.version_index.specs.Index.{HasColumns, IsEmptyColumn, IsEmptyIndex, IsIndexOf, index_columns, last_in, row_after, row_by};
+ghost use Rattle.version_index.specs.Numbers.{last_in};
+ghost use Rattle.version_index.specs.Index.{HasColumns, IsEmptyColumn, IsEmptyIndex, IsIndexOf, index_columns, row_after, row_by};
 
 use crate::chains::{Chains, slot_at};
 use crate::column::ColumnIndex;

@@ -100,13 +100,22 @@ fn last_uncounted<L: Ledger>(
     last_seen(&LookUp::new(*view), key, slot, height, &mut steps)
 }
 
-/// The number of the last write on a key in a block up to a height.
-pub fn last_up_to(
-    view: &TableView<'_>,
-    key: &Key,
-    slot: Option<usize>,
-    height: u64,
-) -> Option<usize>
+/// The number of the last write on the key of a slot, where there is no tail to look through.
+fn last_if_all_noted(view: &TableView<'_>, slot: Option<usize>) -> Option<usize>
+    requires { IsView view.now }
+    ensures { (key : List Cell) → slot ≡ slot_of view.now.index.now.chains key → IfSome result (λ number. IsLast (is_on (view.now.table, key)) (history_in view.now) (Some number)) }
+{
+    if view.noted < view.entries.len() {
+        return None;
+    }
+    match slot {
+        None => None,
+        Some(slot) => view.index.chains.last(slot),
+    }
+}
+
+/// The number of the last write on a key in a block up to a height. The tail is looked through, and then the noted writes.
+fn last_by_walk(view: &TableView<'_>, key: &Key, slot: Option<usize>, height: u64) -> Option<usize>
     requires view { IsView view.now }
     requires slot { slot ≡ slot_of view.now.index.now.chains key.now }
     ensures { IsLast (is_seen (view.now.table, key.now) height) (history_in view.now) result }
@@ -120,23 +129,9 @@ pub fn last_up_to(
     last_uncounted::<Brand>(view, key, slot, height, Blank::new(1))
 }
 
-/// The number of the last write on the key of a slot, where there is no tail to look through.
-fn last_if_all_noted(view: &TableView<'_>, slot: Option<usize>) -> Option<usize>
-    requires { IsView view.now }
-    ensures { (key : List Cell) → slot ≡ slot_of view.now.index.now.chains key → IfSome result (λ number. IsLast (is_on (view.now.table, key)) (history_in view.now) (Some number)) }
-{
-    if view.noted < view.entries.len() {
-        return None;
-    }
-    match last_noted(view.index.chains.numbers(slot)) {
-        None => None,
-        Some(back) => Some(back.number),
-    }
-}
-
-/// The number of the last write on a key in a block up to a height, for a reader of many keys: the last write of all is looked at with
-/// no call, where there is no tail.
-pub fn last_of_many(
+/// The number of the last write on a key in a block up to a height. Where there is no tail, the last write of all is looked at first,
+/// with no call.
+pub fn last_up_to(
     view: &TableView<'_>,
     key: &Key,
     slot: Option<usize>,
@@ -151,7 +146,7 @@ pub fn last_of_many(
             return Some(number);
         }
     }
-    last_up_to(view, key, slot, height)
+    last_by_walk(view, key, slot, height)
 }
 
 /// A number where a test passed, and else what was found after it.

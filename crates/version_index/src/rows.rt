@@ -14,7 +14,7 @@ ghost use Rattle.version_index.specs.Rows.{IsValueOf, covered_row, seen_of, seen
 ghost use Rattle.version_index.specs.View.{IsAsked, IsView, history_in};
 
 use crate::candidates::Candidate;
-use crate::keyed::last_of_many;
+use crate::keyed::last_up_to;
 use crate::view::{ReadAtHeight, TableView};
 use rel_base::{List, NoMemory, Place, Read, Row, Seen, Twin, Value};
 use row_sets::entry::{LogEntry, entry_at, place_at};
@@ -100,7 +100,7 @@ pub fn add_key_with(
     ensures { OnOk result (rows.new ≡ rows.old ++ covered_row look.now.def.now look.now.read.now (get (tables_at look.now.height (history_in view.now)) (view.now.table, candidate.entry.0.now))) }
 {
     let (key, slot) = candidate;
-    match last_of_many(view, key, slot, look.height) {
+    match last_up_to(view, key, slot, look.height) {
         None => Ok(()),
         Some(number) => add_row(alloc, rows, look, value, entry_at(view.entries, number)),
     }

@@ -1,5 +1,5 @@
 use Rattle.std.proofs.Common.{◌∙◌, ap, sym}
-use Rattle.version_index.specs.Index.{last_in}
+use Rattle.version_index.specs.Numbers.{last_in}
 use Rattle.version_index.proofs.Passing.{last_end}
 use Rattle.version_index.proofs.index.last_of.Goals as goal
 

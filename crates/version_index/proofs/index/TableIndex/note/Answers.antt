@@ -26,7 +26,7 @@ returns-in_err-hold_all-clause-same c =
     let is = index_from c.args.entries.now c.args.number entry c.entry_at.ensures c.args.number old c.requires.old in
     in_any_case c.from_residual.result
     (index_of c.args.entries.now c.args.number entry c.entry_at.ensures c.args.number _
-    (held_index c.args.entries.now c.args.number entry c.entry_at.ensures old is c.hold_all.new.columns.items c.hold_all.ensures.same old.chains (record { living = refl; ended = refl; lists = refl; all_in = λ all. all }) _ refl refl))
+    (held_index c.args.entries.now c.args.number entry c.entry_at.ensures old is c.hold_all.new.columns.items c.hold_all.ensures.same old.chains (record { living = refl; ended = refl; lists = refl; lasts = refl; all_in = λ all. all }) _ refl refl))
 
 pub returns-in_err-hold_all-clause-columns : goal.returns-in_err-hold_all-clause-columns
 returns-in_err-hold_all-clause-columns c = map_zip (λ column. column.column) IsSameColumn (λ one two same. same.column) c.args.self.now.columns.items c.hold_all.new.columns.items c.hold_all.ensures.same

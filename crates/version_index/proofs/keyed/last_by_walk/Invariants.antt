@@ -1,4 +1,4 @@
-use Rattle.version_index.proofs.keyed.last_up_to.Given as goal
+use Rattle.version_index.proofs.keyed.last_by_walk.Given as goal
 
 -- a ledger of its own
 abbrev pub ghosts-last_uncounted : goal.ghosts-last_uncounted
