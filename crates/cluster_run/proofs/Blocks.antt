@@ -16,7 +16,7 @@ use Rattle.node_model.specs.Events.{drop_over, dropped, is_over, needs_no_job, w
 use Rattle.node_model.specs.History.{SealedBlock, ids_of}
 use Rattle.node_model.specs.Journals.{delivered, world}
 use Rattle.node_model.specs.Steps as steps
-use Rattle.node_model.specs.Steps.{Answer, Reply, Shared, ToCommit, ToDeliver, ToSeal, commits, commits_due, delivers, is_ready, noted, reply, seals, seals_due}
+use Rattle.node_model.specs.Steps.{Answer, Reply, Shared, ToCommit, ToDeliver, ToSeal, commits, commits_due, delivers, is_ready, noted, seals, seals_due}
 use Rattle.node_model.specs.World.{BlockInWork, Holds, HoldsNone, Job, World, decided, due, is_held, job_at, new_job}
 use Rattle.node_model.specs.declared.journal.Entry.{Entry}
 use Rattle.node_model.specs.declared.journal.Event.TheVariants.{Commit, Deliver}

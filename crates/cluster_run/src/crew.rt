@@ -8,8 +8,14 @@ use crate::gate::{Gate, Point};
 use crate::shared_block::SharedBlock;
 use node_core::HeldJob;
 use proc_syntax::Tx;
-use rel_base::Read;
 use std::sync::Wait;
+
+// So many steps take longer than the turns of a call.
+const LONG_RUN: u32 = 150;
+
+// So many steps for each row that was read, since a row moves between the processors of the threads that read it, while steps are made side by
+// side. Of a loop in a loop the inner one reads the same rows again, so the rows of one read are counted.
+const STEPS_A_ROW: usize = 2;
 
 /// The actors of a node: the processor, which is actor 0, executors from 1 on, and after them one that makes the arrivals. Each comes to
 /// the same gate. Executors that are idle hear one bell, and the processor, while an executor holds the job that is due, another.
@@ -26,8 +32,8 @@ pub struct Crew<'a, G: Gate> {
     pub bell: Bell,
     /// Rung where an executor holds its job no more.
     pub ended: Bell,
-    /// Rung where a job reads a span. Nobody sleeps on it.
-    pub spans: Bell,
+    /// Rung where a long run ends. Nobody sleeps on it.
+    pub long_runs: Bell,
     gate: &'a G,
 }
 
@@ -53,7 +59,7 @@ impl<'a, G: Gate> Crew<'a, G> {
             arrivals,
             bell: Bell::new(),
             ended: Bell::new(),
-            spans: Bell::new(),
+            long_runs: Bell::new(),
             gate,
         }
     }
@@ -78,10 +84,11 @@ impl<'a, G: Gate> Crew<'a, G> {
         actor == self.executors + 1
     }
 
-    /// A job is about to make the read that it wants.
-    pub fn note_read(&self, work: &HeldJob) {
-        if matches!(work.wanted(), Some(Read::Span { .. })) {
-            self.spans.ring();
+    /// The run of a job has come to its end, be it long or not.
+    pub fn note_run(&self, work: &HeldJob) {
+        let steps = work.steps();
+        if steps >= LONG_RUN && steps as usize / STEPS_A_ROW >= work.most_rows() {
+            self.long_runs.ring();
         }
     }
 

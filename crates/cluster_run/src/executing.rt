@@ -22,8 +22,8 @@ use std::sync::atomic::{AtomicBool, Ordering};
 const ARRIVALS_A_RING: u32 = 32;
 
 // The first job that can be claimed is run, and who waits for its end is reported. Answers whether to look for another at once: there was
-// one, and a span was read meanwhile. Calls of points alone are in turns for most of their time, so that the processor gets on faster where
-// others run few of them.
+// one, and a long run ended meanwhile, this one or another. Other runs are in turns for most of their time, or read rows that move between
+// processors, so that the processor gets on faster where others make few of them.
 fn run_first<V: Versions, G: Gate, R: Wait>(
     rt: &R,
     node: &SharedNode<V>,
@@ -33,16 +33,16 @@ fn run_first<V: Versions, G: Gate, R: Wait>(
     requires stands { Stands node.now.lock pass.old None }
     ensures comes { Comes pass.old pass.new None }
 {
-    let before = crew.spans.heard();
+    let before = crew.long_runs.heard();
     let ran = run_one(rt, node, crew, pass, Pick::Nth(0));
     if !matches!(ran, Ok(false)) {
         crew.ended.ring();
     }
-    Ok(ran? && crew.spans.heard() != before)
+    Ok(ran? && crew.long_runs.heard() != before)
 }
 
-/// Claims jobs and runs them, until the executor's flag is set or memory runs out. It holds none afterwards. Where no span was read during a job
-/// it waits for the bell before the next one, as where there is no job.
+/// Claims jobs and runs them, until the executor's flag is set or memory runs out. It holds none afterwards. Where no long run ended during a
+/// job it waits for the bell before the next one, as where there is no job.
 pub fn execute<V: Versions, G: Gate, R: Wait>(
     rt: &R,
     node: &SharedNode<V>,

@@ -45,10 +45,9 @@ pub fn give_up<V: Versions, R: Wait>(
 }
 
 // A held job makes the read that it wants.
-fn make_read<V: Versions, G: Gate, R: Wait>(
+fn make_read<V: Versions, R: Wait>(
     rt: &R,
     node: &SharedNode<V>,
-    crew: &Crew<'_, G>,
     pass: &mut NodePass<V>,
     mut work: HeldJob,
 ) -> Result<Option<HeldJob>, NoMemory>
@@ -58,7 +57,6 @@ fn make_read<V: Versions, G: Gate, R: Wait>(
     ensures blocks { pass_number pass.old ≡ 0 → SameBlocks pass.old pass.new }
     ensures leaves { IfOk result (Leaves pass.new work.job) }
 {
-    crew.note_read(&work);
     if node.read(rt, pass, &mut work).is_err() {
         give_up(rt, node, pass, work);
         return Err(NoMemory);
@@ -119,8 +117,9 @@ pub fn step_job<V: Versions, G: Gate, R: Wait>(
     ensures leaves { IfOk result (Leaves pass.new work.job) }
 {
     match work.advance() {
-        Ok(Next::Wants) => make_read(rt, node, crew, pass, work),
+        Ok(Next::Wants) => make_read(rt, node, pass, work),
         Ok(Next::Ready) => {
+            crew.note_run(&work);
             crew.come_to(rt, pass.number(), &work, Point::Ending);
             end_job(rt, node, pass, work)
         }

@@ -18,7 +18,7 @@ use Rattle.node_model.specs.Decide.{bad_call, future}
 use Rattle.node_model.specs.History.{ids_of, ids_told}
 use Rattle.node_model.specs.Steps.{AllDecided, Decided, NoBlock, NotReady, Reply, ToCommit, commits, commits_due, early_cause, is_done_job, is_ready, reply}
 use Rattle.node_model.specs.World as model
-use Rattle.node_model.specs.World.{BlockInWork, Job, World, change_job, change_place, decided, due, holder_of, is_done, is_for, is_live, job_at, job_of, number_of_job, same_tx}
+use Rattle.node_model.specs.World.{Job, change_job, change_place, decided, due, holder_of, is_done, is_live, job_at, job_of, number_of_job, same_tx}
 use Rattle.node_model.specs.declared.journal.Event.TheVariants as event
 use Rattle.node_model.specs.declared.outcome.Outcome.{Outcome}
 use Rattle.node_model.specs.declared.outcome.Outcome.TheVariants as outcome

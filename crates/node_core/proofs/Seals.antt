@@ -28,7 +28,7 @@ use Rattle.node_core.specs.declared.jobs.Stage.{Stage}
 use Rattle.node_core.specs.declared.delivered_block.DeliveredBlock.{DeliveredBlock}
 use Rattle.node_model.specs.Events.{after, drop_over, dropped, is_over, is_settled, with_sealed}
 use Rattle.node_model.specs.Fold as fold
-use Rattle.node_model.specs.Fold.{chain_digest, no_digest, results_of}
+use Rattle.node_model.specs.Fold.{chain_digest}
 use Rattle.node_model.specs.History.{SealedBlock, ids_of, ids_told}
 use Rattle.node_model.specs.Journals.{world}
 use Rattle.node_model.specs.Steps.{Digest, Reply, Shared, ToSeal, reply, seals, seals_due}

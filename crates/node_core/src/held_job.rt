@@ -1,9 +1,10 @@
 //! A job in the hands of an actor.
 
-ghost use Rattle.std.specs.Prelude.{◌≡◌, IfOk, IfSome, IsSome, OnErr, None, false, true};
+ghost use Rattle.std.specs.Prelude.{◌≡◌, ◌≤◌, IfOk, IfSome, IsSome, OnErr, None, false, true};
 ghost use Rattle.std.specs.Option.{option_copied};
 ghost use Rattle.proc_run.specs.Remains.{StandInOrder};
 ghost use Rattle.proc_syntax.specs.Declaring.{tables_of};
+ghost use Rattle.proc_syntax.specs.Limits.{most_steps};
 ghost use Rattle.rel_base.specs.Among.{ReadFitsIn};
 
 use crate::answers::Next;
@@ -91,6 +92,18 @@ impl HeldJob {
         ensures { result ≡ self.now.told.tx.height }
     {
         self.work.height()
+    }
+
+    /// The number of steps that its run took so far.
+    pub fn steps(&self) -> u32
+        ensures few { result ≤ most_steps }
+    {
+        self.work.steps()
+    }
+
+    /// The number of rows of its read that got most so far.
+    pub fn most_rows(&self) -> usize {
+        self.work.most_rows()
     }
 
     /// Runs to the next read or to the end, where it is at neither. Where memory is wanting, it is as before and may be asked again.

@@ -1,9 +1,10 @@
 //! What an actor has of a job that it holds.
 
-ghost use Rattle.std.specs.Prelude.{◌≡◌, IfOk, IfSome, IsSome, OnErr, None, false, true};
+ghost use Rattle.std.specs.Prelude.{◌≡◌, ◌≤◌, IfOk, IfSome, IsSome, OnErr, None, false, true};
 ghost use Rattle.std.specs.Option.{option_copied};
 ghost use Rattle.proc_run.specs.Remains.{StandInOrder};
 ghost use Rattle.proc_syntax.specs.Declaring.{tables_of};
+ghost use Rattle.proc_syntax.specs.Limits.{most_steps};
 ghost use Rattle.rel_base.specs.Among.{ReadFitsIn};
 
 use crate::answers::Next;
@@ -30,6 +31,8 @@ pub struct JobInHand {
     cut: bool,
     /// Whether the last read found that the id is settled.
     gone: bool,
+    /// The number of rows of the read that got most.
+    most_rows: usize,
 }
 
 impl Drop for JobInHand {
@@ -43,6 +46,7 @@ impl Drop for JobInHand {
             ended: _,
             cut: _,
             gone: _,
+            most_rows: _,
         } = self;
     }
 }
@@ -83,6 +87,7 @@ impl JobInHand {
             ended: false,
             cut: false,
             gone: false,
+            most_rows: 0,
         }
     }
 
@@ -112,6 +117,18 @@ impl JobInHand {
         ensures { result ≡ self.now.told.tx.height }
     {
         self.tx.height
+    }
+
+    /// The number of steps that its run took so far.
+    pub fn steps(&self) -> u32
+        ensures few { result ≤ most_steps }
+    {
+        self.machine.steps()
+    }
+
+    /// The number of rows of its read that got most so far.
+    pub fn most_rows(&self) -> usize {
+        self.most_rows
     }
 
     /// Runs to the next read or to the end, where it is at neither. Where memory is wanting, it is as before and may be asked again.
@@ -158,6 +175,7 @@ impl JobInHand {
         requires order { IfSome self.old.told.asks (λ read. StandInOrder (tables_of self.old.told.app) read rows) }
         ensures { IfSome self.old.told.asks (λ read. self.new ≡ with_read self.old read rows cut) }
     {
+        self.most_rows = self.most_rows.max(rows.len());
         self.machine.feed(rows);
         self.wants = None;
         self.cut = cut;
@@ -185,6 +203,7 @@ impl JobInHand {
             wants: _,
             ended: _,
             gone: _,
+            most_rows: _,
         } = self;
         let ran = if cut {
             Ran {

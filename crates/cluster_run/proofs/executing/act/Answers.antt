@@ -1,5 +1,4 @@
-use Rattle.std.proofs.Common.{rules, sym, ◌+◌, ◌∙◌, ◌≡◌}
-use Rattle.std.proofs.lemmas.Bool.{eqb-true}
+use Rattle.std.proofs.Common.{rules, ◌+◌, ◌∙◌, ◌≡◌}
 use Rattle.cluster_run.proofs.Arriving.{brings_fed, brings_nothing}
 use Rattle.turn_lock.specs.Passes.{mine, pass_number}
 use Rattle.cluster_run.proofs.executing.act.Goals as goal

@@ -2,7 +2,7 @@ use Rattle.cluster_run.proofs.Calls.{ran_stands}
 use Rattle.cluster_run.proofs.running_jobs.step_job.Goals as goal
 
 pub make_read-requires-clause-stands : goal.make_read-requires-clause-stands
-make_read-requires-clause-stands g c κs within = ran_stands c.args.node.now.lock c.args.pass.now c.args.work c.advance.new.self c.advance.ensures.same c.requires.stands
+make_read-requires-clause-stands g c = ran_stands c.args.node.now.lock c.args.pass.now c.args.work c.advance.new.self c.advance.ensures.same c.requires.stands
 
 pub end_job-requires-clause-stands : goal.end_job-requires-clause-stands
 end_job-requires-clause-stands g c = ran_stands c.args.node.now.lock c.args.pass.now c.args.work c.advance.new.self c.advance.ensures.same c.requires.stands

@@ -1,4 +1,4 @@
-use Rattle.std.proofs.Common.{Some, ap, arith, length, rules, slice_get, sym, ◌<◌, ◌∙◌, ◌≡◌}
+use Rattle.std.proofs.Common.{Some, ap, arith, length, rules, slice_get, sym, ◌∙◌, ◌≡◌}
 use Rattle.node_core.proofs.Walks.{first_at, here_of, links_all}
 use Rattle.node_core.proofs.lookup.is_first_for.Goals as goal
 
