@@ -1,5 +1,5 @@
 -- What a reader answers, against the codes.
-use Rattle.std.specs.Prelude.{◌≡◌, ◌++◌, ℕ, List, length, take, Option, Some, None, Result, Ok, Err}
+use Rattle.std.specs.Prelude.{◌≡◌, ◌++◌, ℕ, List, length, take, Result, Ok, Err}
 use denote.Bor.{Bor}
 use Rattle.rel_base.specs.declared.reading.ReadFault.{ReadFault}
 use Rattle.rel_base.specs.declared.reading.ReadFault.TheVariants as fault

@@ -1,8 +1,8 @@
 -- What is reported of the first late read is reported of the late read of the definition.
-use Rattle.std.proofs.Common.{List, None, Option, Some, [], ap, map, refl, ◌+◌, ◌∙◌, ◌≡◌, ◌∷◌, ℕ}
+use Rattle.std.proofs.Common.{List, None, Option, Some, [], map, refl, ◌+◌, ◌≡◌, ◌∷◌, ℕ}
 use Rattle.std.specs.Option.{option_map, option_or}
-use Rattle.conflict_rules.specs.Late.{Overtaken, overtaken, overtaken_at, overtaken_from}
-use Rattle.rel_base.specs.Late.{LateRead, late, late_at, late_from, least_hit}
+use Rattle.conflict_rules.specs.Late.{Overtaken, overtaken, overtaken_from}
+use Rattle.rel_base.specs.Late.{LateRead, late_at, late_from, least_hit}
 use Rattle.rel_base.specs.Tables.{Stamped}
 use Rattle.rel_base.specs.declared.access.Made.{Made}
 use Rattle.rel_base.specs.declared.access.Read.{Read}

@@ -1,5 +1,5 @@
 -- Counts of failed calls, and leave to read.
-use Rattle.std.specs.Prelude.{ℕ, ◌≡◌, ◌<◌, ◌≤◌, ◌+◌, ◌-◌, ◌^◌, min, List}
+use Rattle.std.specs.Prelude.{ℕ, ◌<◌, ◌≤◌, ◌+◌, ◌-◌, ◌^◌, min, List}
 
 -- A count raised by one. It stops at the greatest number of 64 bits.
 abbrev pub raised : ℕ → ℕ

@@ -1,15 +1,15 @@
 -- Digits and the bytes that they spell.
-use Rattle.std.proofs.Common.{◌≡◌, ℕ, zero, suc, List, [], ◌∷◌, Bool, true, false, cond, Option, Some, None, refl, sym, ◌∙◌, ap, arith}
+use Rattle.std.proofs.Common.{◌≡◌, ℕ, zero, suc, List, [], ◌∷◌, Bool, true, false, cond, Some, None, refl, sym, ◌∙◌, ap, arith}
 use Rattle.std.specs.Prelude.{Result, Ok, Err, not, slice_index, ◌==◌, ◌/◌, ◌%◌}
 use Rattle.std.specs.List.{list_all}
 use Rattle.std.specs.Str.{bytes_eq}
 use Rattle.std.proofs.lemmas.Bool.{and_from, and_parts}
 use Rattle.std.proofs.lemmas.Option.{same_Some}
-use Rattle.hex.specs.Hex.{IsBytes, decode_of, decode_sized, encode_lower, encode_with, lower_digits}
+use Rattle.hex.specs.Hex.{decode_of, decode_sized, encode_lower, encode_with, lower_digits}
 use Rattle.hex.specs.declared.error.FromHexError.{FromHexError}
 use Rattle.hex.proofs.HexLemmas.{decode_of-encode_lower, decode_of-ok, decode_sized-encode_lower, decode_sized-ok, decode_sized-twice}
 use Rattle.rel_base.proofs.Bytes.{bytes_same, equal_bytes}
-use Rattle.hex_digits.specs.Digits.{as_written, bytes_of, hash_of}
+use Rattle.hex_digits.specs.Digits.{as_written}
 use Rattle.hex_digits.specs.Laws.{BytesAreBytes, BytesComeBack, BytesHaveOneSpelling, HashesAreHashes, HashesComeBack, HashesHaveOneSpelling}
 
 -- what is written is as it is written

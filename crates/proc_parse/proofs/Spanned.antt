@@ -1,6 +1,6 @@
 -- The tokens of a text by their places, from a place on.
-use Rattle.std.proofs.Common.{◌≡◌, ◌<◌, ◌≤◌, ◌+◌, ◌-◌, ℕ, zero, suc, List, [], ◌∷◌, ◌++◌, length, Bool, true, false, Result, Ok, Err, refl, sym, ap, subst, ◌∙◌, arith}
-use Rattle.proc_parse.proofs.Pieces.{found_less, found_most, moved_col, moved_line, newline_some, piece_less, piece_most, piece_shorter}
+use Rattle.std.proofs.Common.{◌≡◌, ◌<◌, ◌≤◌, ◌+◌, ◌-◌, ℕ, zero, suc, List, [], ◌∷◌, length, Bool, true, false, Ok, Err, refl, sym, ap, subst, ◌∙◌, arith}
+use Rattle.proc_parse.proofs.Pieces.{found_most, moved_col, moved_line, newline_some, piece_less, piece_most, piece_shorter}
 use Rattle.proc_parse.specs.Spans.{AreApart, Puts, Spanned, Spans, before, is_last, put_step, spans_in, spans_of, step_of}
 use Rattle.proc_parse.specs.Tokens.{Found, ends, moved, piece_at, start}
 use Rattle.proc_parse.specs.declared.lexer.Piece.{Piece}

@@ -1,5 +1,5 @@
 -- The grammar of queries.
-use Rattle.std.specs.Prelude.{ℕ, List, [], ◌∷◌, Bool, cond, Option, Some, None, neg_ℤ}
+use Rattle.std.specs.Prelude.{ℕ, List, [], ◌∷◌, cond, Option, Some, None, neg_ℤ}
 use Rattle.rel_base.specs.declared.value.Value.{Value}
 use Rattle.proc_parse.specs.declared.lexer.Position.{Position}
 use Rattle.proc_parse.specs.declared.token.Lexeme.{Lexeme}
@@ -16,7 +16,7 @@ use Rattle.proc_parse.specs.Words.{is_sign}
 use Rattle.query_plan.specs.Answer.{int_value}
 use Rattle.query_plan.specs.declared.select.Relation.{Relation}
 use Rattle.query_plan.specs.declared.select.Relation.TheVariants as relations
-use Rattle.query_text.specs.Keywords.{is_keyword, keyword_in, keyword_of, keywords}
+use Rattle.query_text.specs.Keywords.{is_keyword, keyword_of}
 use Rattle.query_text.specs.Lists.{list_upto}
 use Rattle.query_text.specs.declared.items.ItemHead.{ItemHead}
 use Rattle.query_text.specs.declared.items.ItemHead.TheVariants as head

@@ -1,9 +1,8 @@
 -- Each phrase of a query takes a token at least.
 use Rattle.std.specs.Prelude.{ℕ, zero, suc, List, [], ◌∷◌, ◌++◌}
 use Rattle.proc_parse.specs.Expressions.{is_name}
-use Rattle.proc_parse.specs.Phrases.{the_sign, the_word}
-use Rattle.proc_parse.specs.Reading.{Reader, ◌>>◌, done, expect, Shortens}
-use Rattle.proc_parse.specs.Shorter.{NeverGrows, keeps_behind, keeps_done, keeps_of, keeps_sign, keeps_then, keeps_word, shortens_before, shortens_expect, shortens_first, shortens_one, shortens_refuse, shortens_then}
+use Rattle.proc_parse.specs.Reading.{Reader, ◌>>◌, Shortens}
+use Rattle.proc_parse.specs.Shorter.{NeverGrows, keeps_behind, keeps_done, keeps_of, keeps_sign, keeps_then, shortens_before, shortens_expect, shortens_first, shortens_one, shortens_refuse, shortens_then}
 use Rattle.proc_parse.specs.Words.{is_sign}
 use Rattle.proc_parse.specs.declared.token.Sign.TheVariants as sign
 use Rattle.query_text.specs.Grammar.{aggregate, col, comparison, field, given_side, head_of, item, item_by, literal_side, minus, minus_side, named, number, plain_item, relation, side, source, the_keyword}

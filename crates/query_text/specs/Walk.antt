@@ -32,7 +32,6 @@ use Rattle.query_text.specs.declared.tree.FieldText.{FieldText}
 use Rattle.query_text.specs.declared.tree.FieldText.TheVariants as field_text
 use Rattle.query_text.specs.declared.tree.ItemText.{ItemText}
 use Rattle.query_text.specs.declared.tree.ItemText.TheVariants as item_text
-use Rattle.query_text.specs.declared.tree.NameText.{NameText}
 use Rattle.query_text.specs.declared.tree.NumberText.{NumberText}
 use Rattle.query_text.specs.declared.tree.SelectText.{SelectText}
 use Rattle.query_text.specs.declared.tree.SelectedText.{SelectedText}

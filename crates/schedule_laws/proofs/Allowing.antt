@@ -13,7 +13,7 @@ use Rattle.schedule_laws.proofs.Choosing.{chosen_free}
 use Rattle.schedule_laws.specs.Allowed.{Allows}
 use Rattle.schedule_laws.specs.Facts.{FactsHold}
 use Rattle.schedule_laws.specs.Laws.{StepsAreAllowed}
-use Rattle.std.proofs.lemmas.Bool.{eqb-true, false≢true, or_parts}
+use Rattle.std.proofs.lemmas.Bool.{eqb-true, or_parts}
 use Rattle.std.proofs.lemmas.Option.{none-some, same_Some}
 use Rattle.std.specs.Option.{is_some}
 use Rattle.rel_base.proofs.Lists.{not_some}

@@ -7,7 +7,7 @@ use Rattle.node_core.specs.Core.{Core, Steps, world_of}
 use Rattle.node_model.specs.Events.{happens, settled_in}
 use Rattle.node_model.specs.Journals.{delivered, delivery}
 use Rattle.node_model.specs.Steps as steps
-use Rattle.node_model.specs.Steps.{Answer, Ask, Reply, Shared, ToArrive, ToClaim, ToCommit, ToDeliver, ToFinish, ToRead, ToRelease, ToSeal, chosen, claims, commits, commits_due, delivers, finishes, gone_or_kept, is_known, is_ready, noted, reads, reads_unless, reply, seals, seals_due, step}
+use Rattle.node_model.specs.Steps.{Answer, Ask, Reply, ToArrive, ToClaim, ToCommit, ToDeliver, ToFinish, ToRead, ToRelease, ToSeal, chosen, claims, commits, commits_due, delivers, finishes, is_known, is_ready, noted, reads, reads_unless, reply, seals, seals_due}
 use Rattle.node_model.specs.World.{BlockInWork, Job, World, decided, due, job_at}
 use Rattle.node_model.specs.declared.journal.Entry.{Entry}
 use Rattle.node_model.specs.declared.journal.Event.TheVariants.{Arrive, Claim, Commit, Deliver, Finish, Read, Release, Seal}

@@ -1,5 +1,5 @@
 -- The journal of a schedule is legal, and delivers the blocks in their order.
-use Rattle.std.proofs.Common.{Bool, IsSome, List, None, Option, Some, [], ap, append-nil, arith, cond, false, inl, inr, length, length-append, refl, slice_get, subst, sym, true, ◌+◌, ◌++◌, ◌==◌, ◌||◌, ◌∙◌, ◌≡◌, ◌≤◌, ◌⊎◌, ◌∷◌, ℕ}
+use Rattle.std.proofs.Common.{Bool, IsSome, List, None, Option, Some, [], ap, append-nil, arith, cond, false, inl, inr, length, length-append, refl, slice_get, subst, sym, true, ◌+◌, ◌++◌, ◌==◌, ◌||◌, ◌∙◌, ◌≡◌, ◌≤◌, ◌∷◌, ℕ}
 use Rattle.std.proofs.lemmas.Bool.{false≢true, or_parts}
 use Rattle.std.proofs.lemmas.Option.{none-some, same_Some}
 use Rattle.std.specs.Option.{is_none, is_some, option_and_then, option_map}

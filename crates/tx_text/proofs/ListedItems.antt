@@ -5,7 +5,7 @@ use Rattle.std.specs.List.{AllByRecursion}
 use Rattle.std.specs.Option.{option_map}
 use Rattle.std.specs.Str.{bytes_eq}
 use Rattle.tx_text.specs.Parts.{is_long, parts_of}
-use Rattle.tx_text.specs.Listing.{Form, Far, no_item, one_item, items_at, with_items, onward, ending, walk, whole, listed}
+use Rattle.tx_text.specs.Listing.{Form, Far, no_item, one_item, items_at, with_items, onward, walk, whole, listed}
 
 module _ {A : Type 0} (form : Form A) (Fine : A → Type 0) (sound : (line : List ℕ) (item : A) → form.item line ≡ Some item → Fine item) where
   -- these items are fine, if there are any

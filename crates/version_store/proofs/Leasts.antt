@@ -11,7 +11,7 @@ use Rattle.rel_base.specs.Access.{read_table, hits_write}
 use Rattle.rel_base.specs.Late.{least, least_hit, lesser, stamp_cmp, where_declared}
 use Rattle.rel_base.specs.Tables.{Stamped, writes_between}
 use Rattle.rel_base.proofs.Bits.{first_true}
-use Rattle.rel_base.proofs.Lists.{drop_next, item_of}
+use Rattle.rel_base.proofs.Lists.{drop_next}
 use Rattle.row_sets.proofs.Histories.{unwrapped}
 use Rattle.row_sets.specs.declared.entry.LogEntry.{LogEntry}
 use Rattle.row_sets.specs.Log.{history_of, stamped_of}

@@ -1,5 +1,5 @@
 -- The list of committed writes.
-use Rattle.std.specs.Prelude.{◌≡◌, ◌-◌, ℕ, IsSomeAnd, List, Option, slice_get}
+use Rattle.std.specs.Prelude.{◌≡◌, ℕ, IsSomeAnd, List, Option, slice_get}
 use Rattle.std.specs.Option.{option_and_then}
 use Rattle.rel_base.specs.Tables.{Stamped}
 use Rattle.row_sets.specs.declared.entry.LogEntry.{LogEntry}

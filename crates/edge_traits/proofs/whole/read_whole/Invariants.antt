@@ -1,4 +1,4 @@
-use Rattle.std.proofs.Common.{length, ◌-◌, ◌+◌, ◌≡◌, ◌≤◌, ◌<◌, take, IfSome}
+use Rattle.std.proofs.Common.{length, ◌-◌, ◌+◌, ◌≡◌, ◌≤◌, take, IfSome}
 use Rattle.edge_traits.specs.Causes.{Keeps, piece_bytes}
 use Rattle.edge_traits.proofs.whole.read_whole.Given as goal
 
