@@ -1,11 +1,12 @@
 #!/usr/bin/env python3
-"""Times nodes with executors: payments, and sweeps of 100 rows by an indexed owner, all of which arrive before their blocks.
+"""Times nodes with executors: payments, sweeps of 100 rows by an indexed owner, and sweeps that compute with 20 assignments for each row. All of
+these arrive before their blocks.
 
 Each call names the height LAG blocks below the one before its block's own, so that executors can run the calls of a block while LAG blocks before it are
 still decided. For 0, 1, 2 and 4 executors and for 1 and 3 nodes, or those of the options, the table shows calls a second by the clock, beside those of no executor, the processor
 time of the whole run with its accounts, and which part of all runs executors brought to their end. From the calls a second the time that the accounts
 take without executors is taken off, so that few calls tell little. The reports have to be the same.
-Usage: bench/executors.py PROGRAM [--calls COUNT] [--sweeps COUNT] [--lag LAG] [--rounds COUNT] [--executors COUNTS] [--nodes COUNTS]
+Usage: bench/executors.py PROGRAM [--calls COUNT] [--sweeps COUNT] [--computing COUNT] [--lag LAG] [--rounds COUNT] [--executors COUNTS] [--nodes COUNTS]
 """
 import argparse
 import os
@@ -20,6 +21,13 @@ from accounts import APP
 ACCOUNTS = 10000
 ROWS_OF_AN_OWNER = 100
 PER_BLOCK = 100
+STEPS = " ".join(f"sum = (sum * 31 + r.bal * {factor} + r.id) % 1000003;" for factor in range(3, 23))
+COMPUTE = f"""proc compute(o text) {{
+  let sum = 0;
+  for r in acct span on owner from o to o {{ {STEPS} }}
+  if sum < 0 {{ fail "debt"; }}
+}}
+"""
 
 
 def account_blocks():
@@ -35,6 +43,10 @@ def payment(draw):
 
 def sweep(draw):
     return f'sweep "owner{draw.randrange(ACCOUNTS // ROWS_OF_AN_OWNER)}"'
+
+
+def computing(draw):
+    return f'compute "owner{draw.randrange(ACCOUNTS // ROWS_OF_AN_OWNER)}"'
 
 
 def call_blocks(call, count, lag, height):
@@ -111,6 +123,7 @@ def main():
     parser.add_argument("program")
     parser.add_argument("--calls", type=int, default=20000)
     parser.add_argument("--sweeps", type=int, default=2000)
+    parser.add_argument("--computing", type=int, default=2000)
     parser.add_argument("--lag", type=int, default=1)
     parser.add_argument("--rounds", type=int, default=3)
     parser.add_argument("--executors", type=counts, default=[0, 1, 2, 4])
@@ -120,9 +133,10 @@ def main():
     with tempfile.TemporaryDirectory() as folder:
         os.chdir(folder)
         with open("app", "w") as out:
-            out.write(APP)
+            out.write(APP + COMPUTE)
         measure(program, "payments", payment, given.calls, given)
         measure(program, "sweeps", sweep, given.sweeps, given)
+        measure(program, "computing sweeps", computing, given.computing, given)
 
 
 if __name__ == "__main__":

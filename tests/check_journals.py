@@ -21,7 +21,7 @@ from draw_schedules import CASES, HERE, arrivals_of, blocks_of, changed, read
 EARLY = ("aborted duplicate-id", "aborted future-height", "aborted unknown-procedure", "aborted bad-arguments")
 MOST_READS = 100000
 MOST_NODES = 3
-CROWD, CROWD_RUNS, CROWD_BLOCKS, CROWD_CALLS = 16, 20, 1000, 2000
+CROWD, CROWD_RUNS, CROWD_BLOCKS, CROWD_CALLS = 16, 60, 1000, 2000
 
 
 KINDS = {"int": re.compile(r"-?[0-9]+"), "text": re.compile(r'"(?:[^"\\]|\\.)*"'), "bool": re.compile("true|false"), "bytes": re.compile(r'x"(?:[0-9a-f]{2})*"')}
