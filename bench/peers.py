@@ -3,7 +3,8 @@
 
 payments: each call reads and updates two accounts; inserts: each call adds a row; sweeps: each call sums the 100 accounts of an owner by an index;
 mixed: payments, sweeps, inserts and removals over 10,000 accounts. The product runs them in blocks of --per-block calls with orders and digests:
-without executors, by processor time, and with the words that a user gives first, which have two executors, by the clock. SQLite is driven by
+without executors, by processor time, and with the words that a user gives first, by the clock: sweeps and mixed calls then have two executors, and payments
+and inserts none, since a node starts none for calls without a loop. SQLite is driven by
 sqlite.c with prepared statements, one transaction a call, by processor time. The time of the accounts alone is taken off all three.
 With --sizes the same for 1,000 accounts and twice as many again and again, and for blocks of 10 to 1,000. With --plot FILE the ratios are drawn as SVG.
 It needs a C compiler and the headers of SQLite.

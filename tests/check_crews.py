@@ -2,7 +2,8 @@
 """Runs each case of `run` in tests/cases again with 0, 1 and 4 executors on 1 and 3 nodes, and compares every byte.
 
 The report of a node has to stand there once for each node, before the last line, and a refusal as it is. Cases whose words name nodes, executors, journals
-or JSON are left out, since they say what those print; a case with arrivals is run on one node, whose file it has.
+or JSON are left out, since they say what those print; a case with arrivals is run on one node, whose file it has. One node starts its executors only where
+something arrives or a call has a loop, as of some of the cases, and three nodes always start them.
 Usage: check_crews.py PROGRAM
 """
 import os

@@ -5,8 +5,9 @@ A library that is loaded before the C library refuses the call of one number, fo
 ends with its own status or with 8, or, where a file was to be opened or the output to be written with it, as where that failed; where a read was refused,
 with its own status or 3; where a write was, with its own or 7; where a start was, with its own. At 3 it writes so, at 7 and 8 a front of what the run
 writes, and at its own status all of it. Nothing crashes, hangs or is written twice. Reads and writes that move one byte change nothing, and where one of
-these writes is refused, exactly the bytes before it were written. Where no start is refused, a run starts a thread for each of its actors. A run reads
-each piece of its files once and looks once for the end of each, and of what arrives, a schedule or blocks nothing after the piece that has a fault.
+these writes is refused, exactly the bytes before it were written. Where no start is refused, a run starts exactly a thread for each of its actors, and none
+where one node runs by itself. A run reads each piece of its files once and looks once for the end of each, and of what arrives, a schedule or blocks nothing
+after the piece that has a fault.
 Of runs with many growths some are chosen, evenly, unless all are asked for. Usage: check_refusals.py PROGRAM [--all]
 """
 import concurrent.futures
@@ -26,9 +27,10 @@ SECONDS = 30
 MOST_CHOSEN = 120
 # how a run may end in which a call of a kind was refused
 ENDS = {"growth": (8, 3, 7), "read": (3,), "write": (7,), "start": ()}
-# How many threads a run starts at least, beside the first one: of a run two executors, and where something arrives one more; of an order its two clients; of
-# a load three nodes, of which one runs on the first thread, and at each of them four executors and one that makes the arrivals.
-STARTS = {"one-insert": 2, "side-by-side": 2 + 1, "order-one-of-two": 2, "load": 2 + 3 * (4 + 1)}
+# How many threads a run starts, beside the first one: where one node may gain by executors, as by calls with a loop, two of these, and where something arrives
+# one more; of two nodes two at each, and one of the nodes; of an order its two clients; of a load three nodes, of which one runs on the first thread, and at
+# each of them four executors and one that makes the arrivals. One node runs by itself where nothing arrives and no call has a loop. All others start none.
+STARTS = {"one-insert": 0, "phantom-sweep": 2, "two-nodes": 1 + 2 * 2, "side-by-side": 2 + 1, "order-one-of-two": 2, "load": 2 + 3 * (4 + 1)}
 # how many bytes a read asks for at most, and the options that name files
 PIECE = 65536
 FILES = ("--app", "--blocks", "--arrivals", "--schedule", "--clients", "--files", "--proof")
@@ -60,6 +62,12 @@ def side_by_side(folder):
     return folder, ["run", "--app", "a.app", "--blocks", "b.draft", "--arrivals", "arrivals", "--executors", "2"]
 
 
+def two_nodes():
+    """A block that one node would run by itself."""
+    folder, words = case("one-insert")
+    return folder, [*words, "--nodes", "2"]
+
+
 def stopped(folder, name, texts, words):
     """A command on these files, of which the last that it reads has a bad second line and two million bytes after it."""
     folder = os.path.join(folder, name)
@@ -86,9 +94,11 @@ def sizes(run):
 
 
 def runs(folder):
-    names = ["one-insert", "first-hit-wins", "provenance-of-pay", "first-hit-wins-claimed-early", "guide-bank-seal", "json-of-one-insert", "guide-bank-changed",
-             "order-one-of-two", "order-bad-client", "guide-heads", "guide-compare", "compare-an-empty-file", "guide-prove", "guide-verify", "verify-33-steps"]
-    return [Run(name, *case(name)) for name in names] + [Run("side-by-side", *side_by_side(folder)), *all_stopped(folder), Run("load", folder, ["load", "--number", "1"])]
+    names = ["one-insert", "phantom-sweep", "first-hit-wins", "provenance-of-pay", "first-hit-wins-claimed-early", "guide-bank-seal", "json-of-one-insert",
+             "guide-bank-changed", "order-one-of-two", "order-bad-client", "guide-heads", "guide-compare", "compare-an-empty-file", "guide-prove", "guide-verify",
+             "verify-33-steps"]
+    made = [Run("two-nodes", *two_nodes()), Run("side-by-side", *side_by_side(folder)), *all_stopped(folder), Run("load", folder, ["load", "--number", "1"])]
+    return [Run(name, *case(name)) for name in names] + made
 
 
 class Refuser:
@@ -175,8 +185,8 @@ def numbers_of(count, takes_all):
 
 def check_starts(refuser, run, tally):
     _, _, count = refuser.run(run, "start", 0)
-    least = STARTS.get(run.name, 0)
-    tally.note(run, "no start refused", f"{count} threads and not {least}" if count < least else None)
+    wanted = STARTS.get(run.name, 0)
+    tally.note(run, "no start refused", f"{count} threads and not {wanted}" if count != wanted else None)
 
 
 def check_reads(refuser, run, tally):

@@ -186,6 +186,17 @@ reply_folded look folded nodes (Ok reply) silent is means = λ blocks arrivals f
     reply_alone look (app_of folded) blocks arrivals folded.fault nodes (Ok reply) silent (is blocks folds) means
 reply_folded look folded nodes (Err e) silent is means = tt
 
+-- which took blocks that were read
+pub reply_read : (look : Look) (nodes : ℕ) (app : App) (blocks : List Block) (arrivals : List (List Tx)) (stop : Option ChainFault) (folded : Folded) (result : Result Reply NoMemory) → nodes ≡ 1
+    → app_of folded ≡ app → folded.fault ≡ stop → Folds all_blocks blocks folded
+    → IfOk result (λ reply. (given : List Block) (others : List (List Tx)) → Folds all_blocks given folded → RepliesNodes look 1 (app_of folded) given others folded.fault reply)
+    → IfOk result (λ reply. RepliesNodes look nodes app blocks arrivals stop reply)
+reply_read look nodes app blocks arrivals stop folded (Ok reply) one same ends folds replies =
+    subst (λ count. RepliesNodes look count app blocks arrivals stop reply) (sym one)
+    (subst (λ (own : App). RepliesNodes look 1 own blocks arrivals stop reply) same
+    (subst (λ (end : Option ChainFault). RepliesNodes look 1 (app_of folded) blocks arrivals end reply) ends (replies blocks arrivals folds)))
+reply_read look nodes app blocks arrivals stop folded (Err e) one same ends folds replies = tt
+
 ran_alone : (look : Look) (asked : Sources) (folded : Folded) (reply : Reply) (files : Files) → asked.nodes ≡ 1
     → ((blocks : List Block) (arrivals : List (List Tx)) → Folds all_blocks blocks folded → RepliesNodes look 1 (app_of folded) blocks arrivals folded.fault reply) → AreFolded all_blocks (Ok folded) asked files
     → RepliesRun look asked (accepted (files asked.app)) files reply

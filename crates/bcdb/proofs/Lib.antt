@@ -21,6 +21,7 @@ pub mod Whole
 pub mod Giving
 pub mod Extracts
 pub mod FewWrites
+pub mod HistoryParts
 pub mod Digests
 pub mod Verifications
 pub mod Numbered

@@ -25,6 +25,18 @@ use Rattle.proc_syntax.specs.declared.tree.App.{App}
 use Rattle.rel_base.specs.Tables.{Stamped}
 use Rattle.rel_base.specs.declared.schema.TableDef.{TableDef}
 
+-- before the first block it holds the fold of none
+pub none_held : (height : ℕ) (own : App) (tables : List TableDef) (history : List Stamped) (ids : IdIndex) (results : List BlockResult) → StoreFits own tables history results → AreUpTo (length results) ids
+    → HoldsFold own [] history ids results → HoldsFirst height [] 0 own tables history ids results
+none_held height own tables history ids results fits upto holds =
+    let none : take height [] ≡ [] = take_all height [] (omega (arith)) in
+    record {
+      count = refl;
+      fits = fits;
+      upto = upto;
+      holds = subst (λ (bs : List Block). HoldsFold own bs history ids results) (sym none) holds;
+    }
+
 -- it has as many results as it processed blocks
 pub held_long : (height : ℕ) (blocks : List Block) (taken : ℕ) (own : App) (tables : List TableDef) (history : List Stamped) (ids : IdIndex) (results : List BlockResult) → HoldsFirst height blocks taken own tables history ids results
     → length results ≡ length (take height blocks)

@@ -33,9 +33,10 @@ use Rattle.proc_syntax.specs.declared.call.Block.{Block}
 use Rattle.proc_syntax.specs.declared.call.Tx.{Tx}
 use Rattle.proc_syntax.specs.declared.chain_fault.ChainFault.{ChainFault}
 use Rattle.proc_syntax.specs.declared.tree.App.{App}
-use Rattle.provenance.proofs.Folded.{folds_told, histories_told}
+use Rattle.provenance.proofs.Folded.{folds_told, histories_told, results_numbered}
 use Rattle.provenance.specs.Answer.{answer}
 use Rattle.provenance.specs.Asked.{Answers, Asks}
+use Rattle.provenance.specs.Laws.{RunFromOne}
 use Rattle.provenance.specs.Versions.{AreTold, history_of}
 use Rattle.provenance.specs.declared.query.Query.{Query}
 use Rattle.provenance.specs.declared.query.QueryFault.{QueryFault}
@@ -55,6 +56,12 @@ run_from number (block ∷ rest) are = ap (λ n. n ∷ map (λ (b : Block). b.nu
 -- and each write of them stands at the place of a transaction
 pub told_places : (app : App) (blocks : List Block) (history : List Stamped) (ids : IdIndex) (results : List BlockResult) → NumberedFrom 1 blocks → HoldsFold app blocks history ids results → AreTold results
 told_places app blocks history ids results numbered holds = subst AreTold (sym holds.chain.results) (folds_told app blocks (run_from 1 blocks numbered))
+
+-- and these are numbered from 1
+pub told_numbers : (app : App) (blocks : List Block) (history : List Stamped) (ids : IdIndex) (results : List BlockResult) → NumberedFrom 1 blocks → HoldsFold app blocks history ids results
+    → RunFromOne (map (λ block. block.number) results)
+told_numbers app blocks history ids results numbered holds =
+    subst RunFromOne (sym (ap (map (λ (block : BlockResult). block.number)) holds.chain.results ∙ results_numbered app blocks)) (run_from 1 blocks numbered)
 
 same_told : (result meant other : Result (List Version) QueryFault) → meant ≡ other → Answers result meant → Tells result other
 same_told (Ok versions) meant other same is = sym same ∙ is

@@ -10,6 +10,7 @@ pub mod ExtractAnswer
 pub mod FewWrites
 pub mod Folds
 pub mod Given
+pub mod HistoryParts
 pub mod InOrder
 pub mod LoadAnswer
 pub mod Numbers

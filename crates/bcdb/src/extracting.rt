@@ -33,7 +33,8 @@ fn extract_folded(
     requires { (blocks : List BlockText) × Folds all_blocks blocks made.now }
     ensures { IfOk result (λ file. (blocks : List BlockText) → Folds all_blocks blocks made.now → file ≡ extracted wanted (folded (app_of made.now) blocks)) }
 {
-    draw_file(alloc, wanted, made.node.blocks())
+    let node = &made.node;
+    draw_file(alloc, node.versions(), wanted, node.blocks())
 }
 
 // Puts the line after a file that says where the block file stopped, if it has a fault.

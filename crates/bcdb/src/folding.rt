@@ -1,10 +1,11 @@
-//! A block file whose blocks are run as they are read, each let go once it was run.
+//! A node that runs the blocks of a file by itself: as they are read, each let go once it was run, or once all were read.
 
 ghost use Rattle.std.specs.Prelude.{◌≡◌, IfOk, IfSome, List, None, Option, Some, ℕ, []};
-ghost use Rattle.bcdb.specs.Folds.{Folds, HasFolded};
+ghost use Rattle.bcdb.specs.Folds.{Folds, HasFolded, HoldsFirst, all_blocks, app_of};
 ghost use Rattle.bcdb.specs.Reading.{HasRead};
 ghost use Rattle.chain_file.specs.Chain.{chain};
 ghost use Rattle.chain_file.specs.Following.{WasFed};
+ghost use Rattle.chain_file.specs.Numbered.{NumberedFrom};
 ghost use Rattle.edge_traits.specs.Shelf.{Files};
 ghost use Rattle.proc_syntax.specs.declared.call.Block.{Block as BlockText};
 ghost use Rattle.proc_syntax.specs.declared.chain_fault.ChainFault.{ChainFault as ChainFaultText};
@@ -15,8 +16,8 @@ use chain_file::laws::files_are_numbered;
 use chain_file::{Fed, Reader};
 use plain_node::PlainNode;
 use proc_check::Checked;
-use proc_syntax::ChainFault;
-use rel_base::NoMemory;
+use proc_syntax::{Block, ChainFault};
+use rel_base::{List, NoMemory};
 use std::alloc::Global;
 use std::sync::Arc;
 use version_index::IndexVersions;
@@ -54,12 +55,7 @@ impl Intake for Folding {
         files_are_numbered();
         let fed = self.reader.feed(piece)?;
         let Fed { blocks, fault } = fed;
-        take_blocks(
-            &mut self.node,
-            &mut self.taken,
-            self.height,
-            blocks.as_slice(),
-        )?;
+        take_blocks(&mut self.node, &mut self.taken, self.height, blocks)?;
         Ok(fault)
     }
 }
@@ -109,4 +105,49 @@ impl Folding {
         let fault = stop_of(reader, stop);
         Folded { node, taken, fault }
     }
+}
+
+// A node that was given so many blocks, which end at a fault.
+fn end_fold(node: PlainNode<IndexVersions>, taken: u64, fault: Option<ChainFault>) -> Folded
+    ensures app { app_of result ≡ node.chain.app.value.app }
+    ensures folds { (blocks : List BlockText) → NumberedFrom 1 blocks
+        → HoldsFirst all_blocks blocks taken node.chain.app.value.app node.chain.versions.0 node.chain.versions.1.0 node.ids node.chain.blocks → Folds all_blocks blocks result }
+    ensures fault { result.fault ≡ fault }
+{
+    Folded { node, taken, fault }
+}
+
+// A node of an application that was given blocks which end at a fault, all of them.
+fn fold_list(
+    alloc: Global,
+    app: &Arc<Checked>,
+    blocks: List<Block>,
+    fault: Option<ChainFault>,
+) -> Result<Folded, NoMemory>
+    requires numbered { NumberedFrom 1 blocks }
+    ensures app { IfOk result (λ folded. app_of folded ≡ app.now.value.app) }
+    ensures folds { IfOk result (λ folded. Folds all_blocks blocks folded) }
+    ensures fault { IfOk result (λ folded. folded.fault ≡ fault) }
+{
+    let mut node = PlainNode::new(alloc, app)?;
+    let mut taken: u64 = 0;
+    take_blocks(&mut node, &mut taken, ALL_BLOCKS, blocks)?;
+    Ok(end_fold(node, taken, fault))
+}
+
+/// A node of an application that was given the blocks which were read of a file, all of them. Each is let go once it was run.
+pub fn fold_read(alloc: Global, app: Checked, read: Fed) -> Result<Folded, NoMemory>
+    requires numbered { NumberedFrom 1 read.blocks }
+    ensures app { IfOk result (λ folded. app_of folded ≡ app.app) }
+    ensures folds { IfOk result (λ folded. Folds all_blocks read.blocks folded) }
+    ensures fault { IfOk result (λ folded. folded.fault ≡ read.fault) }
+{
+    let Fed { blocks, fault } = read;
+    let Ok(app) = Arc::new(alloc, app) else {
+        drop(blocks);
+        return Err(NoMemory);
+    };
+    let folded = fold_list(alloc, &app, blocks, fault);
+    drop(app);
+    folded
 }

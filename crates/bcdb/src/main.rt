@@ -16,6 +16,7 @@ pub mod folding;
 pub mod given;
 pub mod intake;
 pub mod loading;
+pub mod loops;
 pub mod node_arrivals;
 pub mod ordering;
 pub mod peers;

@@ -16,8 +16,9 @@ ghost use Rattle.proc_syntax.specs.declared.call.Block.{Block as BlockText};
 ghost use Rattle.proc_syntax.specs.declared.call.Tx.{Tx as TxText};
 
 use crate::fault::FilesFault;
-use crate::folding::{ALL_BLOCKS, Folded};
+use crate::folding::{ALL_BLOCKS, Folded, fold_read};
 use crate::given::{BadSource, Given, fold_given, read_given};
+use crate::loops::call_loops;
 use crate::reply::{Reply, refuse_app, refuse_arrivals, refuse_schedule, report_nodes};
 use crate::sources::Sources;
 use chain_file::Fed;
@@ -26,7 +27,7 @@ use edge_traits::Shelf;
 use node_model::NodeResult;
 use plain_node::PlainNode;
 use proc_check::Checked;
-use proc_syntax::Block;
+use proc_syntax::{Block, Tx};
 use rel_base::{List, NoMemory};
 use report_text::Look;
 use std::alloc::Global;
@@ -54,7 +55,9 @@ fn close_node(
     ensures { IfOk result (λ nodes. (blocks : List BlockText) → HoldsFirst all_blocks blocks taken node.chain.app.value.app node.chain.versions.0 node.chain.versions.1.0 node.ids node.chain.blocks
         → nodes ≡ node_result node.chain.app.value.app blocks ∷ []) }
 {
-    let result = node.close()?;
+    let (result, versions) = node.close()?;
+    // The process ends with this reply, and the system takes the memory of the store back at once.
+    versions.leave();
     let mut nodes = List::new(alloc);
     nodes.push(result)?;
     Ok(nodes)
@@ -198,7 +201,77 @@ fn run_side_by_side<R: Threads + Wait + Sync, G: Gate>(
     }
 }
 
-// The reply to what the files came to of nodes that run side by side.
+// Whether something arrives at one of these nodes.
+fn something_arrives(arrivals: &[List<Tx>]) -> bool {
+    for txs in arrivals {
+        if !txs.is_empty() {
+            return true;
+        }
+    }
+    false
+}
+
+// Whether executors may gain on what was read: they run what arrives before its block, and calls that take longer than to be handed over.
+// It is a guess of what is faster, of which nothing is promised: both ways come to the same reply.
+fn may_gain(given: &Given) -> bool {
+    something_arrives(given.arrivals.as_slice())
+        || call_loops(
+            given.app.app().procs.as_slice(),
+            given.read.blocks.as_slice(),
+        )
+}
+
+// Whether one node may as well run by itself: its journal is not asked for, and executors would gain nothing.
+fn gains_nothing(look: &Look, given: &Given) -> bool
+    ensures one { result ≡ true → length given.now.arrivals ≡ 1 }
+    ensures silent { result ≡ true → look.now.trace ≡ false }
+{
+    given.arrivals.len() == 1 && !look.trace && !may_gain(given)
+}
+
+// The reply that reports one node, which runs by itself over the blocks that were read.
+#[tactic(auto, using(crate::proofs::Clustered::reply_read))]
+fn run_by_itself(alloc: Global, look: &Look, given: Given) -> Result<Reply, NoMemory>
+    requires one { length given.arrivals ≡ 1 }
+    requires silent { look.now.trace ≡ false }
+    requires numbered { NumberedFrom 1 given.read.blocks }
+    ensures replies { IfOk result (RepliesNodes look.now (length given.arrivals) given.app.app given.read.blocks given.arrivals given.read.fault) }
+    ensures kind { IfOk result (λ reply. is_answer reply.status ≡ true) }
+{
+    let Given {
+        app,
+        arrivals,
+        schedule,
+        read,
+    } = given;
+    drop(arrivals);
+    drop(schedule);
+    let folded = fold_read(alloc, app, read)?;
+    report_folded(alloc, look, folded)
+}
+
+// The reply that reports nodes to which the files were given. Executors start only where they may gain.
+fn run_given<R: Threads + Wait + Sync, G: Gate>(
+    rt: &R,
+    alloc: Global,
+    look: &Look,
+    executors: u32,
+    given: Given,
+    gate: &G,
+) -> Result<Reply, NoMemory>
+    requires nodes { (1 ≤ length given.arrivals) × (length given.arrivals ≤ most_nodes) }
+    requires executors { executors ≤ most_executors }
+    requires numbered { NumberedFrom 1 given.read.blocks }
+    ensures replies { IfOk result (RepliesNodes look.now (length given.arrivals) given.app.app given.read.blocks given.arrivals given.read.fault) }
+    ensures kind { IfOk result (λ reply. is_answer reply.status ≡ true) }
+{
+    if gains_nothing(look, &given) {
+        return run_by_itself(alloc, look, given);
+    }
+    run_side_by_side(rt, alloc, look, executors, given, gate)
+}
+
+// The reply to what the files came to of nodes.
 #[tactic(auto, using(crate::proofs::Clustered::replies_run, crate::proofs::Clustered::replies_app, crate::proofs::Clustered::replies_arrivals))]
 fn answer_given<R: Threads + Wait + Sync, G: Gate>(
     rt: &R,
@@ -218,7 +291,7 @@ fn answer_given<R: Threads + Wait + Sync, G: Gate>(
     ensures kind { IfOk result (λ reply. is_answer reply.status ≡ true) }
 {
     match read {
-        Ok(given) => run_side_by_side(rt, alloc, look, executors, given, gate),
+        Ok(given) => run_given(rt, alloc, look, executors, given, gate),
         Err(BadSource::App(refusal)) => refuse_app(alloc, refusal),
         Err(BadSource::Arrivals(bad)) => refuse_arrivals(alloc, bad),
         Err(BadSource::Schedule(line)) => refuse_schedule(alloc, line),

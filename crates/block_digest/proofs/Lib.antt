@@ -6,3 +6,4 @@ pub mod Rising
 pub mod Blocks
 pub mod Whole
 pub mod Written
+pub mod CommittedWrites

@@ -4,3 +4,4 @@ pub mod Joined
 pub mod Readings
 pub mod Decoding
 pub mod Laws
+pub mod Lent

@@ -4,13 +4,15 @@
 pub mod digest;
 mod items;
 pub mod laws;
+pub mod lent;
 pub mod positions;
 pub mod read_block;
 pub mod read_outcome;
 pub mod write_block;
 pub mod write_outcome;
 
-pub use digest::digest_of;
+pub use digest::{digest_of, digest_of_lent};
+pub use lent::{LentResult, count_writes};
 pub use positions::MOST_OUTCOMES;
 pub use read_block::decode;
 pub use write_block::encode;

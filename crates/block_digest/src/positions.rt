@@ -105,11 +105,11 @@ fn push_positions(out: &mut Vec<u8>, order: &[u32]) -> Result<(), NoMemory>
     Ok(())
 }
 
-/// Writes positions at the end, after their count.
-pub fn push_order(out: &mut Vec<u8>, order: &List<u32>) -> Result<(), NoMemory>
+/// Writes positions at the end, after their count. There are fewer than 2^32.
+pub fn push_order(out: &mut Vec<u8>, order: &[u32]) -> Result<(), NoMemory>
     requires { length order.now < 2 ^ 32 }
     ensures { OnOk result (out.new.items ≡ out.old.items ++ counted small_code small_code order.now) }
 {
     put_u32(out, order.len() as u32)?;
-    push_positions(out, order.as_slice())
+    push_positions(out, order)
 }

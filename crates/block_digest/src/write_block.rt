@@ -37,14 +37,14 @@ fn push_all_told(out: &mut Vec<u8>, outcomes: &[Told]) -> Result<(), NoMemory>
     Ok(())
 }
 
-/// Writes transactions at the end, after their count.
-fn push_outcomes(out: &mut Vec<u8>, outcomes: &List<Told>) -> Result<(), NoMemory>
+/// Writes transactions at the end, after their count. There are fewer than 2^32, and each key that one names has at most 32 values.
+pub fn push_outcomes(out: &mut Vec<u8>, outcomes: &[Told]) -> Result<(), NoMemory>
     requires few { length outcomes.now < 2 ^ 32 }
     requires keys { All (λ told. HasFewKey told.outcome) outcomes.now }
     ensures { OnOk result (out.new.items ≡ out.old.items ++ counted small_code told_code outcomes.now) }
 {
     put_u32(out, outcomes.len() as u32)?;
-    push_all_told(out, outcomes.as_slice())
+    push_all_told(out, outcomes)
 }
 
 /// Writes writes at the end.
@@ -75,8 +75,8 @@ fn push_time(out: &mut Vec<u8>, time: i64) -> Result<(), NoMemory>
     put_u64(out, time.cast_unsigned())
 }
 
-/// Writes the number and the time of a block at the end.
-fn push_head(out: &mut Vec<u8>, number: u64, time: i64) -> Result<(), NoMemory>
+/// Writes the number and the time of a block at the end, in 8 bytes each.
+pub fn push_head(out: &mut Vec<u8>, number: u64, time: i64) -> Result<(), NoMemory>
     ensures { OnOk result (out.new.items ≡ out.old.items ++ (be_code w64 number ++ int_code time)) }
 {
     put_u64(out, number)?;
@@ -89,8 +89,8 @@ fn push_block(out: &mut Vec<u8>, block: &BlockResult) -> Result<(), NoMemory>
     ensures { OnOk result (out.new.items ≡ out.old.items ++ block_code block.now) }
 {
     push_head(out, block.number, block.time)?;
-    push_outcomes(out, &block.outcomes)?;
-    push_order(out, &block.order)?;
+    push_outcomes(out, block.outcomes.as_slice())?;
+    push_order(out, block.order.as_slice())?;
     push_writes(out, &block.writes)
 }
 

@@ -83,7 +83,7 @@ fn push_danger_details(out: &mut Vec<u8>, danger: &Danger) -> Result<(), NoMemor
     match danger {
         Danger::One { z, x } => push_positions(out, *z, *x),
         Danger::Two { y, z } => push_positions(out, *y, *z),
-        Danger::Cycle { path } => push_order(out, path),
+        Danger::Cycle { path } => push_order(out, path.as_slice()),
     }
 }
 

@@ -1,11 +1,12 @@
 -- The writes of a block are applied, and the chain has one block more.
-use Rattle.std.proofs.Common.{All, List, [], ap, append_assoc, arith, inl, inr, length, map, refl, subst, sym, ◌++◌, ◌*◌, ◌+◌, ◌<◌, ◌^◌, ◌∙◌, ◌≡◌, ◌≤◌, ◌∷◌, ℕ}
-use Rattle.std.proofs.lemmas.List.Elements.{All-append, All-head, All-map, All-nil, All-same, All-tail, All-weaker}
-use Rattle.std.proofs.lemmas.List.{length-append, length-map}
+use Rattle.std.proofs.Common.{All, List, [], ap, append_assoc, arith, inl, inr, length, refl, subst, sym, ◌++◌, ◌+◌, ◌<◌, ◌∙◌, ◌≡◌, ◌≤◌, ◌∷◌, ℕ}
+use Rattle.std.proofs.lemmas.List.Elements.{All-append, All-map, All-nil, All-same, All-weaker}
+use Rattle.std.proofs.lemmas.List.{length-append}
 use Rattle.block_work.proofs.Grown.{results_grown, stamps_placed}
 use Rattle.block_work.specs.Block.{StandInOrder, sealed_of}
 use Rattle.block_work.specs.Chain.{ResultsFrom, HoldsChain, StoreFits, IsUpTo, stamps}
-use Rattle.block_work.specs.Results.{last_digest, placed_at}
+use Rattle.block_digest.proofs.CommittedWrites.{placed_length}
+use Rattle.block_work.specs.Results.{last_digest}
 use Rattle.block_work.specs.declared.block.BlockInWork.{BlockInWork}
 use Rattle.node_model.specs.Fold.{block_result}
 use Rattle.node_model.specs.History.{SealedBlock, history_of, placed_of}
@@ -47,30 +48,6 @@ pub none_yet : (number : ℕ) (history : List Stamped) → All (λ stamped. stam
 none_yet number history all = All-weaker (λ stamped. stamped.0 < number) (IsUpTo number 0) (λ stamped below. inl below) history all
 
 -- ---- one transaction after another
-
--- a transaction's writes and those of the others are all
-pub placed_length : (done : Committed) (rest : List Committed) → length (placed_of (done ∷ rest)) ≡ length done.writes + length (placed_of rest)
-placed_length done rest =
-    length-append (map (placed_at done.pos) done.writes) (placed_of rest) ∙ ap (λ n. n + length (placed_of rest)) (length-map done.writes (placed_at done.pos))
-
-abbrev HasFew : Committed → Type 0
-HasFew done = length done.writes ≤ 100000
-
-few_placed : (committed : List Committed) → All HasFew committed → length (placed_of committed) ≤ 100000 * length committed
-few_placed [] few = omega arith
-few_placed (done ∷ rest) few =
-    let own = All-head HasFew done rest few in
-    let others = few_placed rest (All-tail HasFew done rest few) in
-    let both = placed_length done rest in
-    omega (arith, own, others, both)
-
--- a count of writes does not overflow
-pub count_fits : (committed left rest : List Committed) (done : Committed) (count : ℕ) → length committed ≤ 1024 → All HasFew committed → left ≡ done ∷ rest
-    → count + length (placed_of left) ≡ length (placed_of committed) → count + length done.writes < 2 ^ 64
-count_fits committed left rest done count short few next is =
-    let most = few_placed committed few in
-    let both : length (placed_of left) ≡ length done.writes + length (placed_of rest) = ap (λ xs. length (placed_of xs)) next ∙ placed_length done rest in
-    omega (arith, short, most, both, is)
 
 -- what the next transaction asks of the store
 pub may_apply : (defs : List TableDef) (number last high spare : ℕ) (history : List Stamped) (done : Committed) (left rest : List Committed)

@@ -4,7 +4,7 @@ use Rattle.std.proofs.lemmas.List.Elements.{All-head, All-tail}
 use Rattle.std.proofs.lemmas.List.{length-map}
 use Rattle.std.specs.Prelude.{IsSome, IsSomeAnd, slice_get}
 use Rattle.block_digest.specs.Codable.{IsFewWrite}
-use Rattle.block_work.specs.Results.{placed_at}
+use Rattle.block_digest.specs.Lent.{placed_at}
 use Rattle.canon_code.specs.Writes.{IsFewPart}
 use Rattle.proc_check.specs.Sizes.{IsSmall}
 use Rattle.rel_base.specs.Access.{PartFits, WriteFits}

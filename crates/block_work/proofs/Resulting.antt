@@ -4,6 +4,7 @@ use Rattle.std.proofs.lemmas.List.Elements.{All-append, All-cons, All-head, All-
 use Rattle.std.proofs.lemmas.List.{length-append, length-map}
 use Rattle.std.specs.Prelude.{Bool, slice_get, ℤ}
 use Rattle.block_digest.specs.Codable.{AreCodable, IsFewWrite}
+use Rattle.block_digest.specs.Lent.{placed_at}
 use Rattle.node_model.specs.BlockCode.{digest_of}
 use Rattle.node_model.specs.Fold.{block_result, digest_after, no_digest}
 use Rattle.node_model.specs.History.{SealedBlock}
@@ -16,7 +17,7 @@ use Rattle.node_model.specs.Edges.{StandByPosition}
 use Rattle.block_work.proofs.Bounds.{fitting_few}
 use Rattle.block_work.proofs.Consistent.{fewer, rising}
 use Rattle.block_work.specs.Block.{IsConsistent, KeepsEdges, StandInOrder}
-use Rattle.block_work.specs.Results.{HasFewWrites, IsWithinLimits, placed_at}
+use Rattle.block_work.specs.Results.{HasFewWrites, IsWithinLimits}
 use Rattle.block_work.specs.declared.block.BlockInWork.{BlockInWork}
 use Rattle.proc_check.specs.Sizes.{IsSmall}
 use Rattle.rel_base.specs.Among.{WriteFitsIn}
@@ -87,20 +88,30 @@ rows_placed (done ∷ rest) few =
     All-append IsFewWrite (map (placed_at done.pos) done.writes) (placed_of rest)
     (All-map IsFewWrite (placed_at done.pos) done.writes (All-head HasFewWrites done rest few).1) (rows_placed rest (All-tail HasFewWrites done rest few))
 
-pub codable : (outcomes : List Told) (committed : List Committed) (order : List ℕ) (writes : List Placed) → IsWithinLimits outcomes committed → length order < 2 ^ 32 → writes ≡ placed_of committed
-    → AreCodable outcomes order writes
-codable outcomes committed order writes is few_order same =
+-- they are few enough to be counted in a code
+pub few_written : (outcomes : List Told) (committed : List Committed) → IsWithinLimits outcomes committed → length (placed_of committed) < 2 ^ 32
+few_written outcomes committed is =
     let few = few_placed committed is.writes in
-    let count : length writes ≡ length (placed_of committed) = ap length same in
     let most = is.few_committed in
+    omega (arith, few, most)
+
+pub codable : (outcomes : List Told) (committed : List Committed) (order : List ℕ) → IsWithinLimits outcomes committed → length order < 2 ^ 32 → AreCodable outcomes order (placed_of committed)
+codable outcomes committed order is few_order =
     let all = is.few_outcomes in
     record {
       few_outcomes = omega (arith, all);
       few_positions = few_order;
-      few_writes = omega (arith, few, count, most);
+      few_writes = few_written outcomes committed is;
       keys = is.keys;
-      rows = subst (All IsFewWrite) (sym same) (rows_placed committed is.writes);
+      rows = rows_placed committed is.writes;
     }
+
+-- parts that are lent have a code where those that they are lent of have one
+pub lent_codable : (outcomes lent : List Told) (list lent_list : List ℕ) (committed lent_committed : List Committed) → lent ≡ outcomes → lent_list ≡ list → lent_committed ≡ committed
+    → AreCodable outcomes list (placed_of committed) → AreCodable lent lent_list (placed_of lent_committed)
+lent_codable outcomes lent list lent_list committed lent_committed o l d are =
+    subst (λ all. AreCodable all lent_list (placed_of lent_committed)) (sym o)
+    (subst (λ positions. AreCodable outcomes positions (placed_of lent_committed)) (sym l) (subst (λ done. AreCodable outcomes list (placed_of done)) (sym d) are))
 
 -- a result by its parts
 abbrev pub with_parts : ℕ → ℤ → List Told → List ℕ → List Placed → List ℕ → BlockResult
@@ -112,14 +123,22 @@ pub order_kept : (tables : List TableDef) (committed : List Committed) (set : Ed
 order_kept tables committed set list rise is keeps =
     is ∙ (λ i. order (λ from to. keeps.edges from to i) (keeps.positions i)) ∙ order_by_position tables committed rise
 
+-- a result whose parts are lent is that of the parts
+pub same_parts : (number : ℕ) (time lent_time : ℤ) (outcomes lent : List Told) (list lent_list : List ℕ) (committed lent_committed : List Committed)
+    → lent_time ≡ time → lent ≡ outcomes → lent_list ≡ list → lent_committed ≡ committed
+    → with_parts number lent_time lent lent_list (placed_of lent_committed) no_digest ≡ with_parts number time outcomes list (placed_of committed) no_digest
+same_parts number time lent_time outcomes lent list lent_list committed lent_committed t o l d = λ i. with_parts number (t i) (o i) (l i) (placed_of (d i)) no_digest
+
 -- the result that is made of a block is that of the definition
-pub result_is : (tables : List TableDef) (previous : List ℕ) (block : SealedBlock) (time : ℤ) (outcomes : List Told) (edges : EdgeSet) (list : List ℕ) (writes : List Placed)
-    → time ≡ block.time → outcomes ≡ block.outcomes → StandByPosition block.committed → KeepsEdges tables block.committed edges → list ≡ order (has_edge edges) (positions_of edges) → writes ≡ placed_of block.committed
-    → with_parts block.number time outcomes list writes (digest_of previous (with_parts block.number time outcomes list writes no_digest))
+pub result_is : (tables : List TableDef) (previous : List ℕ) (block : SealedBlock) (time : ℤ) (outcomes : List Told) (edges : EdgeSet) (list digest : List ℕ)
+    → time ≡ block.time → outcomes ≡ block.outcomes → StandByPosition block.committed → KeepsEdges tables block.committed edges → list ≡ order (has_edge edges) (positions_of edges)
+    → digest ≡ digest_of previous (with_parts block.number block.time block.outcomes list (placed_of block.committed) no_digest)
+    → with_parts block.number time outcomes list (placed_of block.committed) digest
     ≡ block_result tables previous block
-result_is tables previous block time outcomes edges list writes same copied rise keeps listed placed =
+result_is tables previous block time outcomes edges list digest same copied rise keeps listed told =
     let ordered = order_kept tables block.committed edges list rise listed keeps in
-    λ i. with_parts block.number (same i) (copied i) (ordered i) (placed i) (digest_of previous (with_parts block.number (same i) (copied i) (ordered i) (placed i) no_digest))
+    let whole = told ∙ ap (λ positions. digest_of previous (with_parts block.number block.time block.outcomes positions (placed_of block.committed) no_digest)) ordered in
+    λ i. with_parts block.number (same i) (copied i) (ordered i) (placed_of block.committed) (whole i)
 
 -- ---- a block in work
 

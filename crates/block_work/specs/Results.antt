@@ -1,18 +1,13 @@
 -- The result of a block that was decided.
 use Rattle.block_digest.specs.Codable.{HasFewKey, IsFewWrite}
+use Rattle.block_digest.specs.Lent.{placed_at}
 use Rattle.node_model.specs.Fold.{digest_after, no_digest}
 use Rattle.node_model.specs.declared.result.BlockResult.{BlockResult}
 use Rattle.node_model.specs.declared.result.Committed.{Committed}
 use Rattle.node_model.specs.declared.result.Told.{Told}
 use Rattle.node_model.specs.Edges.{StandByPosition}
-use Rattle.rel_base.specs.declared.access.Placed.{Placed}
-use Rattle.rel_base.specs.declared.access.Write.{Write}
 use Rattle.std.specs.Prelude.{All, List, length, ◌≤◌, ℕ}
 use Rattle.proc_syntax.specs.Limits.{most_steps, most_transactions}
-
--- a write at a position
-abbrev pub placed_at : ℕ → Write → Placed
-placed_at pos write = record { pos = pos; write = write }
 
 -- the digest of the last of some blocks, or the one before the first block
 abbrev pub last_digest : List BlockResult → List ℕ

@@ -12,14 +12,15 @@ ghost use Rattle.proc_check.specs.Sizes.{IsSmall};
 ghost use Rattle.proc_syntax.specs.Declaring.{tables_of};
 ghost use Rattle.rel_base.specs.Tables.{writes_between};
 ghost use Rattle.rel_base.specs.declared.schema.TableDef.{TableDef};
-ghost use Rattle.proc_syntax.specs.Limits.{most_steps, most_transactions};
+ghost use Rattle.proc_syntax.specs.Limits.{most_transactions};
 
 use crate::block::BlockInWork;
 use crate::causes::{find_cause, judge_edges};
 use crate::listing::list_tables;
 use crate::result::{last_digest, result_of};
 use crate::verdict::Verdict;
-use node_model::{BlockResult, Committed, Entry, NodeResult};
+use block_digest::count_writes;
+use node_model::{Committed, Entry, KeptResult, NodeResult};
 use proc_check::Checked;
 use proc_syntax::run::Ran;
 use rel_base::{List, NoMemory, Place};
@@ -28,18 +29,18 @@ use std::alloc::Global;
 use std::sync::Arc;
 
 // The time of the block at a place; 0 where there is none.
-fn time_at(blocks: &[BlockResult], place: usize) -> i64
+fn time_at(blocks: &[KeptResult], place: usize) -> i64
     ensures { result ≡ time_or_none (slice_get blocks.now place) }
 {
     match blocks.get(place) {
         None => 0,
-        Some(block) => block.time,
+        Some(block) => block.time(),
     }
 }
 
 // The time of the block of a height, of blocks that are numbered from 1; 0 where there is none.
 #[tactic(auto, using(crate::proofs::Times::time_before, crate::proofs::Times::time_of_height))]
-fn time_in(blocks: &[BlockResult], height: u64) -> i64
+fn time_in(blocks: &[KeptResult], height: u64) -> i64
     requires { ResultsFrom 1 blocks.now }
     ensures { result ≡ time_of_result height blocks.now }
 {
@@ -49,24 +50,11 @@ fn time_in(blocks: &[BlockResult], height: u64) -> i64
     time_at(blocks, height as usize - 1)
 }
 
-// How many writes committed transactions made.
-fn count_writes(committed: &[Committed]) -> usize
-    requires few { length committed.now ≤ most_transactions }
-    requires few_writes { All (λ done. length done.writes ≤ most_steps) committed.now }
-    ensures { result ≡ length (placed_of committed.now) }
-{
-    let mut count = 0;
-    for done in committed {
-        count += done.writes.len();
-    }
-    count
-}
-
 // Takes the room for the writes of a block, and adds its result. Where memory is wanting, no more than the room has changed.
 fn add_result<V: Versions>(
     alloc: Global,
     versions: &mut V,
-    blocks: &mut List<BlockResult>,
+    blocks: &mut List<KeptResult>,
     work: &BlockInWork,
 ) -> Result<(), NoMemory>
     requires small { All IsSmall (V.tables versions.old) }
@@ -117,7 +105,7 @@ fn apply_all<V: Versions>(versions: &mut V, number: u64, committed: Vec<Committe
 pub struct Chain<V: Versions> {
     pub app: Arc<Checked>,
     pub versions: V,
-    pub blocks: List<BlockResult>,
+    pub blocks: List<KeptResult>,
     alloc: Global,
 }
 
@@ -199,11 +187,11 @@ impl<V: Versions> Chain<V> {
         Ok(())
     }
 
-    /// The results of the blocks, the tables after the last of them, and a journal.
-    pub fn close(self, journal: List<Entry>) -> Result<NodeResult, NoMemory>
+    /// The results of the blocks, the tables after the last of them, and a journal; beside them the store, of which nothing is promised.
+    pub fn close(self, journal: List<Entry>) -> Result<(NodeResult, V), NoMemory>
         requires store { StoreFits self.app.value.app (V.tables self.versions) (V.history self.versions) self.blocks }
         ensures { IfOk result (λ made. (chain : List SealedBlock) → HoldsChain (tables_of self.app.value.app) chain (V.history self.versions) self.blocks
-            → made ≡ record { blocks = results_of (tables_of self.app.value.app) chain; tables = all_rows (snapshot (length chain) chain) 0 (tables_of self.app.value.app); journal = journal }) }
+            → made.0 ≡ record { blocks = results_of (tables_of self.app.value.app) chain; tables = all_rows (snapshot (length chain) chain) 0 (tables_of self.app.value.app); journal = journal }) }
     {
         let tables = list_tables(
             self.alloc,
@@ -211,10 +199,11 @@ impl<V: Versions> Chain<V> {
             self.app.tables().as_slice(),
             self.height(),
         )?;
-        Ok(NodeResult {
+        let result = NodeResult {
             blocks: self.blocks,
             tables,
             journal,
-        })
+        };
+        Ok((result, self.versions))
     }
 }

@@ -16,4 +16,4 @@ pub use rel_base::ReadFault as CodeFault;
 pub use row::{MOST_VALUES, get_row, put_row, read_key, read_row};
 pub use short::{put_blob, put_text, read_blob, read_text};
 pub use value::{get_value, put_value, read_value};
-pub use write::{get_write, put_write, read_write};
+pub use write::{get_write, put_write, put_write_at, read_write};

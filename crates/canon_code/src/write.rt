@@ -61,29 +61,48 @@ fn push_change(out: &mut Vec<u8>, before: &Option<Row>, after: &Option<Row>) -> 
 }
 
 /// Writes the position, the table and the key of a write at the end, or a part of that.
-fn push_head(out: &mut Vec<u8>, placed: &Placed) -> Result<(), NoMemory>
-    requires { length placed.now.write.key ≤ 32 }
-    ensures ok { OnOk result (out.new.items ≡ out.old.items ++ head_code placed.now) }
+fn push_head(out: &mut Vec<u8>, pos: u32, write: &Write) -> Result<(), NoMemory>
+    requires { length write.now.key ≤ 32 }
+    ensures ok { OnOk result (out.new.items ≡ out.old.items ++ head_code (record { pos = pos; write = write.now })) }
     ensures front { take (length out.old.items) out.new.items ≡ out.old.items }
-    ensures sound { OnOk result (HasHeadCode placed.now) }
+    ensures sound { OnOk result (HasHeadCode (record { pos = pos; write = write.now })) }
 {
-    put_u32(out, placed.pos)?;
-    put_u32(out, placed.write.table)?;
-    put_row(out, placed.write.key.as_slice())
+    put_u32(out, pos)?;
+    put_u32(out, write.table)?;
+    put_row(out, write.key.as_slice())
 }
 
 /// Writes a write at the end, or a part of it.
 #[tactic(auto, using(rel_base::proofs::Bytes::front_front))]
-fn push_write(out: &mut Vec<u8>, placed: &Placed) -> Result<(), NoMemory>
-    requires key { length placed.now.write.key ≤ 32 }
-    requires before { IsFewPart placed.now.write.before }
-    requires after { IsFewPart placed.now.write.after }
-    ensures ok { OnOk result (out.new.items ≡ out.old.items ++ write_code placed.now) }
+fn push_write(out: &mut Vec<u8>, pos: u32, write: &Write) -> Result<(), NoMemory>
+    requires key { length write.now.key ≤ 32 }
+    requires before { IsFewPart write.now.before }
+    requires after { IsFewPart write.now.after }
+    ensures ok { OnOk result (out.new.items ≡ out.old.items ++ write_code (record { pos = pos; write = write.now })) }
     ensures front { take (length out.old.items) out.new.items ≡ out.old.items }
-    ensures sound { OnOk result (IsSome placed.now.write.before ⊎ IsSome placed.now.write.after → HasWriteCode placed.now) }
+    ensures sound { OnOk result (IsSome write.now.before ⊎ IsSome write.now.after → HasWriteCode (record { pos = pos; write = write.now })) }
 {
-    push_head(out, placed)?;
-    push_change(out, &placed.write.before, &placed.write.after)
+    push_head(out, pos, write)?;
+    push_change(out, &write.before, &write.after)
+}
+
+/// Writes at the end the code of a write of the transaction at a position, or nothing where memory runs out. Its rows and its key
+/// have at most 32 values.
+pub fn put_write_at(out: &mut Vec<u8>, pos: u32, write: &Write) -> Result<(), NoMemory>
+    requires key { length write.now.key ≤ 32 }
+    requires before { IsFewPart write.now.before }
+    requires after { IsFewPart write.now.after }
+    ensures ok { OnOk result (out.new.items ≡ out.old.items ++ write_code (record { pos = pos; write = write.now })) }
+    ensures err { OnErr result (out.new.items ≡ out.old.items) }
+    // What a write is, where it has a row: so what is written is read back.
+    ensures sound { OnOk result (IsSome write.now.before ⊎ IsSome write.now.after → HasWriteCode (record { pos = pos; write = write.now })) }
+{
+    let start = out.len();
+    let pushed = push_write(out, pos, write);
+    if pushed.is_err() {
+        out.truncate(start);
+    }
+    pushed
 }
 
 /// Writes the code of a write at the end, or nothing where memory runs out. Its rows and its key have at most 32 values.
@@ -96,12 +115,7 @@ pub fn put_write(out: &mut Vec<u8>, placed: &Placed) -> Result<(), NoMemory>
     // What a write is, where it has a row: so what is written is read back.
     ensures sound { OnOk result (IsSome placed.now.write.before ⊎ IsSome placed.now.write.after → HasWriteCode placed.now) }
 {
-    let start = out.len();
-    let pushed = push_write(out, placed);
-    if pushed.is_err() {
-        out.truncate(start);
-    }
-    pushed
+    put_write_at(out, placed.pos, &placed.write)
 }
 
 /// Reads the row after an insert.

@@ -15,8 +15,9 @@ use Rattle.node_core.specs.contracts.node.NodeCore as NodeCore
 use Rattle.node_core.proofs.delivered_block.IndexedBlock.TheSendSync as indexed
 use Rattle.node_core.specs.contracts.delivered_block.DeliveredBlock as DeliveredBlock
 use Rattle.node_model.proofs.journal.Entry.TheSendSync as entry
-use Rattle.node_model.proofs.result.BlockResult.TheSendSync as result
+use Rattle.node_model.proofs.result.Told.TheSendSync as told
 use Rattle.node_model.specs.contracts.journal.Entry as Entry
+use Rattle.node_model.specs.contracts.result.KeptResult as KeptResult
 use Rattle.node_shared.specs.contracts.held_node.HeldNode as HeldNode
 use Rattle.node_shared.specs.contracts.held_node.HeldNodeStoried.TheImpl as storied
 use Rattle.node_shared.specs.contracts.shared.SharedNode as SharedNode
@@ -55,9 +56,16 @@ delivered_field_send = search (done_send, indexed.the_send, crosses, sendable) d
 delivered_send : IsSend DeliveredBlock.the_row
 delivered_send = search (delivered_field_send, sendable) depth 60 fits 20000
 
+-- the committed transactions of a result are seen by proofs alone
+kept_field_send : IsSend KeptResult.the_field.row
+kept_field_send = search (told.the_send, list.the_send, crosses, sendable) depth 60 fits 20000
+
+kept_send : IsSend KeptResult.the_row
+kept_send = search (kept_field_send, sendable) depth 60 fits 20000
+
 module _ (V : RattleType) where
   chain_send : IsSend V → IsSend (Chain.the_field V).row
-  chain_send v = search (list.the_send, checked_send, checked_sync, result.the_send, crosses, sendable) depth 60 fits 20000
+  chain_send v = search (list.the_send, checked_send, checked_sync, kept_send, crosses, sendable) depth 60 fits 20000
 
 module _ (V : RattleType) (g : Ghosts V.Denot) where
   core_field_send : IsSend V → IsSend (NodeCore.the_field V g).row

@@ -15,7 +15,7 @@ use crate::jobs::Jobs;
 use crate::node::NodeCore;
 use crate::room::make_room;
 use block_work::{BlockInWork, IdIndex, early_cause};
-use node_model::{BlockResult, Entry, Event};
+use node_model::{Entry, Event, KeptResult};
 use proc_check::Checked;
 use proc_syntax::{Block, Tx};
 use rel_base::{Id, NoMemory, Twin};
@@ -25,7 +25,7 @@ use std::collections::BTreeSet;
 use std::sync::Arc;
 
 // The number of the block after these.
-fn next_number(blocks: &[BlockResult]) -> u64
+fn next_number(blocks: &[KeptResult]) -> u64
     ensures { result ≡ length blocks.now + 1 }
 {
     blocks.len() as u64 + 1

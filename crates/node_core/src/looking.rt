@@ -40,6 +40,7 @@ impl<V: Versions> NodeCore<V> {
         ensures replays { EachInOrder self.app (sealed_blocks self) (results_in self) }
     {
         let journal = List::from_vec(self.journal);
-        self.chain.close(journal)
+        let (result, _) = self.chain.close(journal)?;
+        Ok(result)
     }
 }

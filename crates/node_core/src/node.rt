@@ -3,7 +3,7 @@
 use crate::delivered_block::DeliveredBlock;
 use crate::jobs::Jobs;
 use block_work::{Chain, IdIndex};
-use node_model::{BlockResult, Entry};
+use node_model::{Entry, KeptResult};
 use proc_check::Checked;
 use proc_syntax::App;
 use rel_base::{List, NoMemory, Storied};
@@ -106,7 +106,7 @@ impl<V: Versions> NodeCore<V> {
     }
 
     /// The results of the sealed blocks.
-    pub fn blocks(&self) -> &List<BlockResult>
+    pub fn blocks(&self) -> &List<KeptResult>
         ensures { result.now ≡ results_in self.now }
     {
         &self.chain.blocks

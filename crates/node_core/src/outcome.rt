@@ -7,7 +7,7 @@ ghost use Rattle.node_core.specs.Finding.{item_at, outcome_by, told_at};
 use crate::delivered_block::DeliveredBlock;
 use crate::node::NodeCore;
 use block_work::IdIndex;
-use node_model::{BlockResult, Outcome, Told};
+use node_model::{KeptResult, Outcome, Told};
 use rel_base::{Id, Place};
 use row_sets::Versions;
 
@@ -23,14 +23,14 @@ fn item_at<T>(items: &[T], position: u64) -> Option<&T>
 
 // What is reported at a place of a sealed block, or else of the block in work.
 fn told_at<'a>(
-    blocks: &'a [BlockResult],
+    blocks: &'a [KeptResult],
     work: &'a Option<DeliveredBlock>,
     place: Place,
 ) -> Option<&'a Told>
     ensures { option_copied result ≡ told_at blocks.now work.now place }
 {
     match item_at(blocks, place.block) {
-        Some(block) => item_at(block.outcomes.as_slice(), place.pos as u64),
+        Some(block) => item_at(block.outcomes().as_slice(), place.pos as u64),
         None => match work {
             None => None,
             Some(working) => item_at(working.done.outcomes.as_slice(), place.pos as u64),
@@ -41,7 +41,7 @@ fn told_at<'a>(
 // The outcome at the place that the index has for an id.
 fn find_outcome<'a>(
     ids: &IdIndex,
-    blocks: &'a [BlockResult],
+    blocks: &'a [KeptResult],
     work: &'a Option<DeliveredBlock>,
     id: &Id,
 ) -> Option<&'a Outcome>

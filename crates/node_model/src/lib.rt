@@ -12,5 +12,5 @@ pub use danger::Danger;
 pub use journal::{Entry, Event, Pick};
 pub use kind::{OutcomeKind, fault_mark};
 pub use outcome::{Clash, Late, Outcome};
-pub use result::{BlockResult, Committed, NO_DIGEST, NodeResult, TableRows, Told};
+pub use result::{BlockResult, Committed, KeptResult, NO_DIGEST, NodeResult, TableRows, Told};
 pub use version::Version;

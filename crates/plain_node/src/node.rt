@@ -11,7 +11,7 @@ ghost use Rattle.serial_laws.specs.InOrder.{EachInOrder};
 
 use crate::process::add_block;
 use block_work::{Chain, IdIndex};
-use node_model::{BlockResult, NodeResult};
+use node_model::{KeptResult, NodeResult};
 use proc_check::Checked;
 use proc_syntax::Block;
 use rel_base::{List, NoMemory};
@@ -77,7 +77,7 @@ impl<V: Versions> PlainNode<V> {
     }
 
     /// The results of the blocks so far.
-    pub fn blocks(&self) -> &List<BlockResult>
+    pub fn blocks(&self) -> &List<KeptResult>
         ensures { result.now ≡ self.now.chain.blocks }
     {
         &self.chain.blocks
@@ -90,15 +90,15 @@ impl<V: Versions> PlainNode<V> {
         &self.chain.versions
     }
 
-    /// The results of the blocks, and the tables after the last of them.
-    pub fn close(self) -> Result<NodeResult, NoMemory>
+    /// The results of the blocks, and the tables after the last of them; beside them the store, of which nothing is promised.
+    pub fn close(self) -> Result<(NodeResult, V), NoMemory>
         requires store { StoreFits self.chain.app.value.app (V.tables self.chain.versions) (V.history self.chain.versions) self.chain.blocks }
         ensures report { IfOk result (λ made. (blocks : List BlockText) → HoldsFold self.chain.app.value.app blocks (V.history self.chain.versions) self.ids self.chain.blocks
-            → made ≡ node_result self.chain.app.value.app blocks) }
+            → made.0 ≡ node_result self.chain.app.value.app blocks) }
         // The results tell for each block an order in which its committed transactions run again one by one.
         ensures replays { IfOk result (λ made. (blocks : List BlockText) → AreNumbered 1 blocks
             → HoldsFold self.chain.app.value.app blocks (V.history self.chain.versions) self.ids self.chain.blocks
-            → EachInOrder self.chain.app.value.app blocks made.blocks) }
+            → EachInOrder self.chain.app.value.app blocks made.0.blocks) }
     {
         self.chain.close(List::new(self.alloc))
     }

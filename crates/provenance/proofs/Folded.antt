@@ -96,8 +96,11 @@ fold_numbers app chain (block ∷ rest) =
     ∙ ap (λ numbers. numbers ++ map (λ (b : Block). b.number) rest) (map-append (λ (b : SealedBlock). b.number) chain (seal app chain block ∷ []))
     ∙ append_assoc (map (λ (b : SealedBlock). b.number) chain) (block.number ∷ []) (map (λ (b : Block). b.number) rest)
 
+-- the results of blocks have their numbers
+pub results_numbered : (app : App) (blocks : List Block) → map (λ block. block.number) (results_of (tables_of app) (fold app blocks)) ≡ map (λ block. block.number) blocks
+results_numbered app blocks = result_numbers (tables_of app) no_digest (fold app blocks) ∙ fold_numbers app [] blocks
+
 pub folds_told : FoldsAreTold
 folds_told app blocks numbers =
-    let same = result_numbers (tables_of app) no_digest (fold app blocks) ∙ fold_numbers app [] blocks in
-    places_told (results_of (tables_of app) (fold app blocks)) (subst RunFromOne (sym same) numbers)
+    places_told (results_of (tables_of app) (fold app blocks)) (subst RunFromOne (sym (results_numbered app blocks)) numbers)
     (results_placed (tables_of app) no_digest (fold app blocks) (folded_within app [] blocks (All-nil AreWithin)))

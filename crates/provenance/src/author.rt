@@ -5,7 +5,7 @@ ghost use Rattle.std.specs.Option.{option_copied, option_map};
 ghost use Rattle.provenance.specs.Answer.{committed_as, is_place_of};
 ghost use Rattle.provenance.specs.Versions.{id_of, item_of, told_at};
 
-use node_model::{BlockResult, Outcome, Told};
+use node_model::{KeptResult, Outcome, Told};
 use rel_base::{Id, NoMemory, Place, Twin};
 use std::alloc::Global;
 
@@ -20,17 +20,17 @@ fn item_of<T>(items: &[T], number: u64) -> Option<&T>
 }
 
 /// The transaction at a place.
-fn told_at(blocks: &[BlockResult], place: Place) -> Option<&Told>
+fn told_at(blocks: &[KeptResult], place: Place) -> Option<&Told>
     ensures { option_copied result ≡ told_at blocks.now place }
 {
     match item_of(blocks, place.block) {
         None => None,
-        Some(block) => item_of(block.outcomes.as_slice(), u64::from(place.pos)),
+        Some(block) => item_of(block.outcomes().as_slice(), u64::from(place.pos)),
     }
 }
 
 /// The id of the transaction at a place where there is one.
-pub fn id_at(alloc: Global, blocks: &[BlockResult], place: Place) -> Result<Id, NoMemory>
+pub fn id_at(alloc: Global, blocks: &[KeptResult], place: Place) -> Result<Id, NoMemory>
     requires { IsSome (told_at blocks.now place) }
     ensures { IfOk result (λ id. id ≡ id_of (told_at blocks.now place)) }
 {
@@ -43,7 +43,7 @@ pub fn id_at(alloc: Global, blocks: &[BlockResult], place: Place) -> Result<Id, 
 /// The id of the transaction at a place, where there is a place.
 pub fn id_at_some(
     alloc: Global,
-    blocks: &[BlockResult],
+    blocks: &[KeptResult],
     place: Option<Place>,
 ) -> Result<Option<Id>, NoMemory>
     requires { IfSome place (λ place. IsSome (told_at blocks.now place)) }
@@ -63,7 +63,7 @@ fn committed_as(told: &Told, id: &Id) -> bool
 }
 
 /// Whether a place is that of the transaction that committed under an id.
-pub fn is_place_of(blocks: &[BlockResult], id: &Id, place: Option<Place>) -> bool
+pub fn is_place_of(blocks: &[KeptResult], id: &Id, place: Option<Place>) -> bool
     ensures { result ≡ is_place_of blocks.now id.now place }
 {
     let Some(place) = place else {

@@ -6,7 +6,7 @@ ghost use Rattle.provenance.specs.Chosen.{IsRange, IsTold, chosen, is_chosen};
 ghost use Rattle.provenance.specs.Versions.{version_of};
 
 use crate::author::{id_at, id_at_some, is_place_of};
-use node_model::{BlockResult, Version};
+use node_model::{KeptResult, Version};
 use rel_base::{Id, List, NoMemory};
 use row_sets::Lifespan;
 use std::alloc::Global;
@@ -43,14 +43,14 @@ fn was_visible(span: &Lifespan, from: u64, to: u64) -> bool
 }
 
 /// Whether the transaction that committed under an id made a version, or ended it.
-fn is_written_by(blocks: &[BlockResult], id: &Id, span: &Lifespan) -> bool
+fn is_written_by(blocks: &[KeptResult], id: &Id, span: &Lifespan) -> bool
     ensures { result ≡ is_written_by blocks.now id.now span.now.made span.now.ended }
 {
     is_place_of(blocks, id, Some(span.made)) || is_place_of(blocks, id, span.ended)
 }
 
 /// Whether a version is chosen.
-fn is_chosen(blocks: &[BlockResult], choice: Choice<'_>, span: &Lifespan) -> bool
+fn is_chosen(blocks: &[KeptResult], choice: Choice<'_>, span: &Lifespan) -> bool
     requires { IsRange choice }
     ensures { result ≡ is_chosen blocks.now choice.entry span.now.made span.now.ended }
 {
@@ -64,7 +64,7 @@ fn is_chosen(blocks: &[BlockResult], choice: Choice<'_>, span: &Lifespan) -> boo
 /// Adds a version of a table with the ids of the transactions that made and ended it.
 fn push_version(
     alloc: Global,
-    blocks: &[BlockResult],
+    blocks: &[KeptResult],
     table: u32,
     span: Lifespan,
     versions: &mut List<Version>,
@@ -87,7 +87,7 @@ fn push_version(
 /// Adds a version of a table where it is chosen.
 fn push_if_chosen(
     alloc: Global,
-    blocks: &[BlockResult],
+    blocks: &[KeptResult],
     choice: Choice<'_>,
     table: u32,
     span: Lifespan,
@@ -107,7 +107,7 @@ fn push_if_chosen(
 /// Adds those of some versions of a table that are chosen.
 pub fn push_chosen(
     alloc: Global,
-    blocks: &[BlockResult],
+    blocks: &[KeptResult],
     choice: Choice<'_>,
     table: u32,
     spans: List<Lifespan>,

@@ -1,65 +1,54 @@
 //! The keys that a transaction wrote.
 
-ghost use Rattle.std.specs.Prelude.{◌≡◌, ◌∷◌, [], IfOk, OnOk, map};
+ghost use Rattle.std.specs.Prelude.{◌≡◌, ◌∷◌, [], IfOk, OnOk};
 ghost use Rattle.std.specs.List.{filter};
 ghost use Rattle.provenance.specs.Chosen.{is_writer, put_keys};
 ghost use Rattle.provenance.specs.Versions.{history_of};
+ghost use Rattle.row_sets.specs.Versions.{write_of};
 
 use crate::author::is_place_of;
-use node_model::BlockResult;
-use rel_base::{Id, Key, NoMemory, Place, Placed, Twin};
+use node_model::KeptResult;
+use rel_base::{Id, Key, NoMemory, Place, Twin};
+use row_sets::{Versions, WriteRef};
 use std::alloc::Global;
 use std::collections::BTreeSet;
 
-/// Puts the key of a write of a block among keys, where the transaction that committed under an id wrote it.
+/// Puts the key of a write among keys, where the transaction that committed under an id wrote it.
 fn put_key(
     alloc: Global,
-    blocks: &[BlockResult],
+    blocks: &[KeptResult],
     id: &Id,
-    number: u64,
-    placed: &Placed,
+    write: WriteRef<'_>,
     keys: &mut BTreeSet<(u32, Key)>,
 ) -> Result<(), NoMemory>
-    ensures { OnOk result (keys.new.keys ≡ put_keys keys.old.keys (filter (is_writer blocks.now id.now) ((number, placed.now) ∷ []))) }
+    ensures { OnOk result (keys.new.keys ≡ put_keys keys.old.keys (filter (is_writer blocks.now id.now) (write_of write.entry ∷ []))) }
 {
     let place = Place {
-        block: number,
-        pos: placed.pos,
+        block: write.block,
+        pos: write.placed.pos,
     };
     if is_place_of(blocks, id, Some(place)) {
-        let key = placed.write.key.copy(alloc)?;
-        let _ = keys.insert((placed.write.table, key))?;
-    }
-    Ok(())
-}
-
-/// Puts the keys among others that the transaction wrote in a block.
-fn put_block(
-    alloc: Global,
-    blocks: &[BlockResult],
-    id: &Id,
-    block: &BlockResult,
-    keys: &mut BTreeSet<(u32, Key)>,
-) -> Result<(), NoMemory>
-    ensures { OnOk result (keys.new.keys ≡ put_keys keys.old.keys (filter (is_writer blocks.now id.now) (map (λ placed. (block.now.number, placed)) block.now.writes))) }
-{
-    for placed in block.writes.as_slice() {
-        put_key(alloc, blocks, id, block.number, placed, keys)?;
+        let key = write.placed.write.key.copy(alloc)?;
+        let _ = keys.insert((write.placed.write.table, key))?;
     }
     Ok(())
 }
 
 /// The tables and keys that the transaction that committed under an id wrote, in order.
-pub fn keys_by(
+pub fn keys_by<V: Versions>(
     alloc: Global,
-    blocks: &[BlockResult],
+    versions: &V,
+    blocks: &[KeptResult],
     id: &Id,
 ) -> Result<BTreeSet<(u32, Key)>, NoMemory>
+    requires history { V.history versions.now ≡ history_of blocks.now }
     ensures { IfOk result (λ keys. keys.keys ≡ put_keys [] (filter (is_writer blocks.now id.now) (history_of blocks.now))) }
 {
     let mut keys = BTreeSet::new(alloc);
-    for block in blocks {
-        put_block(alloc, blocks, id, block, &mut keys)?;
+    for number in 0..versions.count() {
+        if let Some(write) = versions.write_at(number) {
+            put_key(alloc, blocks, id, write, &mut keys)?;
+        }
     }
     Ok(keys)
 }

@@ -9,7 +9,7 @@ ghost use Rattle.provenance.specs.Versions.{AreTold, history_of, version_of};
 use crate::chosen::{Choice, push_chosen};
 use crate::keys::keys_by;
 use crate::query::{Query, QueryFault};
-use node_model::{BlockResult, Version};
+use node_model::{KeptResult, Version};
 use proc_eval::fit::fits_key;
 use rel_base::{Id, Key, List, Name, NoMemory, TableDef, table_of};
 use row_sets::{Lifespan, Versions};
@@ -37,7 +37,7 @@ fn takes_key(tables: &List<TableDef>, table: u32, key: &Key) -> bool
 /// Those of some versions of a table that are chosen.
 fn told(
     alloc: Global,
-    blocks: &List<BlockResult>,
+    blocks: &List<KeptResult>,
     choice: Choice<'_>,
     table: u32,
     spans: List<Lifespan>,
@@ -63,7 +63,7 @@ fn history<V: Versions>(
     alloc: Global,
     tables: &List<TableDef>,
     versions: &V,
-    blocks: &List<BlockResult>,
+    blocks: &List<KeptResult>,
     table: u32,
     key: &Key,
 ) -> Result<List<Version>, QueryFault>
@@ -84,7 +84,7 @@ fn history<V: Versions>(
 fn between<V: Versions>(
     alloc: Global,
     versions: &V,
-    blocks: &List<BlockResult>,
+    blocks: &List<KeptResult>,
     table: u32,
     from: u64,
     to: u64,
@@ -125,7 +125,7 @@ fn written<V: Versions>(
     alloc: Global,
     tables: &List<TableDef>,
     versions: &V,
-    blocks: &List<BlockResult>,
+    blocks: &List<KeptResult>,
     id: &Id,
 ) -> Result<List<Version>, NoMemory>
     requires tables { V.tables versions.now ≡ tables.now }
@@ -133,7 +133,7 @@ fn written<V: Versions>(
     requires told { AreTold blocks.now }
     ensures { IfOk result (λ told. told ≡ of_id tables.now blocks.now id.now) }
 {
-    let keys = keys_by(alloc, blocks.as_slice(), id)?;
+    let keys = keys_by(alloc, versions, blocks.as_slice(), id)?;
     let mut told = List::new(alloc);
     for (table, key) in keys {
         let spans = chain(alloc, tables, versions, table, key)?;
@@ -159,7 +159,7 @@ pub fn answer<V: Versions>(
     alloc: Global,
     tables: &List<TableDef>,
     versions: &V,
-    blocks: &List<BlockResult>,
+    blocks: &List<KeptResult>,
     query: &Query,
 ) -> Result<List<Version>, QueryFault>
     requires tables { V.tables versions.now ≡ tables.now }

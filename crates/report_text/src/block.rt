@@ -6,7 +6,7 @@ ghost use Rattle.report_text.specs.Report.{numbered, tx_line, block_line, block_
 use crate::look::Look;
 use crate::outcome::push_outcome;
 use crate::text::Text;
-use node_model::{BlockResult, Told};
+use node_model::{KeptResult, Told};
 use rel_base::{NoMemory, TableDef};
 
 /// A transaction: its position, its id and its outcome.
@@ -38,11 +38,11 @@ fn push_tx_lines(out: &mut Text, tables: &[TableDef], outcomes: &[Told]) -> Resu
 }
 
 /// The line that begins a block.
-fn push_block_line(out: &mut Text, block: &BlockResult) -> Result<(), NoMemory>
+fn push_block_line(out: &mut Text, block: &KeptResult) -> Result<(), NoMemory>
     ensures { OnOk result (out.new ≡ out.old ++ block_line block.now) }
 {
     out.push("block ")?;
-    out.push_number(block.number)?;
+    out.push_number(block.number())?;
     out.push("\n")
 }
 
@@ -58,25 +58,25 @@ fn push_order_text(out: &mut Text, positions: &[u32]) -> Result<(), NoMemory>
 }
 
 /// The serial order of a block's committed transactions.
-fn push_order_line(out: &mut Text, block: &BlockResult) -> Result<(), NoMemory>
+fn push_order_line(out: &mut Text, block: &KeptResult) -> Result<(), NoMemory>
     ensures { OnOk result (out.new ≡ out.old ++ order_line block.now) }
 {
     out.push("order")?;
-    push_order_text(out, block.order.as_slice())?;
+    push_order_text(out, block.order().as_slice())?;
     out.push("\n")
 }
 
 /// The digest of a block.
-pub fn push_digest_line(out: &mut Text, block: &BlockResult) -> Result<(), NoMemory>
+pub fn push_digest_line(out: &mut Text, block: &KeptResult) -> Result<(), NoMemory>
     ensures { OnOk result (out.new ≡ out.old ++ digest_line block.now) }
 {
     out.push("digest ")?;
-    out.push_digits(&block.digest)?;
+    out.push_digits(block.digest())?;
     out.push("\n")
 }
 
 /// The line of the order, if it is asked for.
-fn push_order(out: &mut Text, look: &Look, block: &BlockResult) -> Result<(), NoMemory>
+fn push_order(out: &mut Text, look: &Look, block: &KeptResult) -> Result<(), NoMemory>
     ensures { OnOk result (out.new ≡ out.old ++ shown_if look.now.orders (order_line block.now)) }
 {
     if look.orders {
@@ -87,7 +87,7 @@ fn push_order(out: &mut Text, look: &Look, block: &BlockResult) -> Result<(), No
 }
 
 /// The line of the digest, if it is asked for.
-fn push_digest(out: &mut Text, look: &Look, block: &BlockResult) -> Result<(), NoMemory>
+fn push_digest(out: &mut Text, look: &Look, block: &KeptResult) -> Result<(), NoMemory>
     ensures { OnOk result (out.new ≡ out.old ++ shown_if look.now.digests (digest_line block.now)) }
 {
     if look.digests {
@@ -102,12 +102,12 @@ fn push_block(
     out: &mut Text,
     look: &Look,
     tables: &[TableDef],
-    block: &BlockResult,
+    block: &KeptResult,
 ) -> Result<(), NoMemory>
     ensures { OnOk result (out.new ≡ out.old ++ block_lines look.now tables.now block.now) }
 {
     push_block_line(out, block)?;
-    push_tx_lines(out, tables, block.outcomes.as_slice())?;
+    push_tx_lines(out, tables, block.outcomes().as_slice())?;
     push_order(out, look, block)?;
     push_digest(out, look, block)
 }
@@ -117,7 +117,7 @@ pub fn push_blocks(
     out: &mut Text,
     look: &Look,
     tables: &[TableDef],
-    blocks: &[BlockResult],
+    blocks: &[KeptResult],
 ) -> Result<(), NoMemory>
     ensures { OnOk result (out.new ≡ out.old ++ flat_map (block_lines look.now tables.now) blocks.now) }
 {

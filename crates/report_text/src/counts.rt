@@ -8,7 +8,7 @@ ghost use Rattle.report_text.specs.Summary.{count_line, counts_text, kinds_in, l
 
 use crate::block::push_digest_line;
 use crate::text::Text;
-use node_model::{BlockResult, OutcomeKind, Told};
+use node_model::{KeptResult, OutcomeKind, Told};
 use rel_base::{List, NoMemory};
 use std::alloc::Global;
 
@@ -37,12 +37,12 @@ fn add_kinds(kinds: &mut Vec<OutcomeKind>, outcomes: &[Told]) -> Result<(), NoMe
 }
 
 /// The kinds of all outcomes of blocks, in their order.
-fn kinds_in(alloc: Global, blocks: &[BlockResult]) -> Result<Vec<OutcomeKind>, NoMemory>
+fn kinds_in(alloc: Global, blocks: &[KeptResult]) -> Result<Vec<OutcomeKind>, NoMemory>
     ensures { IfOk result (λ kinds. kinds.items ≡ kinds_in blocks.now) }
 {
     let mut kinds = Vec::new(alloc);
     for block in blocks {
-        add_kinds(&mut kinds, block.outcomes.as_slice())?;
+        add_kinds(&mut kinds, block.outcomes().as_slice())?;
     }
     Ok(kinds)
 }
@@ -102,7 +102,7 @@ fn push_head(out: &mut Text, number: u64, blocks: usize) -> Result<(), NoMemory>
 }
 
 /// The digest of a block, if there is one.
-fn push_last_digest(out: &mut Text, block: Option<&BlockResult>) -> Result<(), NoMemory>
+fn push_last_digest(out: &mut Text, block: Option<&KeptResult>) -> Result<(), NoMemory>
     ensures { OnOk result (out.new ≡ out.old ++ last_digest_line (option_copied block.entry)) }
 {
     match block {
@@ -112,7 +112,7 @@ fn push_last_digest(out: &mut Text, block: Option<&BlockResult>) -> Result<(), N
 }
 
 /// The digest of a block, if there is one, and the last line.
-fn push_tail(out: &mut Text, block: Option<&BlockResult>) -> Result<(), NoMemory>
+fn push_tail(out: &mut Text, block: Option<&KeptResult>) -> Result<(), NoMemory>
     ensures { OnOk result (out.new ≡ out.old ++ (last_digest_line (option_copied block.entry) ++ codes "done\n")) }
 {
     push_last_digest(out, block)?;
@@ -122,7 +122,7 @@ fn push_tail(out: &mut Text, block: Option<&BlockResult>) -> Result<(), NoMemory
 /// The summary of the load of a number, by the results of its blocks: the number, how many blocks there are, how many of their
 /// transactions committed and how many were aborted for each kind of cause, the digest of the last block, and `done`. The only error is
 /// out of memory.
-pub fn summary(alloc: Global, number: u64, blocks: &List<BlockResult>) -> Result<List<u8>, NoMemory>
+pub fn summary(alloc: Global, number: u64, blocks: &List<KeptResult>) -> Result<List<u8>, NoMemory>
     ensures { IfOk result (λ bytes. bytes ≡ summary_text number blocks.now) }
 {
     let kinds = kinds_in(alloc, blocks.as_slice())?;

@@ -9,7 +9,7 @@ ghost use Rattle.report_text.specs.JsonTokens.{member_tokens, tokens_if, tokens_
 
 use crate::json_text::JsonText;
 use crate::look::Look;
-use node_model::{BlockResult, Outcome, Told};
+use node_model::{KeptResult, Outcome, Told};
 use rel_base::{NoMemory, TableDef};
 
 /// The outcome of a transaction.
@@ -80,15 +80,15 @@ fn put_block(
     out: &mut JsonText,
     look: &Look,
     tables: &[TableDef],
-    block: &BlockResult,
+    block: &KeptResult,
 ) -> Result<(), NoMemory>
     ensures { OnOk result (out.new ≡ out.old ++ tokens_of (block_json look.now tables.now block.now)) }
 {
     out.begin_object()?;
-    put_digest(out, look, &block.digest)?;
-    out.count_member("number", block.number)?;
-    put_order(out, look, block.order.as_slice())?;
-    put_txs(out, tables, block.outcomes.as_slice())?;
+    put_digest(out, look, block.digest())?;
+    out.count_member("number", block.number())?;
+    put_order(out, look, block.order().as_slice())?;
+    put_txs(out, tables, block.outcomes().as_slice())?;
     out.end_object()
 }
 
@@ -97,7 +97,7 @@ pub fn put_blocks(
     out: &mut JsonText,
     look: &Look,
     tables: &[TableDef],
-    blocks: &[BlockResult],
+    blocks: &[KeptResult],
 ) -> Result<(), NoMemory>
     ensures { OnOk result (out.new ≡ out.old ++ member_tokens (codes "blocks") (array (items_by (block_json look.now tables.now) blocks.now))) }
 {

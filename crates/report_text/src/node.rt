@@ -11,7 +11,7 @@ use crate::json_node::json_line;
 use crate::look::Look;
 use crate::table::push_tables;
 use crate::text::Text;
-use node_model::{BlockResult, NodeResult};
+use node_model::{KeptResult, NodeResult};
 use proc_syntax::ChainFault;
 use rel_base::{List, NoMemory, TableDef};
 use std::alloc::Global;
@@ -26,7 +26,7 @@ fn push_node_line(out: &mut Text, number: usize) -> Result<(), NoMemory>
 }
 
 /// The height of a node, which is the number of its blocks.
-fn push_height_line(out: &mut Text, blocks: &[BlockResult]) -> Result<(), NoMemory>
+fn push_height_line(out: &mut Text, blocks: &[KeptResult]) -> Result<(), NoMemory>
     ensures { OnOk result (out.new ≡ out.old ++ height_line blocks.now) }
 {
     out.push("height ")?;

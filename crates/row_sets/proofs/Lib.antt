@@ -1,3 +1,4 @@
+pub mod BlockWrites
 pub mod Cells
 pub mod Endings
 pub mod Entries

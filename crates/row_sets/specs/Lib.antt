@@ -1,3 +1,4 @@
+pub mod BlockWrites
 pub mod Few
 pub mod Kept
 pub mod Overlay

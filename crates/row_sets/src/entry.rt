@@ -1,12 +1,14 @@
 //! The log of a store: entries that are numbered from 0, in the order in which they were applied.
 
 ghost use Rattle.std.specs.Prelude.{◌≡◌, ◌<◌, ◌≤◌, ◌+◌, ◌++◌, ◌∷◌, [], Some, length, slice_get};
+ghost use Rattle.std.specs.Option.{option_map};
 ghost use Rattle.std.specs.Vec.{vec_len, vec_capacity};
 ghost use Rattle.row_sets.specs.Lifespans.{is_of_key};
 ghost use Rattle.row_sets.specs.Log.{entry_of, history_of, room_of, stamped_of};
-ghost use Rattle.row_sets.specs.Versions.{stamped_at};
+ghost use Rattle.row_sets.specs.Versions.{stamped_at, write_of};
 ghost use Rattle.rel_base.specs.Tables.{place_of};
 
+use crate::versions::WriteRef;
 use rel_base::{Key, List, Place, Placed, Write};
 
 /// A committed write: the number of its block, and the write with its position.
@@ -22,6 +24,19 @@ pub fn entry_at(entries: &[LogEntry], number: usize) -> &LogEntry
     ensures { slice_get entries.now number ≡ Some result.now }
 {
     &entries[number]
+}
+
+/// The write of a number, or nothing where there are not so many.
+pub fn write_at(entries: &[LogEntry], number: usize) -> Option<WriteRef<'_>>
+    ensures { option_map write_of result ≡ slice_get (history_of entries.now) number }
+{
+    match entries.get(number) {
+        None => None,
+        Some(entry) => Some(WriteRef {
+            block: entry.block,
+            placed: &entry.placed,
+        }),
+    }
 }
 
 /// The place of the write of an entry.

@@ -1,11 +1,17 @@
-//! A look at the memory that reads of some keys need. It goes from the slots of all keys to their last writes, and from these to
-//! the rows, so that the waits for memory of each step are one.
+//! A look at the memory that reads of some keys need, or that noting some writes needs. Nothing is changed and nothing is promised of
+//! it: the waits for memory overlap in it, which would follow one another otherwise.
+//!
+//! That of reads goes from the slots of all keys to their last writes, and from these to the rows.
 
 use crate::chains::Chains;
+use crate::index::TableIndex;
 use crate::key_hash::hash_of;
-use rel_base::{Key, NoMemory, Row, Value};
+use rel_base::{Key, NoMemory, Row, Value, Write};
 use row_sets::entry::LogEntry;
 use std::alloc::Global;
+
+/// How many writes are looked at together, before they are noted.
+pub const TOGETHER: usize = 16;
 
 /// The guesses at the slots of some keys.
 fn guessed_slots(alloc: Global, chains: &Chains, keys: &[Key]) -> Result<Vec<usize>, NoMemory> {
@@ -63,13 +69,17 @@ fn one_if_holds(value: Option<&Value>) -> usize {
     }
 }
 
+/// How many of the first and the last value of a row are not false.
+fn ends_of(row: &Row) -> usize {
+    let values = row.as_slice();
+    one_if_holds(values.first()).wrapping_add(one_if_holds(values.last()))
+}
+
 /// How many of the first and last values of some rows are not false.
 fn count_ends(rows: &[&Row]) -> usize {
     let mut count: usize = 0;
     for row in rows {
-        let values = row.as_slice();
-        count = count.wrapping_add(one_if_holds(values.first()));
-        count = count.wrapping_add(one_if_holds(values.last()));
+        count = count.wrapping_add(ends_of(row));
     }
     count
 }
@@ -85,4 +95,44 @@ pub fn count_rows(
     let numbers = last_numbers(alloc, chains, slots.as_slice())?;
     let rows = rows_left(alloc, entries, numbers.as_slice())?;
     Ok(count_ends(rows.as_slice()))
+}
+
+/// The number of the last write at the slot that is guessed of a key.
+fn guessed_number(chains: &Chains, key: &Key) -> Option<usize> {
+    match chains.guesses.get(hash_of(key)) {
+        None => None,
+        Some(slot) => chains.last(slot),
+    }
+}
+
+/// The row that the last write at the slot that is guessed of a key left.
+fn guessed_row<'a>(entries: &'a [LogEntry], index: &TableIndex, key: &Key) -> Option<&'a Row> {
+    match guessed_number(&index.chains, key) {
+        None => None,
+        Some(number) => row_left(entries, number),
+    }
+}
+
+/// How many of the first and the last value of the row that a write finds, by a guess, are not false.
+fn ends_of_write(entries: &[LogEntry], indexes: &[TableIndex], write: &Write) -> usize {
+    let Some(index) = indexes.get(write.table as usize) else {
+        return 0;
+    };
+    match guessed_row(entries, index, &write.key) {
+        None => 0,
+        Some(row) => ends_of(row),
+    }
+}
+
+/// At most twice as many as the next `TOGETHER` writes of a log, from a number on: it counts the ends of the rows that they find, so
+/// that it looks at the memory that noting them needs.
+pub fn count_writes(entries: &[LogEntry], indexes: &[TableIndex], number: usize) -> usize {
+    let mut count: usize = 0;
+    for at in number..number.saturating_add(TOGETHER) {
+        let Some(entry) = entries.get(at) else {
+            return count;
+        };
+        count = count.wrapping_add(ends_of_write(entries, indexes, &entry.placed.write));
+    }
+    count
 }

@@ -225,6 +225,16 @@ impl Chains {
         }
     }
 
+    /// The number of the last write on the key of a slot that may be there.
+    pub fn last_at(&self, slot: Option<usize>) -> Option<usize>
+        ensures { AreLasts self.now.lasts.items (lists_of self.now) → result ≡ last_in (numbers_at (lists_of self.now) slot) }
+    {
+        match slot {
+            None => None,
+            Some(slot) => self.last(slot),
+        }
+    }
+
     /// Notes the first write on a key. Where memory is wanting, all stays as it was.
     fn note_first(
         &mut self,

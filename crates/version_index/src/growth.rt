@@ -4,6 +4,7 @@ ghost use Rattle.std.specs.Prelude.{◌≡◌, ◌<◌, ◌≤◌, ◌+◌, All,
 ghost use Rattle.row_sets.specs.Log.{history_of, room_of};
 ghost use Rattle.version_index.specs.Index.{AreNoted, columns_in};
 
+use crate::ahead::{TOGETHER, count_writes};
 use crate::index::TableIndex;
 use rel_base::NoMemory;
 use row_sets::entry::{LogEntry, entry_at};
@@ -27,6 +28,20 @@ fn note_one(
     indexes[table as usize].note(alloc, entries, number)
 }
 
+/// Where so many writes were noted that others are to be looked at, looks at the memory that noting the next ones needs. Nothing is
+/// changed and nothing is promised. A write waits for the guess at its slot, the last write there and the row that it left, one
+/// after the other, and so would each after it: in a look at sixteen of them the waits overlap.
+fn look_ahead(indexes: &[TableIndex], entries: &[LogEntry], number: usize) -> Result<(), NoMemory> {
+    if number % TOGETHER != 0 {
+        return Ok(());
+    }
+    // No count is as large, and a compiler can not know that, so that it does not leave the look out.
+    if count_writes(entries, indexes, number) == usize::MAX {
+        return Err(NoMemory);
+    }
+    Ok(())
+}
+
 /// Notes the writes of the tail, one after the other. Where memory is wanting, those before are noted already, and counted.
 pub fn note_tail(
     alloc: Global,
@@ -44,6 +59,7 @@ pub fn note_tail(
     ensures whole { OnOk result (noted.new ≡ length entries.now) }
 {
     while *noted < entries.len() {
+        look_ahead(indexes.as_slice(), entries, *noted)?;
         note_one(alloc, indexes, entries, *noted)?;
         *noted += 1;
     }

@@ -4,9 +4,8 @@ ghost use Rattle.std.specs.Prelude.{◌≡◌, ◌+◌, ◌++◌, ◌<◌, All, 
 ghost use Rattle.std.specs.List.{AllZip};
 ghost use Rattle.std.specs.Option.{option_copied};
 ghost use Rattle.row_sets.specs.Log.{history_of};
-ghost use Rattle.version_index.specs.Chains.{slot_or};
+ghost use Rattle.version_index.specs.Chains.{AreLasts, lists_of, numbers_at, slot_or};
 ghost use Rattle.version_index.specs.Columns.{AreListed, IsNotedIn, IsReady, IsSameColumn};
-ghost use Rattle.version_index.specs.Numbers.{last_in};
 ghost use Rattle.version_index.specs.Index.{HasColumns, IsEmptyColumn, IsEmptyIndex, IsIndexOf, index_columns, row_after, row_by};
 
 use crate::chains::{Chains, slot_at};
@@ -63,16 +62,6 @@ fn push_columns(
     Ok(())
 }
 
-/// The last of some numbers.
-fn last_of(numbers: &[usize]) -> Option<usize>
-    ensures { result ≡ last_in numbers.now }
-{
-    match numbers.split_last() {
-        None => None,
-        Some((last, _)) => Some(*last),
-    }
-}
-
 /// The row that the write of a number left, where there is such a write.
 fn row_at(entries: &[LogEntry], number: usize) -> Option<&Row>
     ensures { option_copied result ≡ row_after (slice_get (history_of entries.now) number) }
@@ -83,11 +72,12 @@ fn row_at(entries: &[LogEntry], number: usize) -> Option<&Row>
     }
 }
 
-/// The row that the last of some writes left, by their numbers.
-fn found_row<'a>(entries: &'a [LogEntry], numbers: &[usize]) -> Option<&'a Row>
-    ensures { option_copied result ≡ row_by (history_of entries.now) numbers.now }
+/// The row that the last write on the key of a slot that may be there left.
+fn found_row<'a>(entries: &'a [LogEntry], chains: &Chains, slot: Option<usize>) -> Option<&'a Row>
+    requires { AreLasts chains.now.lasts.items (lists_of chains.now) }
+    ensures { option_copied result ≡ row_by (history_of entries.now) (numbers_at (lists_of chains.now) slot) }
 {
-    match last_of(numbers) {
+    match chains.last_at(slot) {
         None => None,
         Some(number) => row_at(entries, number),
     }
@@ -166,7 +156,7 @@ impl TableIndex {
         let write = &entry_at(entries, number).placed.write;
         let spot = spot_of(entries, &self.chains, &write.key);
         let slot = slot_at(spot);
-        let found = found_row(entries, self.chains.numbers(slot));
+        let found = found_row(entries, &self.chains, slot);
         let own = own_slot(slot, self.chains.count());
         hold_all(alloc, &mut self.columns, own, found, write)?;
         self.chains

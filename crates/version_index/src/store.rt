@@ -16,11 +16,12 @@ use crate::look_up::LookUp;
 use crate::reading::{late_at, rows_at};
 use crate::view::{ReadAtHeight, TableView};
 use rel_base::{Key, List, NoMemory, Place, Read, Seen, TableDef, Twin, Write};
-use row_sets::entry::{LogEntry, push_all};
+use row_sets::entry::{LogEntry, push_all, write_at};
 use row_sets::hits::{Watch, def_of};
-use row_sets::{HitRef, Lifespan, Versions};
+use row_sets::{HitRef, Lifespan, Versions, WriteRef};
 use std::alloc::Global;
 use std::marker::Model;
+use std::mem::forget;
 
 /// A store of committed versions with indexes. It keeps the committed writes in one log. For each table it keeps the numbers of the
 /// writes on each key, and for each column by which spans are read the keys that have a row with each value, and the numbers of the
@@ -94,6 +95,23 @@ fn view_of<'a>(
 }
 
 impl IndexVersions {
+    /// Lets the store go without a walk through its memory. For the end of a process alone: the system takes the memory of the writes
+    /// and of the indexes back at once then, which letting go of each write takes a while for. It would be lost to a process that goes
+    /// on.
+    pub fn leave(self) {
+        let IndexVersions {
+            alloc: _,
+            tables,
+            log,
+            indexes,
+            noted: _,
+        } = self;
+        drop(tables);
+        forget(indexes);
+        // The list itself is one block of memory, which is given back at once.
+        log.into_iter().for_each(forget);
+    }
+
     /// The log and the index of a table, for a look-up whose looks are counted.
     pub fn look_up(&self, table: u32) -> LookUp<'_>
         requires declared { table < length (store_tables self.now) }
@@ -132,6 +150,14 @@ impl Versions for IndexVersions {
             indexes,
             noted: 0,
         })
+    }
+
+    fn count(&self) -> usize {
+        self.log.len()
+    }
+
+    fn write_at(&self, number: usize) -> Option<WriteRef<'_>> {
+        write_at(self.log.as_slice(), number)
     }
 
     fn visible(&self, height: u64, read: &Read) -> Result<List<Seen>, NoMemory> {

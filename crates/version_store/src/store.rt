@@ -6,8 +6,8 @@ use crate::hits::late_at;
 use crate::lifespans::{of_key, of_table};
 use crate::rows::rows_at;
 use rel_base::{Key, List, NoMemory, Place, Read, Seen, TableDef, Twin, Write};
-use row_sets::entry::{LogEntry, push_all};
-use row_sets::{HitRef, Lifespan, Versions};
+use row_sets::entry::{LogEntry, push_all, write_at};
+use row_sets::{HitRef, Lifespan, Versions, WriteRef};
 use std::alloc::Global;
 use std::marker::Model;
 
@@ -52,6 +52,14 @@ impl Versions for PlainVersions {
             tables: declared.copy(alloc)?,
             log: Vec::new(alloc),
         })
+    }
+
+    fn count(&self) -> usize {
+        self.log.len()
+    }
+
+    fn write_at(&self, number: usize) -> Option<WriteRef<'_>> {
+        write_at(self.log.as_slice(), number)
     }
 
     fn visible(&self, height: u64, read: &Read) -> Result<List<Seen>, NoMemory> {

@@ -10,8 +10,10 @@ use Rattle.block_digest.proofs.write_block.push_block.Goals as goal
 pub returns : goal.returns
 returns c =
     let block = c.args.block.now in
+    let outcomes : c.push_outcomes.new.out.items ≡ c.push_head.new.out.items ++ counted small_code told_code block.outcomes = search rules in
+    let order : c.push_order.new.out.items ≡ c.push_outcomes.new.out.items ++ counted small_code small_code block.order = search rules in
     let head : c.push_head.new.out.items ≡ c.args.out.now.items ++ (be_code w64 block.number ++ int_code block.time) = search rules in
     pushed_four c.push_writes.result c.args.out.now.items (be_code w64 block.number ++ int_code block.time) c.push_head.new.out.items
     (counted small_code told_code block.outcomes) c.push_outcomes.new.out.items (counted small_code small_code block.order) c.push_order.new.out.items
     (counted small_code write_code block.writes) c.push_writes.new.out.items
-    head c.in_ok-push_outcomes.ensures c.in_ok-push_order.ensures c.push_writes.ensures
+    head outcomes order c.push_writes.ensures

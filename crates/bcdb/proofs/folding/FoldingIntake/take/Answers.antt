@@ -1,4 +1,4 @@
-use Rattle.std.proofs.Common.{List, Some, ap, subst, sym, ◌++◌, ◌∙◌}
+use Rattle.std.proofs.Common.{List, Some, ap, subst, sym, ◌++◌}
 use Rattle.bcdb.proofs.folding.FoldingIntake.take.Goals as goal
 use Rattle.bcdb.specs.Folds.{HoldsFirst}
 use Rattle.chain_file.specs.Chain.{chain}
@@ -10,12 +10,12 @@ pub take_blocks-requires : goal.take_blocks-requires
 take_blocks-requires c =
     let bytes = c.requires.took.0 in
     let took = c.requires.took.1 in
-    let more = (c.in_ok-fed.ensures.fed bytes took.fed).0 ∙ ap (λ (blocks : List Block). (chain bytes).0 ++ blocks) (sym c.as_slice.ensures) in
+    let more = (c.in_ok-fed.ensures.fed bytes took.fed).0 in
     record { holds = ((chain bytes).0, (subst (NumberedFrom 1) more (c.files_are_numbered.ensures (bytes ++ c.args.piece.now)), took.holds)) }
 
 pub returns-clause-follows : goal.returns-clause-follows
 returns-clause-follows c = λ bytes took.
-    let more = (c.in_ok-fed.ensures.fed bytes took.fed).0 ∙ ap (λ (blocks : List Block). (chain bytes).0 ++ blocks) (sym c.as_slice.ensures) in
+    let more = (c.in_ok-fed.ensures.fed bytes took.fed).0 in
     record {
       fed = c.in_ok-fed.ensures.follows bytes took.fed;
       holds = subst (λ (blocks : List Block). HoldsFirst c.args.self.now.height blocks c.take_blocks.new.taken c.take_blocks.new.node.chain.app.value.app c.take_blocks.new.node.chain.versions.0

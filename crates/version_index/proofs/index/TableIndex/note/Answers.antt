@@ -2,7 +2,7 @@ use Rattle.std.proofs.Common.{◌≡◌, ◌∙◌, ◌+◌, arith, length, refl
 use Rattle.std.specs.Option.{option_copied}
 use Rattle.std.proofs.lemmas.List.Elements.{All-weaker}
 use Rattle.row_sets.specs.Log.{history_of}
-use Rattle.version_index.specs.Chains.{IsNoted, lists_of, slot_of}
+use Rattle.version_index.specs.Chains.{IsNoted, lists_of, numbers_at, slot_of}
 use Rattle.version_index.specs.Columns.{AreListed, IsColumn, IsNotedIn, IsSameColumn}
 use Rattle.version_index.specs.Index.{IsIndexOf}
 use Rattle.version_index.specs.declared.index.TableIndex.{TableIndex}
@@ -52,6 +52,13 @@ spot_of-spot-requires c =
     let there = c.requires.there in
     (entry.placed.write.table, c.args.number, omega (arith, there), is.chains)
 
+-- the chains keep the last writes
+pub found_row-found-requires : goal.found_row-found-requires
+found_row-found-requires c =
+    let entry = c.entry_at.result.now in
+    let is = index_from c.args.entries.now c.args.number entry c.entry_at.ensures c.args.number c.args.self.now c.requires.old in
+    is.chains.lasts
+
 -- the key stands at one of the slots
 pub note-requires-clause-within : goal.note-requires-clause-within
 note-requires-clause-within c =
@@ -67,7 +74,7 @@ returns-clause-new c =
     let old = c.args.self.now in
     let is = index_from c.args.entries.now c.args.number entry c.entry_at.ensures c.args.number old c.requires.old in
     let own = own_place c.args.entries.now c.args.number entry c.entry_at.ensures old is c.slot_at-slot.result c.count.result c.own_slot-own.result (c.slot_at-slot.ensures ∙ c.spot_of-spot.ensures.slot) c.count.ensures c.own_slot-own.ensures in
-    let found = c.found_row-found.ensures ∙ finds c.args.entries.now c.args.number entry c.entry_at.ensures old is c.numbers.result.now c.slot_at-slot.result (c.slot_at-slot.ensures ∙ c.spot_of-spot.ensures.slot) c.numbers.ensures in
+    let found = c.found_row-found.ensures ∙ finds c.args.entries.now c.args.number entry c.entry_at.ensures old is (numbers_at (lists_of old.chains) c.slot_at-slot.result) c.slot_at-slot.result (c.slot_at-slot.ensures ∙ c.spot_of-spot.ensures.slot) refl in
     let next : suc c.args.number ≡ c.args.number + 1 = omega arith in
     let noted = subst (λ lives. IsNoted entry.placed.write.key lives c.args.number old.chains c.note.new.self) c.is_some.ensures c.in_ok-note.ensures.noted in
     let index : TableIndex = record { chains = c.note.new.self; columns = c.note_all.new.columns } in

@@ -1,5 +1,5 @@
 use Rattle.std.proofs.Common.{drop, length, ◌+◌, ◌≡◌}
-use Rattle.block_work.proofs.chain.count_writes.Given as goal
+use Rattle.block_digest.proofs.lent.count_writes.Given as goal
 use Rattle.node_model.specs.History.{placed_of}
 
 -- the count so far, with the writes of what is left, is the whole
