@@ -180,7 +180,7 @@ def place_all(layers):
 
 
 def is_test(name):
-    return name.endswith(("_tests", "_bench"))
+    return name.endswith("_tests")
 
 
 def height_of(layers, row):

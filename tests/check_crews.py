@@ -1,28 +1,28 @@
 #!/usr/bin/env python3
 """Runs each case of `run` in tests/cases again with 0, 1 and 4 executors on 1 and 3 nodes, and compares every byte.
 
-The report of a node has to stand there once for each node, before the last line, and a refusal as it is. Cases whose words name nodes, executors, journals
-or JSON are left out, since they say what those print; a case with arrivals is run on one node, whose file it has. One node starts its executors only where
-something arrives or a call has a loop, as of some of the cases, and three nodes always start them.
-Usage: check_crews.py PROGRAM
+The report of a node has to stand there once for each node, before the last line, and a refusal as it is. Each of these runs writes its journals, so that it is
+one of nodes with jobs, of whatever calls: one for each node stands after a report, and they are left out of the comparison. One run more writes none, with one
+node and no executors, which takes the blocks piece by piece as they are read. Cases whose words name nodes, executors, journals or JSON are left out, since
+they say what those print; a case with arrivals is run on one node, whose file it has. Usage: check_crews.py PROGRAM
 """
 import os
 import sys
 
-from run_cases import CASES, Tally, read, run
+from run_cases import CASES, Tally, read, run, split_journals
 
 OWN = {"--nodes", "--executors", "--trace", "--json"}
 CREWS = [(nodes, executors) for nodes in (1, 3) for executors in (0, 1, 4)]
 
 
 def wanted(stdout, nodes):
-    """What so many nodes print, where one prints this."""
+    """What so many nodes print, where one prints this, and how many journals stand after it."""
     if not stdout.startswith(b"node 1\n"):
-        return stdout
+        return stdout, 0
     lines = stdout.split(b"\n")
     body, last = lines[1:-2], lines[-2]
     numbered = [[b"node %d" % (node + 1), *body] for node in range(nodes)]
-    return b"\n".join([line for node in numbered for line in node] + [last, b""])
+    return b"\n".join([line for node in numbered for line in node] + [last, b""]), nodes
 
 
 def run_case(program, name, tally):
@@ -33,8 +33,10 @@ def run_case(program, name, tally):
         return
     for nodes, executors in CREWS:
         if nodes == 1 or "--arrivals" not in words:
-            crew = ["--nodes", str(nodes), "--executors", str(executors)]
-            tally.note(f"{name} {' '.join(crew)}", (status, wanted(stdout, nodes)), run(program, folder, words + crew))
+            crew = ["--nodes", str(nodes), "--executors", str(executors), "--trace"]
+            ended, told = run(program, folder, words + crew)
+            tally.note(f"{name} {' '.join(crew)}", (status, wanted(stdout, nodes)), (ended, split_journals(told)))
+    tally.note(f"{name} without executors", (status, stdout), run(program, folder, [*words, "--executors", "0"]))
 
 
 def main():

@@ -1,19 +1,21 @@
 #!/usr/bin/env python3
 """Checks that the pages say what is there. It needs no built program and takes about a second.
 
-Examples: in README.md, docs/GUIDE.md, docs/ABORTS.md and docs/FORMATS.md each fenced example has a comment before it for each file of tests/cases that it
-is, `<!-- case: NAME FILE -->`, or `<!-- case: NAME FILE 5-9 -->` for some lines of one, and is those bytes. Where FILE is `words`, the
-example is the command line, `bcdb` and the words. A fence of the language `sh` without a comment is a command and no example. The code of a
-result in docs/FORMATS.md has the digest that a case shows.
+Examples: in README.md, docs/GUIDE.md, docs/ABORTS.md, docs/FORMATS.md and docs/CODES.md each fenced example has a comment before it for each
+file of tests/cases that it is, `<!-- case: NAME FILE -->`, or `<!-- case: NAME FILE 5-9 -->` for some lines of one, and is those bytes. Where
+FILE is `words`, the example is the command line, `bcdb` and the words. A fence of the language `sh` without a comment is a command and no
+example. The code of a result in docs/CODES.md has the digest that a case shows.
 Outcomes: each row of the table of docs/ABORTS.md has the report's words, what to do now, a case whose report has the words, and a definition,
 a function and a clause that stand in the files to which they are linked.
 Crates: crates.txt has each crate under the comment of its level, docs/DESIGN.md has a row for each crate in the order of levels,
 docs/PROVED.md has one too, and docs/crates.svg is what docs/draw_crates.py draws.
-Names: each name in code in a row of docs/PROVED.md stands in that row's crate, and in the argument of that page in some crate; each definition of
-docs/DEFINITIONS.md stands in the crates that its heading or its file names.
-Links: each file that a page links to is there.
-Statuses: the tables of README.md and docs/FORMATS.md have the numbers of crates/bcdb/src/status.rt and specs/Numbers.antt, and no more.
-Reading: docs/READING.md is what docs/reading_path.py writes, and README.md has the sizes that it counts.
+Edits: each edit that docs/PLANTED.md names as a wrong body stands in the must-fail/ of its crate, and no other one does; a crate has at most eight in
+refused/, and one without edits is named in docs/OPEN.md.
+Names: each name in code in a row of docs/PROVED.md stands in that row's crate, and in the argument of that page in some crate.
+Let through: the table of docs/PROVED.md names exactly the functions that answer something and have no clause, crate by crate.
+Links: each file that a page links to is there, and each heading.
+Statuses: the table of docs/FORMATS.md has the numbers of crates/bcdb/src/status.rt and specs/Numbers.antt, and no more.
+The claim: docs/CLAIM.md is what docs/claim_page.py writes, and README.md has the sizes that it counts.
 Form: lines have at most 120 columns and sentences at most 40 words (tests/prose.py), and words that are not used any more stand nowhere.
 Usage: tests/check_docs.py
 """
@@ -30,11 +32,11 @@ CASES = os.path.join(ROOT, "tests", "cases")
 sys.dont_write_bytecode = True
 sys.path.insert(0, os.path.join(ROOT, "docs"))
 
+import claim_page
 import draw_crates
 import prose
-import reading_path
 
-WITH_EXAMPLES = ["README.md", "docs/GUIDE.md", "docs/ABORTS.md", "docs/FORMATS.md"]
+WITH_EXAMPLES = ["README.md", "docs/GUIDE.md", "docs/ABORTS.md", "docs/FORMATS.md", "docs/CODES.md"]
 FENCE = "`" * 3
 UNUSED = ["want of memory"]
 NAMED = re.compile(r"<!-- case: (\S+) (\S+)(?: (\d+)-(\d+))? -->")
@@ -104,13 +106,13 @@ def check_examples(tally):
 
 
 def check_code(tally):
-    """The code of a block's result that FORMATS.md shows has the digest that the page and a case tell."""
-    page = read("docs/FORMATS.md")
+    """The code of a block's result that CODES.md shows has the digest that the page and a case tell."""
+    page = read("docs/CODES.md")
     lines = page.partition("has the code of 79 bytes\n\n")[2].split("\n\n")[0]
     code = bytes.fromhex("".join(lines.split()))
     digest = hashlib.sha256(bytes(32) + code).hexdigest()
-    tally.note(len(code) == 79 and f"    {digest}\n" in page, "docs/FORMATS.md: the code of 79 bytes has another digest than the page says")
-    tally.note(f"digest {digest}\n" in text_of_case("digest-of-one-insert", "stdout", None, None), "docs/FORMATS.md: the case has another digest")
+    tally.note(len(code) == 79 and f"    {digest}\n" in page, "docs/CODES.md: the code of 79 bytes has another digest than the page says")
+    tally.note(f"digest {digest}\n" in text_of_case("digest-of-one-insert", "stdout", None, None), "docs/CODES.md: the case has another digest")
 
 
 def section_of(page, heading):
@@ -197,6 +199,58 @@ def check_crates(tally):
     tally.note(read("docs/crates.svg") == draw_crates.picture(crates), "docs/crates.svg is not what docs/draw_crates.py draws")
 
 
+def heads_of(text):
+    """Of each function of a file what it stands in, the line before it, its name and its head: all before its body, with its clauses."""
+    lines, home = text.split("\n"), ""
+    for number, line in enumerate(lines):
+        if re.match(r"(pub )?(unsafe )?(impl|trait)\b", line):
+            home = line
+        elif line == "}":
+            home = ""
+        found = re.match(r"(\s*)(?:pub(?:\(\w+\))? )?(?:const )?(?:unsafe )?fn (\w+)", line)
+        if found:
+            ends = (at for at in range(number, len(lines)) if ends_head(lines[at], found.group(1)))
+            yield home, lines[number - 1].strip(), found.group(2), "\n".join(lines[number : next(ends) + 1])
+
+
+def ends_head(line, indent):
+    return line in (indent + "{", indent + "{}") or line.endswith(";") or line.endswith(("{", "{}")) and not re.match(r"\s*(ensures|requires)\b", line)
+
+
+def full_name(home, name):
+    """The name of a function, after that of the type or the trait that it stands in."""
+    owner = re.match(r"(?:pub )?(?:unsafe )?(?:impl|trait)(?:<[^>]*>)?\s*(\w+)", home)
+    return f"{owner.group(1)}::{name}" if owner else name
+
+
+def unsaid_in(crate):
+    """The functions of a crate that answer something of which no clause says anything. What a trait asks of a body is said at the trait."""
+    found = set()
+    for folder, _, files in os.walk(os.path.join(ROOT, "crates", crate, "src")):
+        for file in (name for name in files if name.endswith(".rt")):
+            for home, mark, name, head in heads_of(read(os.path.join(folder, file))):
+                if "->" in head and "ensures" not in head and " for " not in home and mark != "#[test]":
+                    found.add(full_name(home, name))
+    return found
+
+
+def check_unsaid(tally):
+    """The table of what is let through names exactly the functions that answer something without a clause, crate by crate."""
+    page, crates = "docs/PROVED.md", [crate for crate in draw_crates.read_crates() if not crate.endswith("_tests")]
+    rows = {re.findall(r"`(\w+)`", cells[0])[0]: cells for cells in rows_of(page, "## What is let through")}
+    for crate in crates:
+        named = set(re.findall(r"`([\w:]+)`", rows[crate][1])) if crate in rows else set()
+        unsaid = unsaid_in(crate)
+        for name in sorted(named ^ unsaid):
+            tally.note(False, f"{page}: {name} of {crate} {'has a clause or is not there' if name in named else 'answers without a clause and is not named'}")
+        tally.note(named == unsaid, f"{page}: what is let through in {crate} is another list")
+        for name in re.findall(r"`([^`]+)`", rows[crate][2]) if crate in rows else []:
+            is_there = os.path.exists(os.path.join(ROOT, name)) or (words_of(crate) | set(crates)).issuperset(re.findall(r"\w+", name))
+            tally.note(is_there, f"{page}: {name} does not stand in {crate}")
+    for crate in rows:
+        tally.note(crate in crates, f"{page}: what is let through in {crate}, which is no crate")
+
+
 @functools.lru_cache(None)
 def words_of(crate):
     """All words of the files of a crate, and the names of these files."""
@@ -218,15 +272,6 @@ def check_names(tally):
     known = crates.union(*(words_of(crate) for crate in crates))
     for name in re.findall(r"`([^`]+)`", section_of("docs/PROVED.md", "## How the claim reaches real files")):
         tally.note(known.issuperset(re.findall(r"\w+", name)), f"docs/PROVED.md: {name} stands in no crate")
-    for section in read("docs/DEFINITIONS.md").split("\n## ")[1:]:
-        heading = section.split("\n")[0]
-        for line in section.split("\n"):
-            cells = line.split("|")
-            if len(cells) == 5 and "`" in line:
-                homes = crates.intersection(re.findall(r"\w+", heading + " " + cells[3]))
-                known = set().union(*(words_of(crate) for crate in homes))
-                for name in re.findall(r"`(\w+)`", cells[2]):
-                    tally.note(name in known, f"docs/DEFINITIONS.md: {name} does not stand in {', '.join(sorted(homes))}")
 
 
 def pages():
@@ -234,12 +279,42 @@ def pages():
     return ["README.md"] + [f"{folder}/{name}" for folder in folders for name in sorted(os.listdir(os.path.join(ROOT, folder))) if name.endswith(".md")]
 
 
+@functools.lru_cache(None)
+def anchors(page):
+    """The names by which the headings of a page are linked to."""
+    heads = [line.lstrip("#") for _, line, kind in prose.kinds_of_lines(read(page)) if kind == "head"]
+    return {re.sub(r"[^\w\- ]", "", head.strip().lower()).replace(" ", "-") for head in heads}
+
+
+def edits_in(crate, kind):
+    folder = os.path.join(ROOT, "crates", crate, kind)
+    return {f"{crate}/{name.removesuffix('.edit')}" for name in os.listdir(folder)} if os.path.isdir(folder) else set()
+
+
+def check_edits(tally):
+    crates = draw_crates.read_crates()
+    named = {name for row in rows_of("docs/PLANTED.md", "## Wrong bodies that the gate tries") for name in re.findall(r"^`(\w+/\w+)`$", row[1])}
+    stand = set().union(*(edits_in(crate, "must-fail") for crate in crates))
+    for name in sorted(named ^ stand):
+        tally.note(False, f"{name} is a wrong body of docs/PLANTED.md and not in must-fail/, or the other way round")
+    without = re.search(r"\n- \*\*((?:`\w+`(?:,| and)\s+)+`\w+`) have no edit that must be\s+refused", read("docs/OPEN.md"))
+    excused = set(re.findall(r"`(\w+)`", without.group(1))) if without else set()
+    for crate in crates:
+        refused = edits_in(crate, "refused")
+        tally.note(len(refused) <= 8, f"{crate} has {len(refused)} edits in refused/")
+        has_some = bool(refused or edits_in(crate, "must-fail"))
+        tally.note(has_some != (crate in excused), f"{crate} has no edit, or docs/OPEN.md says that it has none and it has")
+
+
 def check_links(tally):
     for page in pages():
-        for target in re.findall(r"\]\(([^)#\s]+)(?:#[^)]*)?\)", read(page)):
+        for target, heading in re.findall(r"\]\(([^)#\s]*)#?([^)\s]*)\)", read(page)):
             if "://" not in target:
-                path = os.path.normpath(os.path.join(os.path.dirname(page), target))
-                tally.note(os.path.exists(os.path.join(ROOT, path)), f"{page}: a link to {target}, which is not there")
+                path = os.path.normpath(os.path.join(os.path.dirname(page), target)) if target else page
+                is_there = os.path.exists(os.path.join(ROOT, path))
+                tally.note(is_there, f"{page}: a link to {target}, which is not there")
+                if is_there and heading and path.endswith(".md"):
+                    tally.note(heading in anchors(path), f"{page}: a link to {target}#{heading}, which is no heading there")
 
 
 def check_statuses(tally):
@@ -247,17 +322,20 @@ def check_statuses(tally):
     defined = set(re.findall(r"^number_of_status (\w+) = (\d+)$", read("crates/bcdb/specs/Numbers.antt"), re.MULTILINE))
     tally.note(code == defined and code, "crates/bcdb: status.rt and Numbers.antt have other numbers")
     numbers = sorted(int(number) for _, number in code)
-    for page, heading in (("README.md", "## Commands and statuses"), ("docs/FORMATS.md", "## Statuses (`bcdb`)")):
-        shown = [int(row[0]) for row in rows_of(page, heading) if row[0].isdigit()]
-        tally.note(shown == numbers, f"{page}: the table of statuses has {shown}, and there are {numbers}")
+    shown = [int(row[0]) for row in rows_of("docs/FORMATS.md", "## Statuses (`bcdb`)") if row[0].isdigit()]
+    tally.note(shown == numbers, f"docs/FORMATS.md: the table of statuses has {shown}, and there are {numbers}")
 
 
-def check_reading(tally):
-    tally.note(read("docs/READING.md") == reading_path.page(), "docs/READING.md is not what docs/reading_path.py writes")
+def check_claim(tally):
+    try:
+        tally.note(read("docs/CLAIM.md") == claim_page.page(), "docs/CLAIM.md is not what docs/claim_page.py writes")
+    except claim_page.NotRead as error:
+        tally.note(False, f"docs/claim_page.py: {error}")
+        return
     page = " ".join(read("README.md").split())
-    for files, lines in reading_path.sizes():
-        is_there = re.search(rf"\b{files} files (?:of definitions )?with {lines:,} lines", page)
-        tally.note(is_there, f"README.md: the sizes of the definitions are {files} files with {lines:,} lines")
+    for definitions, lines in claim_page.sizes():
+        is_there = f"{definitions:,} definitions with {lines:,} lines" in page
+        tally.note(is_there, f"README.md: there are {definitions:,} definitions with {lines:,} lines")
 
 
 def check_form(tally):
@@ -277,10 +355,12 @@ def main():
     check_code(tally)
     check_outcomes(tally)
     check_crates(tally)
+    check_edits(tally)
     check_names(tally)
+    check_unsaid(tally)
     check_links(tally)
     check_statuses(tally)
-    check_reading(tally)
+    check_claim(tally)
     check_form(tally)
     print(f"{tally.passed} passed, {tally.failed} failed")
     sys.exit(1 if tally.failed or not tally.passed else 0)

@@ -4,7 +4,8 @@
 Each block is a graph: its k-th call writes the k-th row, and reads the rows of those to which it has an edge. There is a block for each of
 the 4,096 graphs of four positions, and drawn ones of up to ten. What becomes of each call, and the serial order of each block, is worked
 out here from the edges alone: with exact isolation by trying all lists of different earlier committed calls, shorter ones first and those
-of one length by position; without it by the two forms of edges in a row. Usage: check_isolation.py PROGRAM [COUNT] [SEED]
+of one length by position; without it by the two forms of edges in a row. Each chain is run by one node alone and by one with jobs and executors. Usage: check_isolation.py PROGRAM
+[COUNT] [SEED]
 """
 import itertools
 import os
@@ -12,6 +13,9 @@ import random
 import subprocess
 import sys
 import tempfile
+
+from patience import SECONDS
+from run_cases import split_journals
 
 MOST = 10
 READS = range(1, MOST)
@@ -110,27 +114,28 @@ def lines_of(exact, number, out):
     return lines
 
 
-def report_of(program, exact, draft):
+def report_of(program, exact, draft, more):
     with tempfile.TemporaryDirectory() as folder:
         os.chmod(folder, 0o755)
         with open(os.path.join(folder, "a.app"), "w", encoding="utf-8") as file:
             file.write(("isolation exact;\n" if exact else "") + PROCEDURES)
         with open(os.path.join(folder, "b.draft"), "w", encoding="utf-8") as file:
             file.write(draft)
-        words = ["run", "--app", "a.app", "--blocks", "b.draft", "--orders"]
-        done = subprocess.run([program, *words], cwd=folder, stdin=subprocess.DEVNULL, capture_output=True, timeout=600)
+        words = ["run", "--app", "a.app", "--blocks", "b.draft", "--orders", *more]
+        done = subprocess.run([program, *words], cwd=folder, stdin=subprocess.DEVNULL, capture_output=True, timeout=SECONDS)
     if done.returncode != 0:
         raise SystemExit(f"status {done.returncode}: {done.stdout[:400]!r}")
-    return done.stdout.decode().split("\n")
+    report, journals = split_journals(done.stdout)
+    if journals != len(more):
+        raise SystemExit(f"{journals} journals and not {len(more)}")
+    return report.decode().split("\n")
 
 
-def check(program, exact, graphs):
+def check(lines, exact, graphs, all_wanted):
     """How many blocks are reported as they are worked out, and how many are not."""
-    lines = report_of(program, exact, draft_of(graphs))
     at = lines.index("block 2")
     counts = [0, 0]
-    for number, out in enumerate(graphs, 2):
-        wanted = lines_of(exact, number, out)
+    for number, (out, wanted) in enumerate(zip(graphs, all_wanted), 2):
         found = lines[at:at + len(wanted)]
         at += len(wanted)
         counts[found != wanted] += 1
@@ -139,11 +144,17 @@ def check(program, exact, graphs):
     return counts
 
 
+def check_all(program, exact, graphs):
+    """The counts of a node that runs by itself, and of one with jobs, whose journal is written."""
+    all_wanted, draft = [lines_of(exact, number, out) for number, out in enumerate(graphs, 2)], draft_of(graphs)
+    for more in [], ["--trace"]:
+        yield check(report_of(program, exact, draft, more), exact, graphs, all_wanted)
+
+
 def main(program, count, seed):
     draw = random.Random(seed)
     graphs = list(graphs_of_four()) + [drawn_graph(draw) for _ in range(count)]
-    kinds = {exact: check(program, exact, graphs) for exact in (True, False)}
-    passed, failed = (sum(counts[place] for counts in kinds.values()) for place in (0, 1))
+    passed, failed = (sum(column) for column in zip(*(counts for exact in (True, False) for counts in check_all(program, exact, graphs))))
     print(f"{passed} passed, {failed} failed")
     return 1 if failed else 0
 

@@ -4,7 +4,8 @@
 Each case whose words begin with `run` or `simulate` is run as it stands and with `--json` behind its words; a case that answers a report is run so with
 `--orders` and `--digests` turned round too. The lines of text are read into the value that they mean. The line of JSON has to be the one
 compact spelling of that value, byte for byte: keys in byte order, no space, escapes for `"`, `\\` and control characters alone. Journals
-stand behind both as the same lines. The status is the same, and so is all that is written where there is no report.
+stand behind both as the same lines. The status is the same, and so is all that is written where there is no report. But for the cases at the limits, a run is
+compared once more as one of nodes with jobs.
 Usage: check_json.py PROGRAM
 """
 import concurrent.futures
@@ -18,6 +19,8 @@ import sys
 import tempfile
 
 import limits
+from patience import SECONDS
+from run_cases import split_journals
 
 HERE = os.path.dirname(os.path.abspath(__file__))
 CASES = os.path.join(HERE, "cases")
@@ -132,7 +135,7 @@ def json_wanted(text):
 
 
 def run(program, folder, words):
-    done = subprocess.run([program, *words], cwd=folder, stdin=subprocess.DEVNULL, capture_output=True, timeout=300)
+    done = subprocess.run([program, *words], cwd=folder, stdin=subprocess.DEVNULL, capture_output=True, timeout=SECONDS)
     return done.returncode, done.stdout
 
 
@@ -149,8 +152,13 @@ class Tally:
         print(f"case {name}: wanted status {wanted[0]}, found {found[0]}\n  wanted {wanted[1][:400]!r}\n  found  {found[1][:400]!r}")
 
 
-def compare(program, name, folder, words, tally):
-    """Compares the words with `--json` with what they mean without it, and answers whether that is a report."""
+def nodes_of(words):
+    return int(words[words.index("--nodes") + 1]) if "--nodes" in words else 1
+
+
+def compare(program, name, folder, words, tally, with_jobs=True):
+    """Compares the words with `--json` with what they mean without it, and answers whether that is a report. A run without journals is compared once more with
+    them, so that nodes with jobs make it, and these are left out."""
     status, text = run(program, folder, words)
     found = run(program, folder, [*words, "--json"])
     if status not in REPORTED:
@@ -161,6 +169,9 @@ def compare(program, name, folder, words, tally):
     except ValueError as fault:
         wanted = f"the text is no report: {fault}".encode()
     tally.note(name, (status, wanted), found)
+    if words[0] == "run" and with_jobs and "--trace" not in words:
+        ended, told = run(program, folder, [*words, "--json", "--trace"])
+        tally.note(f"{name}, with jobs", (status, (wanted, nodes_of(words))), (ended, split_journals(told)))
     return True
 
 
@@ -201,7 +212,7 @@ def check_folder(program, name, tally):
 def check_limit(program, number, tally):
     name, files, _, _ = next(itertools.islice(limits.cases(), number, None))
     with scratch_with(files) as scratch:
-        compare(program, name, scratch, ["run", "--app", "a.app", "--blocks", "b.draft"], tally)
+        compare(program, name, scratch, ["run", "--app", "a.app", "--blocks", "b.draft"], tally, with_jobs=False)
 
 
 def checks():

@@ -18,6 +18,7 @@ import tempfile
 from check_journals import Illegal, expected, need
 from check_refusals import APP, Refuser, Run, numbers_of
 from check_refused_starts import IS_ROOT, limited
+from patience import SECONDS
 
 CALLS = ["p", 'add {n} "ann" 50', "pay 1 2 {n}", 'note "a\\"b" x"00ff" true -{n}']
 BANKING = ['add {n} "ann" 50', "pay 1 {n} 5", 'sweep "ann"', "nope"]
@@ -25,7 +26,6 @@ FAULTS = ["tx {id} 01 p", "tx {id} 0  p", "tx {id} 0 p ", "tx {id}", "", "block 
 SIZES = [0, 0, 1, 2, 3, 20, 100, 400]
 MOSTS = [1, 2, 3, 7, 64, 1000, 1024]
 MOST_BLOCKS = 1000000
-SECONDS = 120
 
 
 def drawn_client(draw, client, calls, size):

@@ -15,6 +15,8 @@ import subprocess
 import sys
 import tempfile
 
+from patience import SECONDS
+
 APP = """table acct (id int, owner text, bal int) key (id);
 proc add(i int, o text, b int) { insert acct (i, o, b); }
 proc give(i int, b int) { update acct key (i) set bal = b; }
@@ -22,7 +24,6 @@ proc remove(i int) { delete acct key (i); }
 """
 SIZES = [0, 1, 2, 3, 4, 5, 7, 8, 9, 16, 17, 33]
 LONGEST_DIGESTS, LONGEST_PROOF = 73000010, 262144
-SECONDS = 300
 
 
 class Wrong(Exception):

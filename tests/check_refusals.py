@@ -22,15 +22,16 @@ HERE = os.path.dirname(os.path.abspath(__file__))
 sys.path.insert(0, os.path.join(os.path.dirname(HERE), "bench"))
 
 from accounts import APP
+from patience import SECONDS
 
-SECONDS = 30
 MOST_CHOSEN = 120
 # how a run may end in which a call of a kind was refused
 ENDS = {"growth": (8, 3, 7), "read": (3,), "write": (7,), "start": ()}
-# How many threads a run starts, beside the first one: where one node may gain by executors, as by calls with a loop, two of these, and where something arrives
-# one more; of two nodes two at each, and one of the nodes; of an order its two clients; of a load three nodes, of which one runs on the first thread, and at
+# How many threads a run starts, beside the first one: where one node may gain by executors, as by calls with a loop, two of these, and where something arrives,
+# be it one call alone, one more; of two nodes two at each, and one of the nodes; of an order its two clients; of a load three nodes, of which one runs on the first thread, and at
 # each of them four executors and one that makes the arrivals. One node runs by itself where nothing arrives and no call has a loop. All others start none.
-STARTS = {"one-insert": 0, "phantom-sweep": 2, "two-nodes": 1 + 2 * 2, "side-by-side": 2 + 1, "order-one-of-two": 2, "load": 2 + 3 * (4 + 1)}
+STARTS = {"one-insert": 0, "phantom-sweep": 2, "two-nodes": 1 + 2 * 2, "side-by-side": 2 + 1, "one-arrival": 2 + 1, "order-one-of-two": 2,
+          "load": 2 + 3 * (4 + 1)}
 # how many bytes a read asks for at most, and the options that name files
 PIECE = 65536
 FILES = ("--app", "--blocks", "--arrivals", "--schedule", "--clients", "--files", "--proof")
@@ -52,14 +53,17 @@ def case(name):
         return folder, words.read().split("\n")[:-1]
 
 
-def side_by_side(folder):
-    """Two payments between different accounts, which arrive before their block at a node with two executors."""
+def side_by_side(folder, name, arrived):
+    """Two payments between different accounts, of which so many arrive before their block at a node with two executors."""
+    folder = os.path.join(folder, name)
+    os.mkdir(folder)
     adds = [f'tx a{n} 0 add {n} "ann" 50' for n in range(1, 5)]
     blocks = "".join(f"block {number}\n" + "".join(line + "\n" for line in lines) + "end\n" for number, lines in enumerate((adds, PAYMENTS), 1))
-    for name, text in (("a.app", APP), ("b.draft", "draft 1\n" + blocks), ("arrivals1", "arrivals 1\n" + "".join(line + "\n" for line in PAYMENTS))):
-        with open(os.path.join(folder, name), "w") as out:
+    arrivals = "arrivals 1\n" + "".join(line + "\n" for line in PAYMENTS[:arrived])
+    for file_name, text in (("a.app", APP), ("b.draft", "draft 1\n" + blocks), ("arrivals1", arrivals)):
+        with open(os.path.join(folder, file_name), "w") as out:
             out.write(text)
-    return folder, ["run", "--app", "a.app", "--blocks", "b.draft", "--arrivals", "arrivals", "--executors", "2"]
+    return Run(name, folder, ["run", "--app", "a.app", "--blocks", "b.draft", "--arrivals", "arrivals", "--executors", "2"])
 
 
 def two_nodes():
@@ -97,7 +101,8 @@ def runs(folder):
     names = ["one-insert", "phantom-sweep", "first-hit-wins", "provenance-of-pay", "first-hit-wins-claimed-early", "guide-bank-seal", "json-of-one-insert",
              "guide-bank-changed", "order-one-of-two", "order-bad-client", "guide-heads", "guide-compare", "compare-an-empty-file", "guide-prove", "guide-verify",
              "verify-33-steps"]
-    made = [Run("two-nodes", *two_nodes()), Run("side-by-side", *side_by_side(folder)), *all_stopped(folder), Run("load", folder, ["load", "--number", "1"])]
+    made = [Run("two-nodes", *two_nodes()), side_by_side(folder, "side-by-side", 2), side_by_side(folder, "one-arrival", 1), *all_stopped(folder),
+            Run("load", folder, ["load", "--number", "1"])]
     return [Run(name, *case(name)) for name in names] + made
 
 

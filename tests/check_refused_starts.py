@@ -15,6 +15,7 @@ import tempfile
 
 from check_journals import Illegal, Procedures, check_journal, expected, need, outcomes_of, split_trace
 from draw_schedules import CASES, HERE, blocks_of, read
+from patience import SECONDS
 
 IS_ROOT = os.geteuid() == 0
 THREADS = [1, 2, 3, 6] if IS_ROOT else [1]
@@ -35,7 +36,7 @@ def limited(threads):
 
 
 def output(program, folder, words, begin=None):
-    done = subprocess.run([program, *words], cwd=folder, stdout=subprocess.PIPE, text=True, timeout=120, preexec_fn=begin)
+    done = subprocess.run([program, *words], cwd=folder, stdout=subprocess.PIPE, text=True, timeout=SECONDS, preexec_fn=begin)
     need(done.returncode == 0, f"status {done.returncode}: {done.stdout[:80]}")
     return done.stdout
 

@@ -11,6 +11,8 @@ import subprocess
 import sys
 import tempfile
 
+from patience import SECONDS
+
 HERE = os.path.dirname(os.path.abspath(__file__))
 # cases with contention, each an application and a file of blocks without a fault
 CASES = ["first-hit-wins", "chain-of-three", "chain-of-three-middle-last", "write-skew", "stale-pay", "phantom-sweep", "sweep-untouched", "early-outcomes",
@@ -87,7 +89,7 @@ def tail(blocks):
 
 
 def run(program, folder, words):
-    done = subprocess.run([program, *words], cwd=folder, stdin=subprocess.DEVNULL, capture_output=True, timeout=120)
+    done = subprocess.run([program, *words], cwd=folder, stdin=subprocess.DEVNULL, capture_output=True, timeout=SECONDS)
     return done.returncode, done.stdout
 
 

@@ -1,6 +1,6 @@
 """The load of a number, drawn by another program, and the summary of a report of it.
 
-The rules stand in docs/FORMATS.md. `draft(number)` is the load as a block file, and `summary(number, report)` says of the report of a run with
+The rules stand in docs/CODES.md. `draft(number)` is the load as a block file, and `summary(number, report)` says of the report of a run with
 `--digests` what `load` has to print. So the numbers of a summary come from the lines of a report and not from what counts them.
 """
 

@@ -7,11 +7,16 @@ first line or with an `end` line is a whole draft; of every other one the report
 and ends with the line in which the next byte would stand. A folder `calls-on-..` has a draft of one block and `calls`, in which each
 call has below it what becomes of it in a block of its own behind that one, and the rows that go (-) and come (+) by it, worked out by
 hand. A folder `asks-on-..` has a draft and `asks`: heights, each with a query in which `$` ends a line, and below it the values of each row
-of the answer, or the name by which it is refused, worked out by hand too. Cases at the limits are made by
+of the answer, or the name by which it is refused, worked out by hand too. The folder `proofs-of-known-writes` has drafts whose last block has
+one, two, three and five writes, with the head and the proof files of these as another program made them. The folders `faults-of-applications` and `faults-of-queries` have
+lists of texts, one to a line, worked out by hand from the grammars. `@` stands before the first token that has no place; a text without it is
+in the grammar, `$` ends a line, and a backquote is a tab. An application is given with that token on a line of its own, which the report
+has to name. The faults of queries have the kind by which their file goes, and a query without a mark is answered. Cases at the limits are made by
 tests/limits.py, since their files are large and regular. Loads are drawn by tests/loads.py, and `load` has to
 count what `run` reports of them. Usage: run_cases.py PROGRAM
 """
 import os
+import re
 import shutil
 import subprocess
 import sys
@@ -19,19 +24,26 @@ import tempfile
 
 import limits
 import loads
+from patience import SECONDS
 
 HERE = os.path.dirname(os.path.abspath(__file__))
 CASES = os.path.join(HERE, "cases")
 
 
 def run(program, folder, words):
-    done = subprocess.run([program, *words], cwd=folder, stdin=subprocess.DEVNULL, capture_output=True, timeout=300)
+    done = subprocess.run([program, *words], cwd=folder, stdin=subprocess.DEVNULL, capture_output=True, timeout=SECONDS)
     return done.returncode, done.stdout
 
 
 def read(path):
     with open(path, "rb") as file:
         return file.read()
+
+
+def split_journals(stdout):
+    """A report, and how many journals follow it. A run that writes journals is one of nodes with jobs, also where nothing is gained by executors."""
+    report, *journals = stdout.split(b"\njournal ")
+    return (report + b"\n" if journals else report), len(journals)
 
 
 class Tally:
@@ -135,6 +147,66 @@ def run_asks(program, name, tally):
         tally.note(f"{name}: {ask}", answer_of(said), run(program, folder, words))
 
 
+def lines_of(name):
+    """The texts of a folder, each with the name of its file."""
+    folder = os.path.join(CASES, name)
+    for file_name in sorted(file for file in os.listdir(folder) if "." not in file):
+        for line in read(os.path.join(folder, file_name)).decode().split("\n")[:-1]:
+            yield file_name, line.replace("$", "\n").replace("`", "\t")
+
+
+TOKEN = re.compile(r'x?"[^"\n]*"|[a-z][a-z0-9_]*|[0-9]+|!=|<=|>=|\+\+|[^\n]|')
+
+
+def apart(text):
+    """A text whose mark is gone and whose marked token stands on a line of its own, and the number of that line, or 0."""
+    front, mark, rest = text.partition("@")
+    if not mark:
+        return text, 0
+    token = TOKEN.match(rest).group()
+    ended = f"{token}\n" if token else ""
+    return f"{front}\n{ended}{rest[len(token):]}", front.count("\n") + 2
+
+
+def run_faulty_applications(program, name, tally):
+    with tempfile.TemporaryDirectory() as scratch:
+        with open(os.path.join(scratch, "b.draft"), "wb") as file:
+            file.write(b"draft 1\n")
+        for file_name, line in lines_of(name):
+            text, number = apart(line)
+            with open(os.path.join(scratch, "a.app"), "wb") as file:
+                file.write(text.encode())
+            status, report = run(program, scratch, ["run", "--app", "a.app", "--blocks", "b.draft"])
+            if number:
+                tally.note(f"{name}, {file_name}: {line}", (4, b"refused application %d Syntax\n" % number), (status, report))
+            else:
+                tally.note(f"{name}, {file_name}: {line}", (True, False), (status in (0, 4), report.endswith(b" Syntax\n")))
+
+
+def run_faulty_queries(program, name, tally):
+    folder = os.path.join(CASES, name)
+    files = ["--app", "a.app", "--blocks", "b.draft"]
+    for kind, line in lines_of(name):
+        wanted = (9, b"refused query %s\n" % kind.encode()) if "@" in line else (0, b"done\n")
+        words = ["query", *files, "--height", "0", "--text", line.replace("@", "")]
+        tally.note(f"{name}, {kind}: {line}", wanted, run(program, folder, words))
+
+
+def run_known_writes(program, name, tally):
+    folder = os.path.join(CASES, name)
+    for count in (1, 2, 3, 5):
+        files = ["--app", "a.app", "--blocks", f"{count}.draft"]
+        head = read(os.path.join(folder, f"{count}.head")).decode().strip()
+        status, heads = run(program, folder, ["checkpoint", *files, "--heads"])
+        tally.note(f"{name}: head of {count}", (0, [b"heads 1", b"2 " + head.encode()]), (status, heads.splitlines()[::2]))
+        for index in range(1, count + 1):
+            file = f"{count}-{index}.proof"
+            proved = run(program, folder, ["prove", *files, "--block", "2", "--write", str(index)])
+            tally.note(f"{name}: {file}", (0, read(os.path.join(folder, file))), proved)
+            for top, said in ((head, b"yes\n"), (64 * "0", b"no\n")):
+                tally.note(f"{name}: {file} by {top}", (0, said), run(program, folder, ["verify", "--proof", file, "--head", top]))
+
+
 def run_limits(program, tally):
     for name, files, wanted_status, is_wanted in limits.cases():
         with tempfile.TemporaryDirectory() as scratch:
@@ -168,6 +240,12 @@ def main():
             run_calls(program, name, tally)
         elif name.startswith("asks-on-"):
             run_asks(program, name, tally)
+        elif name == "faults-of-applications":
+            run_faulty_applications(program, name, tally)
+        elif name == "faults-of-queries":
+            run_faulty_queries(program, name, tally)
+        elif name == "proofs-of-known-writes":
+            run_known_writes(program, name, tally)
         else:
             run_folder(program, name, tally)
     run_limits(program, tally)

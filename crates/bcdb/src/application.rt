@@ -21,7 +21,7 @@ use std::alloc::Global;
 pub const LONGEST_APPLICATION: u64 = 1048576;
 
 /// Why there is no application.
-#[derive(Clone, Copy, Debug, PartialEq, Eq)]
+#[derive(Clone, Copy, PartialEq, Eq)]
 pub enum AppFault {
     NoMemory,
     /// The bytes are too many, outside the grammar or not well typed.

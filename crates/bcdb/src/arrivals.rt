@@ -18,7 +18,7 @@ use tx_text::laws::{arrival_faults_last, arrivals_are_bounded};
 use tx_text::{ArrivalFault, ArrivalReader};
 
 /// What one more piece of a file came to.
-#[derive(Clone, Copy, Debug, PartialEq, Eq)]
+#[derive(Clone, Copy, PartialEq, Eq)]
 pub enum ArrivalPiece {
     /// So many bytes more were read.
     More(usize),

@@ -22,7 +22,7 @@ use std::alloc::Global;
 use std::sync::Arc;
 
 /// What one more piece of a file came to.
-#[derive(Clone, Copy, Debug, PartialEq, Eq)]
+#[derive(Clone, Copy, PartialEq, Eq)]
 pub enum ChainPiece {
     /// So many bytes more were read.
     More(usize),

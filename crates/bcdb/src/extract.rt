@@ -21,7 +21,7 @@ use row_sets::{Versions, block_from};
 use std::alloc::Global;
 
 /// What is drawn from the results of blocks.
-#[derive(Clone, Copy, Debug, PartialEq, Eq)]
+#[derive(Clone, Copy, PartialEq, Eq)]
 pub enum Extract {
     /// The digest of each block, or the head of its writes.
     Hashes { heads: bool },

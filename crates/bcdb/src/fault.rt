@@ -4,7 +4,7 @@ use rel_base::NoMemory;
 use std::alloc::AllocError;
 
 /// Why the files that the words name give no answer.
-#[derive(Clone, Copy, Debug, PartialEq, Eq)]
+#[derive(Clone, Copy, PartialEq, Eq)]
 pub enum FilesFault {
     /// Memory ran out.
     NoMemory,

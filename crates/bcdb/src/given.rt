@@ -52,7 +52,7 @@ pub struct Given {
 }
 
 /// Which file is refused first, and why.
-#[derive(Clone, Copy, Debug, PartialEq, Eq)]
+#[derive(Clone, Copy, PartialEq, Eq)]
 pub enum BadSource {
     App(Refusal),
     Arrivals(BadArrivals),

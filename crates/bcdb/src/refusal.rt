@@ -13,7 +13,7 @@ use rel_base::{List, NoMemory};
 use std::alloc::Global;
 
 /// What is wrong with an application.
-#[derive(Clone, Copy, Debug, PartialEq, Eq)]
+#[derive(Clone, Copy, PartialEq, Eq)]
 pub enum RefusalKind {
     /// It has more bytes than an application may have.
     TooLong,
@@ -25,21 +25,21 @@ pub enum RefusalKind {
 
 /// Why an application is refused: the line on which it is wrong, from 1, and what is wrong there. Of one that is too long the line
 /// is 0.
-#[derive(Clone, Copy, Debug, PartialEq, Eq)]
+#[derive(Clone, Copy, PartialEq, Eq)]
 pub struct Refusal {
     pub line: u32,
     pub kind: RefusalKind,
 }
 
 /// Why what arrives is refused, or what a client submits: the number of the node or client, and the first line of its file that has a fault.
-#[derive(Clone, Copy, Debug, PartialEq, Eq)]
+#[derive(Clone, Copy, PartialEq, Eq)]
 pub struct BadArrivals {
     pub node: u32,
     pub line: u64,
 }
 
 /// Why the digests of peers are refused: the peer, and the first bad line of its file, which is 0 where the file is too long.
-#[derive(Clone, Copy, Debug, PartialEq, Eq)]
+#[derive(Clone, Copy, PartialEq, Eq)]
 pub struct BadDigests {
     pub peer: u32,
     pub line: u64,

@@ -7,7 +7,7 @@ ghost use Rattle.bcdb.specs.Numbers.{number_of_status};
 use std::process::ExitCode;
 
 /// The status with which the program ends.
-#[derive(Clone, Copy, Debug, PartialEq, Eq)]
+#[derive(Clone, Copy, PartialEq, Eq)]
 pub enum Status {
     /// All input was read to its end, and the answer is written.
     Done = 0,

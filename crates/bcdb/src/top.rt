@@ -84,8 +84,9 @@ fn serve<R: Threads + Wait + Sync, S: Shelf, W: Sink, G: Gate>(
 /// Does what the words ask for, over the files that they name, and writes the answer.
 ///
 /// The answer to the words over the files of the shelf is a definition that shares no code with the program: the report of nodes that
-/// each make one fold over the blocks, or of what a schedule comes to, the versions that a query selects in it, the blocks as a chain
-/// or the summary of a load; or the refusal that comes first. So for every permitted number of nodes and of executors, whatever arrives,
+/// each make one fold over the blocks, or of what a schedule comes to; the versions that a query selects in the fold, or its answer to
+/// a query of the tables at a height; the digests of the blocks or the heads of their writes, and the proof of a write; whether a proof
+/// leads to a head, and where the digests of peers part; the blocks as a chain; the summary of a load; or the refusal that comes first. So for every permitted number of nodes and of executors, whatever arrives,
 /// and for every interleaving of the turns of the nodes' locks, a run reports the same results at each node: the fold of the blocks. If
 /// journals are asked for, those of as many nodes follow: each is one that steps can make, delivers these blocks and comes to these
 /// results. An order answers a draft in which what the clients submit is merged, and which is read back as its blocks, whatever

@@ -10,21 +10,21 @@ use crate::lent::{LentResult, encode_lent};
 use crate::write_block::encode;
 use node_model::BlockResult;
 use rel_base::NoMemory;
-use sha2::{Digest, Sha256};
+use sha_lanes::Hasher;
 use std::alloc::Global;
 
 /// The SHA-256 of a digest and the bytes after it.
 fn digest_behind(previous: &[u8; 32], code: &[u8]) -> [u8; 32]
     ensures { result ≡ sha256 (previous.now ++ code.now) }
 {
-    let mut hasher = Sha256::new();
-    hasher.update(previous.as_slice());
+    let mut hasher = Hasher::new();
+    hasher.update(previous);
     hasher.update(code);
     hasher.finalize()
 }
 
 /// The digest of a block's result, where the block before has a digest: before the first block, `NO_DIGEST` of `node_model`. The
-/// digest and the time that the result holds have no part in it. There are fewer than 2^32 outcomes, positions and writes, and at
+/// digest that the result holds has no part in it, its time has. There are fewer than 2^32 outcomes, positions and writes, and at
 /// most 32 values in each key and row. The only refusal is out of memory, which is taken for the code of the result.
 pub fn digest_of(
     alloc: Global,

@@ -187,11 +187,12 @@ impl<V: Versions> Chain<V> {
         Ok(())
     }
 
-    /// The results of the blocks, the tables after the last of them, and a journal; beside them the store, of which nothing is promised.
+    /// The results of the blocks, the tables after the last of them, and a journal; beside them the store.
     pub fn close(self, journal: List<Entry>) -> Result<(NodeResult, V), NoMemory>
         requires store { StoreFits self.app.value.app (V.tables self.versions) (V.history self.versions) self.blocks }
-        ensures { IfOk result (λ made. (chain : List SealedBlock) → HoldsChain (tables_of self.app.value.app) chain (V.history self.versions) self.blocks
+        ensures report { IfOk result (λ made. (chain : List SealedBlock) → HoldsChain (tables_of self.app.value.app) chain (V.history self.versions) self.blocks
             → made.0 ≡ record { blocks = results_of (tables_of self.app.value.app) chain; tables = all_rows (snapshot (length chain) chain) 0 (tables_of self.app.value.app); journal = journal }) }
+        ensures store { IfOk result (λ made. V.history made.1 ≡ V.history self.versions) }
     {
         let tables = list_tables(
             self.alloc,

@@ -1,6 +1,6 @@
 -- What the reader keeps, against what is meant.
 use Rattle.std.specs.Prelude.{◌≡◌, ℕ, List, ◌∷◌, [], ◌++◌, Option, Some, None, Result, Ok, Err}
-use Rattle.sha2.specs.Hashers.{Holds256}
+use Rattle.sha_lanes.specs.Absorbed.{Holds}
 use Rattle.proc_syntax.specs.declared.call.Block.{Block}
 use Rattle.proc_syntax.specs.declared.chain_fault.ChainFault.{ChainFault}
 use Rattle.chain_file.specs.declared.form.FileKind.{FileKind}
@@ -31,7 +31,7 @@ kind_of (place.Within f count time txs) = f.kind
 -- begun; of a draft it knows nothing
 abbrev pub Knows : FileKind → Hashes → List ℕ → List ℕ → Type 0
 Knows file.Draft h digits bytes = Unit {0}
-Knows file.Chain h digits bytes = (h.digits ≡ digits) × Holds256 h.block bytes
+Knows file.Chain h digits bytes = (h.digits ≡ digits) × Holds h.block bytes
 
 -- the code knows this before a line
 abbrev pub Stands : LinePoint → Hashes → Position → Type 0

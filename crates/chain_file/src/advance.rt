@@ -38,7 +38,7 @@ impl Standing {
 }
 
 /// Why nothing is known after a line.
-#[derive(Clone, Copy, Debug, PartialEq, Eq)]
+#[derive(Clone, Copy, PartialEq, Eq)]
 pub enum LineStop {
     /// Memory ran out.
     NoMemory,

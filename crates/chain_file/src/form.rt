@@ -7,7 +7,7 @@ ghost use Rattle.chain_file.specs.Headers.{file_form, form_said};
 use tx_text::split_line;
 
 /// The two versions of a block file.
-#[derive(Clone, Copy, Debug, PartialEq, Eq)]
+#[derive(Clone, Copy, PartialEq, Eq)]
 pub enum ChainVersion {
     /// Blocks have no times.
     One,
@@ -16,7 +16,7 @@ pub enum ChainVersion {
 }
 
 /// The two kinds of block files.
-#[derive(Clone, Copy, Debug, PartialEq, Eq)]
+#[derive(Clone, Copy, PartialEq, Eq)]
 pub enum FileKind {
     /// Blocks name no hash.
     Draft,
@@ -25,7 +25,7 @@ pub enum FileKind {
 }
 
 /// The form of a block file, which its header says.
-#[derive(Clone, Copy, Debug, PartialEq, Eq)]
+#[derive(Clone, Copy, PartialEq, Eq)]
 pub struct FileForm {
     pub kind: FileKind,
     pub version: ChainVersion,

@@ -1,7 +1,7 @@
 //! The hashes of blocks.
 
 ghost use Rattle.std.specs.Prelude.{◌≡◌, ◌++◌, ℕ, List, [], length, IfOk};
-ghost use Rattle.sha2.specs.Hashers.{Holds256};
+ghost use Rattle.sha_lanes.specs.Absorbed.{Holds};
 ghost use Rattle.hex.specs.Hex.{encode_lower};
 ghost use Rattle.tx_text.specs.Parts.{line_text};
 ghost use Rattle.chain_file.specs.Chain.{hash_digits, no_digits};
@@ -9,7 +9,7 @@ ghost use Rattle.chain_file.specs.Following.{Knows};
 
 use crate::form::FileKind;
 use rel_base::NoMemory;
-use sha2::{Digest, Sha256};
+use sha_lanes::Hasher;
 
 /// The hash that the first block of a chain names.
 pub const NO_DIGITS: [u8; 64] = [b'0'; 64];
@@ -20,7 +20,7 @@ pub struct Hashes {
     /// The digits of the hash of the block before.
     pub digits: [u8; 64],
     /// The hash of the block that has begun, as far as it goes.
-    pub block: Sha256,
+    pub block: Hasher,
 }
 
 impl Hashes {
@@ -30,7 +30,7 @@ impl Hashes {
     {
         Hashes {
             digits: NO_DIGITS,
-            block: Sha256::new(),
+            block: Hasher::new(),
         }
     }
 
@@ -40,7 +40,7 @@ impl Hashes {
     {
         Ok(Hashes {
             digits: self.digits,
-            block: self.block.clone()?,
+            block: self.block,
         })
     }
 
@@ -62,7 +62,7 @@ impl Hashes {
             FileKind::Draft => {}
             FileKind::Chain => {
                 add_line(&mut self.block, line);
-                let block = std::mem::replace(&mut self.block, Sha256::new());
+                let block = std::mem::replace(&mut self.block, Hasher::new());
                 self.digits = digits_of(block);
             }
         }
@@ -70,11 +70,11 @@ impl Hashes {
 }
 
 /// Puts a line and its newline after what the hash holds.
-fn add_line(hash: &mut Sha256, line: &[u8])
-    ensures { (bytes : List ℕ) → Holds256 hash.old bytes → Holds256 hash.new (bytes ++ line_text line.now) }
+fn add_line(hash: &mut Hasher, line: &[u8])
+    ensures { (bytes : List ℕ) → Holds hash.old bytes → Holds hash.new (bytes ++ line_text line.now) }
 {
     hash.update(line);
-    hash.update(b"\n".as_slice());
+    hash.update(b"\n");
 }
 
 /// Bytes as hexadecimal digits.
@@ -88,8 +88,8 @@ fn hex_of(digest: &[u8; 32]) -> [u8; 64]
 }
 
 /// The digits of a hash.
-fn digits_of(hash: Sha256) -> [u8; 64]
-    ensures { (bytes : List ℕ) → Holds256 hash bytes → result ≡ hash_digits bytes }
+fn digits_of(hash: Hasher) -> [u8; 64]
+    ensures { (bytes : List ℕ) → Holds hash bytes → result ≡ hash_digits bytes }
 {
     hex_of(&hash.finalize())
 }
@@ -98,5 +98,7 @@ fn digits_of(hash: Sha256) -> [u8; 64]
 pub fn digits_of_bytes(bytes: &[u8]) -> [u8; 64]
     ensures { result ≡ hash_digits bytes.now }
 {
-    hex_of(&Sha256::digest(bytes))
+    let mut hasher = Hasher::new();
+    hasher.update(bytes);
+    digits_of(hasher)
 }

@@ -21,7 +21,7 @@ use tx_text::field::split_word;
 use tx_text::{LineFault, MOST_LINE_BYTES, read_tx};
 
 /// Why a line leaves nothing.
-#[derive(Clone, Copy, Debug, PartialEq, Eq)]
+#[derive(Clone, Copy, PartialEq, Eq)]
 pub enum StepFault {
     /// Memory ran out.
     NoMemory,

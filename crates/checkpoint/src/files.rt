@@ -14,7 +14,7 @@ use tx_text::field::strip;
 use tx_text::split_line;
 
 /// Why bytes are no digest file.
-#[derive(Clone, Copy, Debug, PartialEq, Eq)]
+#[derive(Clone, Copy, PartialEq, Eq)]
 pub enum DigestFault {
     /// Memory ran out.
     NoMemory,

@@ -4,7 +4,7 @@ ghost use Rattle.std.specs.Prelude.{◌≡◌};
 ghost use Rattle.cli_words.specs.Language.{no_flags};
 
 /// The form of a report, and what it shows of each block besides the outcomes of its transactions. A flag is on exactly where its option was given.
-#[derive(Clone, Copy, Debug, PartialEq, Eq)]
+#[derive(Clone, Copy, PartialEq, Eq)]
 pub struct Flags {
     /// `--orders`: the positions of the committed transactions in their serial order.
     pub orders: bool,

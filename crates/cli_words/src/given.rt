@@ -7,7 +7,7 @@ use crate::options::{CommandOption, Takes, option_of};
 use crate::value::fits;
 
 /// What one more word is.
-#[derive(Clone, Copy, Debug, PartialEq, Eq)]
+#[derive(Clone, Copy, PartialEq, Eq)]
 pub enum NextWord {
     /// Neither an option nor the value that is awaited.
     Bad,

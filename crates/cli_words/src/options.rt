@@ -6,7 +6,7 @@ ghost use Rattle.cli_words.specs.Table.{is_same, option_in, option_of, takes_of,
 use crate::command::Command;
 
 /// An option, by its word.
-#[derive(Clone, Copy, Debug, PartialEq, Eq)]
+#[derive(Clone, Copy, PartialEq, Eq)]
 pub enum CommandOption {
     /// `--app`, the application's file.
     App,
@@ -84,7 +84,7 @@ pub const OPTIONS: [CommandOption; 23] = [
 ];
 
 /// What follows the word of an option.
-#[derive(Clone, Copy, Debug, PartialEq, Eq)]
+#[derive(Clone, Copy, PartialEq, Eq)]
 pub enum Takes {
     /// Nothing.
     Nothing,
@@ -102,7 +102,7 @@ pub enum Takes {
 }
 
 /// How often a command takes an option.
-#[derive(Clone, Copy, Debug, PartialEq, Eq)]
+#[derive(Clone, Copy, PartialEq, Eq)]
 pub enum Use {
     /// Never.
     No,

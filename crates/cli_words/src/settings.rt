@@ -111,7 +111,7 @@ pub enum Settings {
 }
 
 /// Why there are no settings.
-#[derive(Clone, Copy, Debug, PartialEq, Eq)]
+#[derive(Clone, Copy, PartialEq, Eq)]
 pub enum WordsFault {
     /// Memory ran out.
     NoMemory,

@@ -4,7 +4,7 @@ use rel_base::Id;
 use std::sync::Wait;
 
 /// Where an actor is, outside each turn.
-#[derive(Clone, Copy, Debug, PartialEq, Eq)]
+#[derive(Clone, Copy, PartialEq, Eq)]
 pub enum Point {
     /// It has claimed a job.
     Claimed,
@@ -23,7 +23,7 @@ pub trait Gate: Sync {
 }
 
 /// The gate that holds nobody.
-#[derive(Clone, Copy, Debug, PartialEq, Eq)]
+#[derive(Clone, Copy, PartialEq, Eq)]
 pub struct NoGate;
 
 impl Gate for NoGate {

@@ -12,7 +12,7 @@ use rel_base::{List, Write};
 
 /// A write conflict: the position of the transaction that wrote the key first, and the place, from 0, of the write among
 /// those that were asked about.
-#[derive(Clone, Copy, Debug, PartialEq, Eq)]
+#[derive(Clone, Copy, PartialEq, Eq)]
 pub struct ClashRef {
     pub with: u32,
     pub index: usize,

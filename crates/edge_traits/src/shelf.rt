@@ -5,7 +5,7 @@ ghost use Rattle.edge_traits.specs.Causes.{Rose, Counts, NoneFell, Leave, Keeps}
 ghost use Rattle.edge_traits.specs.Shelf.{Files, IsPiece};
 
 /// A read that failed.
-#[derive(Clone, Copy, Debug, PartialEq, Eq)]
+#[derive(Clone, Copy, PartialEq, Eq)]
 pub struct ShelfFailed;
 
 /// Files by their names.

@@ -11,7 +11,7 @@ use rel_base::List;
 use std::alloc::{AllocError, Global};
 
 /// Why a file was not read whole.
-#[derive(Clone, Copy, Debug, PartialEq, Eq)]
+#[derive(Clone, Copy, PartialEq, Eq)]
 pub enum FetchFault {
     /// Memory ran out.
     NoMemory,

@@ -10,7 +10,7 @@ use rel_base::{List, NoMemory, Str, StrFault, Value};
 use std::alloc::Global;
 
 /// What a drawn transaction calls.
-#[derive(Clone, Copy, Debug, PartialEq, Eq)]
+#[derive(Clone, Copy, PartialEq, Eq)]
 pub enum CallKind {
     /// Money goes from one account to another.
     Pay,

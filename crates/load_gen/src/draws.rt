@@ -17,7 +17,7 @@ fn step(state: u64) -> u64
 }
 
 /// Draws one after another.
-#[derive(Clone, Copy, Debug)]
+#[derive(Clone, Copy)]
 pub struct Draws {
     pub state: u64,
 }

@@ -3,7 +3,7 @@
 use rel_base::{List, Place, Seen};
 
 /// The answer to an arrival.
-#[derive(Clone, Copy, Debug, PartialEq, Eq)]
+#[derive(Clone, Copy, PartialEq, Eq)]
 pub enum Arrived {
     /// The transaction waits as a new job.
     Queued,
@@ -14,7 +14,7 @@ pub enum Arrived {
 }
 
 /// How far a held job is.
-#[derive(Clone, Copy, Debug, PartialEq, Eq)]
+#[derive(Clone, Copy, PartialEq, Eq)]
 pub enum Next {
     /// It wants a read.
     Wants,
@@ -25,7 +25,7 @@ pub enum Next {
 }
 
 /// The answer to a read.
-#[derive(Clone, Copy, Debug, PartialEq, Eq)]
+#[derive(Clone, Copy, PartialEq, Eq)]
 pub enum Got {
     /// The job has its rows.
     Rows,
@@ -36,7 +36,7 @@ pub enum Got {
 }
 
 /// The answer to the end of a run.
-#[derive(Clone, Copy, Debug, PartialEq, Eq)]
+#[derive(Clone, Copy, PartialEq, Eq)]
 pub enum Finished {
     /// The job is done.
     Kept,
@@ -45,7 +45,7 @@ pub enum Finished {
 }
 
 /// The answer to a delivery.
-#[derive(Clone, Copy, Debug, PartialEq, Eq)]
+#[derive(Clone, Copy, PartialEq, Eq)]
 pub enum Delivered {
     /// The block is in work.
     Taken,
@@ -56,7 +56,7 @@ pub enum Delivered {
 }
 
 /// The answer to a commit.
-#[derive(Clone, Copy, Debug, PartialEq, Eq)]
+#[derive(Clone, Copy, PartialEq, Eq)]
 pub enum Decided {
     /// The transaction at this position is decided.
     Outcome { pos: u32 },
@@ -69,7 +69,7 @@ pub enum Decided {
 }
 
 /// The answer to a seal.
-#[derive(Clone, Copy, Debug, PartialEq, Eq)]
+#[derive(Clone, Copy, PartialEq, Eq)]
 pub enum Sealed {
     /// The block of this number is sealed, with this digest.
     Digest { number: u64, digest: [u8; 32] },

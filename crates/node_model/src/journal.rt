@@ -32,7 +32,7 @@ pub struct Entry {
 }
 
 /// Which job an actor asks for.
-#[derive(Clone, Copy, Debug, PartialEq, Eq)]
+#[derive(Clone, Copy, PartialEq, Eq)]
 pub enum Pick {
     /// Of the jobs that wait and whose height is sealed, in order of number, the one at this place modulo their count, from 0.
     Nth(u64),

@@ -8,7 +8,7 @@ use crate::outcome::Outcome;
 use proc_syntax::Fault;
 
 /// What became of a transaction, without what it names.
-#[derive(Clone, Copy, Debug, PartialEq, Eq)]
+#[derive(Clone, Copy, PartialEq, Eq)]
 pub enum OutcomeKind {
     Committed,
     DuplicateId,

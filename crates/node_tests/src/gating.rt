@@ -12,8 +12,8 @@ pub const READS: u32 = 4;
 // A payment that has come to its end.
 const ENDED: u32 = READS + 1;
 
-// How often one that is held lets others run before it gives up.
-const PATIENCE: u32 = 10_000_000;
+/// How often one that is held lets others run before it gives up: some half a minute where nobody else wants its processor.
+pub const PATIENCE: u32 = 100_000_000;
 
 /// Holds the payments `p1` and `p2` after each of their reads until the other has made as many, and the processor before block 2 until both
 /// have come to their ends.

@@ -1,10 +1,14 @@
-//! Tests of the node that threads share: worked runs whole, one of them in an order of reads that a gate holds.
+//! Tests of the node that threads share: worked runs whole, some of them in orders that a gate holds.
 #![tactic(auto)]
 
 #[cfg(test)]
 mod calls;
 #[cfg(test)]
 mod gating;
+#[cfg(test)]
+mod held_jobs;
+#[cfg(test)]
+mod holding;
 #[cfg(test)]
 mod journals;
 #[cfg(test)]

@@ -68,6 +68,10 @@ pub record QueueRule (items : List Ticket) (views : List PassView) : Type 0 wher
   pub each : (i : ℕ) (v : PassView) → get_elem? views i ≡ some v → Fits got items views i v
   pub no_other : (k : ℕ) → (k ≡ 0) ⊎ (length views ≤ k) → tickets_of k (got ++ items) ≡ []
 
+-- how many tickets the queue holds at most
+abbrev pub most_held : ℕ
+most_held = 64
+
 -- the caller's pass, at first
 abbrev pub first_view : PassView
 first_view = record { gets = true; sends = false; from = 0; put = 0; ended = false; got = []; made = 0; known = [] }

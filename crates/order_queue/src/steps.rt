@@ -1,7 +1,7 @@
 // The steps on the queue, each with what it tells its pass.
 ghost use Rattle.std.specs.Prelude.{◌≡◌, true, false, IfOk, MatchOption};
-ghost use Rattle.crossbeam_queue.specs.Passes.{view, IsPassOf};
-ghost use Rattle.order_queue.specs.Rule.{first_view, put_view, ended_view, took_view, more_view, client_view, knowing_view, AllPut};
+ghost use Rattle.crossbeam_queue.specs.Passes.{view, IsPassOf, ruled_capacity};
+ghost use Rattle.order_queue.specs.Rule.{first_view, most_held, put_view, ended_view, took_view, more_view, client_view, knowing_view, AllPut};
 
 use crate::protocol::{Fork, PutEnd, PutTicket, Take, TicketPass, TicketQueue};
 use crate::ticket::Ticket;
@@ -14,7 +14,8 @@ const CAPACITY: usize = 64;
 
 /// An empty queue, with the caller's pass, which has number 0.
 pub fn open(alloc: Global) -> Result<(TicketQueue, TicketPass), NoMemory>
-    ensures { IfOk result (λ r. IsPassOf r.0 r.1 × (view r.1 ≡ first_view)) }
+    ensures pass { IfOk result (λ r. IsPassOf r.0 r.1 × (view r.1 ≡ first_view)) }
+    ensures capacity { IfOk result (λ r. ruled_capacity r.0 ≡ most_held) }
 {
     let opened = TicketQueue::ruled(alloc, CAPACITY)?;
     Ok(opened)

@@ -1,7 +1,8 @@
 // The order in which the clients' transactions come: each client puts its tickets in a thread of its own, and the caller takes them.
-ghost use Rattle.std.specs.Prelude.{◌≡◌, ℕ, ◌==◌, ◌+◌, ◌*◌, ◌<◌, ◌≤◌, true, false, [], length, IfOk, All, slice_index, vec_capacity, vec_len};
+ghost use Rattle.std.specs.Prelude.{◌≡◌, ℕ, ◌==◌, ◌+◌, ◌*◌, ◌<◌, ◌≤◌, true, false, [], length, IfOk, All, slice_index, sum, vec_capacity, vec_len};
 ghost use Rattle.std.specs.List.{count_by};
-ghost use Rattle.crossbeam_queue.specs.Passes.{view, IsPassOf};
+ghost use Rattle.crossbeam_queue.specs.Passes.{view, IsPassOf, ruled_capacity};
+ghost use Rattle.order_queue.specs.Rule.{most_held};
 ghost use Rattle.order_queue.specs.Standing.{HasAll, IsCaller, IsCallerOf, IsClient, IsClientOf};
 ghost use Rattle.order_queue.specs.Works.{AreWorks, WorksFor, known_of};
 ghost use Rattle.proc_syntax.specs.Limits.{most_clients};
@@ -35,6 +36,7 @@ fn flags_for(alloc: Global, clients: usize) -> Result<Vec<AtomicBool>, NoMemory>
 // How many transactions the clients have together.
 fn sum_of(counts: &[u32]) -> usize
     requires few { length counts.now ≤ most_clients }
+    ensures { result ≡ sum counts.now }
 {
     let mut total = 0usize;
     for count in counts {
@@ -43,11 +45,14 @@ fn sum_of(counts: &[u32]) -> usize
     total
 }
 
-// A queue, and a caller who has taken nothing from it and has room for all clients' transactions.
+// A queue, and a caller who has taken nothing from it. The room of the queue, and that for a note of each client's transactions, is taken
+// here, before any thread starts.
 fn begin(alloc: Global, counts: &[u32]) -> Result<(Shared, Caller), NoMemory>
     requires few { length counts.now ≤ most_clients }
     ensures caller { IfOk result (λ begun. IsCallerOf begun.0.queue begun.1) }
     ensures new { IfOk result (λ begun. ((view begun.1.pass).known ≡ []) × ((view begun.1.pass).made ≡ 0)) }
+    ensures capacity { IfOk result (λ begun. ruled_capacity begun.0.queue ≡ most_held) }
+    ensures room { IfOk result (λ begun. (begun.1.from.items ≡ []) × (sum counts.now ≤ vec_capacity begun.1.from)) }
 {
     let from = Vec::with_capacity(alloc, sum_of(counts))?;
     let (queue, pass) = open(alloc)?;

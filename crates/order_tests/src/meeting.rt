@@ -5,13 +5,17 @@ use std::sync::Wait;
 use std::sync::atomic::{AtomicBool, AtomicU32, Ordering};
 use std::thread;
 
-// How many times clients meet.
-const MEETINGS: u32 = 3;
+// How many transactions each client has.
+const PUTS: u32 = 3;
 
-// How often a client that waits for the other lets others run, before it gives up.
-const MOST_YIELDS: u32 = 10_000_000;
+// How many times clients meet: once for each transaction, and once for their ends.
+const MEETINGS: u32 = PUTS + 1;
 
-/// Holds each of two clients at each of its first three puts until the other has come to its put of the same index.
+// How often a client that waits for the other lets others run, before it gives up: some half a minute where nobody else wants its processor.
+const MOST_YIELDS: u32 = 100_000_000;
+
+/// Holds each of two clients with three transactions each at each of its puts, that of its end too, until the other has come to its put of
+/// the same index. It fails where a client does not come once to each index, in order.
 #[derive(Drop)]
 pub struct Meeting {
     first: AtomicU32,
@@ -31,7 +35,7 @@ impl Meeting {
         }
     }
 
-    /// Whether each of the two has met the other each time.
+    /// Whether each of the two has come once to each of its puts, and has met the other there.
     pub fn has_met(&self) -> bool {
         !self.failed.load(Ordering::SeqCst) && self.met.load(Ordering::SeqCst) == 2 * MEETINGS
     }
@@ -51,16 +55,15 @@ impl Meeting {
 
 impl Pace for Meeting {
     fn pause<R: Wait>(&self, _rt: &R, client: u32, index: u32) {
-        if index >= MEETINGS {
-            return;
-        }
-        let here = index + 1;
         let (own, other) = if client == 1 {
             (&self.first, &self.second)
         } else {
             (&self.second, &self.first)
         };
-        own.store(here, Ordering::SeqCst);
+        let here = index.saturating_add(1);
+        if own.swap(here, Ordering::SeqCst) != index {
+            self.failed.store(true, Ordering::SeqCst);
+        }
         self.wait_for(other, here);
     }
 }

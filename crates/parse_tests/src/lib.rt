@@ -1,9 +1,13 @@
-//! Tests of the parser and the printer of applications: where texts stop, and how a print is laid out.
+//! Tests of the parsers and of the printer: the places at which texts are refused, how the sources of queries are read, and how a print is laid out.
 #![tactic(auto)]
 
 #[cfg(test)]
-mod declaration_cases;
+mod declared;
 #[cfg(test)]
-mod expression_cases;
+mod places;
 #[cfg(test)]
-mod tests;
+mod plans;
+#[cfg(test)]
+mod prints;
+#[cfg(test)]
+mod texts;

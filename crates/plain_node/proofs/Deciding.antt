@@ -1,5 +1,5 @@
 -- What is decided of a transaction is what the definition decides.
-use Rattle.std.proofs.Common.{Bool, List, None, Some, [], ap, arith, length, refl, subst, sym, ◌++◌, ◌+◌, ◌-◌, ◌∙◌, ◌≡◌, ◌∷◌, ℕ}
+use Rattle.std.proofs.Common.{Bool, Err, List, None, Ok, OnOk, Result, Some, [], ap, arith, length, refl, subst, sym, ◌++◌, ◌+◌, ◌-◌, ◌∙◌, ◌≡◌, ◌∷◌, ℕ}
 use Rattle.std.specs.List.{list_any}
 use Rattle.std.specs.Prelude.{ℤ}
 use Rattle.std.specs.Str.{bytes_eq}
@@ -68,15 +68,6 @@ module _ (app : App) (sealed : List SealedBlock) (history : List Stamped) (numbe
 
 -- ---- the block in work
 
--- a decision stays one where the block in work gets room
-pub decision_stays : (tables : List TableDef) (old new : BlockInWork) (decided : TxDecision) → IsSameWork old new → IsConsistent tables new → IsDecision tables old decided → IsDecision tables new decided
-decision_stays tables old new (Commits ran edges) same consistent can = record {
-  consistent = consistent;
-  fits = can.fits;
-  own = subst (λ all. AreOwnEdges tables all ran edges) (sym same.committed) can.own;
-}
-decision_stays tables old new (Aborts cause) same consistent is = is
-
 same_work : (old new : BlockInWork) → IsSameWork old new → work_of new ≡ work_of old
 same_work old new same = λ i. record { outcomes = same.outcomes i; committed = same.committed i }
 
@@ -90,15 +81,13 @@ outcomes_with work id (Commits ran edges) = refl
 outcomes_with work id (Aborts cause) = refl
 
 -- with what was decided, the block in work has one outcome more
-pub one_more : (old reserved new : BlockInWork) (id : List ℕ) (decided : TxDecision) → IsSameWork old reserved → work_of new ≡ with_decided (work_of reserved) id decided
-    → new.outcomes.items ≡ old.outcomes.items ++ record { id = id; outcome = found_by decided } ∷ []
-one_more old reserved new id decided same is =
-    ap (λ (work : Work). work.outcomes) is ∙ outcomes_with (work_of reserved) id decided ∙ ap (λ outcomes. outcomes ++ record { id = id; outcome = found_by decided } ∷ []) same.outcomes
+pub one_more : (old new : BlockInWork) (id : List ℕ) (decided : TxDecision) → work_of new ≡ with_decided (work_of old) id decided → new.outcomes.items ≡ old.outcomes.items ++ record { id = id; outcome = found_by decided } ∷ []
+one_more old new id decided is = ap (λ (work : Work). work.outcomes) is ∙ outcomes_with (work_of old) id decided
 
--- and it is the block in work of the definition
-pub goes_on : (old reserved new : BlockInWork) (id own : List ℕ) (decided : TxDecision) (whole : Work) → IsSameWork old reserved → id ≡ own → work_of new ≡ with_decided (work_of reserved) id decided
-    → with_decided (work_of old) own decided ≡ whole → work_of new ≡ whole
-goes_on old reserved new id own decided whole same named is decides = is ∙ (λ i. with_decided (same_work old reserved same i) (named i) decided) ∙ decides
+-- where the block in work got room before, it is the block in work of the definition
+pub goes_on : (app : App) (sealed : List SealedBlock) (old reserved : BlockInWork) (tx : Tx) (decided : TxDecision) (new : Work) → IsSameWork old reserved → new ≡ with_decided (work_of reserved) tx.id decided
+    → with_decided (work_of reserved) tx.id decided ≡ work_on app sealed reserved.number (work_of reserved) tx → new ≡ work_on app sealed old.number (work_of old) tx
+goes_on app sealed old reserved tx decided new same is decides = is ∙ decides ∙ (λ i. work_on app sealed (same.number i) (same_work old reserved same i) tx)
 
 -- ---- the ids
 
@@ -123,3 +112,12 @@ module _ (old new : IdIndex) (number : ℕ) (outcomes outcomes' : List Told) (id
 pub run_is : (app : App) (sealed : List SealedBlock) (history : List Stamped) (tx : Tx) (time : ℤ) (ran : Ran) → history ≡ history_of sealed → time ≡ time_at tx.height sealed
     → ran ≡ run app tx time (tables_at tx.height history) → ran ≡ run_at app sealed tx
 run_is app sealed history tx time ran writes then is = is ∙ (λ i. run app tx (then i) (tables_at tx.height (writes i)))
+
+-- room changes no place and adds none
+pub with_room : (old reserved : BlockInWork) (P : ℕ → List Told → Type 0) → IsSameWork old reserved → P old.number old.outcomes.items → P reserved.number reserved.outcomes.items
+with_room old reserved P same has = subst (λ number. P number reserved.outcomes.items) (sym same.number) (subst (P old.number) (sym same.outcomes) has)
+
+-- what follows of two facts of a call that succeeded
+pub on_ok_both : {T E : Type 0} (answer : Result T E) (One Other After : Type 0) → OnOk answer One → OnOk answer Other → (One → Other → After) → OnOk answer After
+on_ok_both (Ok value) One Other After one other follows = follows one other
+on_ok_both (Err fault) One Other After one other follows = tt

@@ -48,54 +48,47 @@ fn keys_in(alloc: Global, kind: Kind, txs: &[Tx]) -> Result<Vec<Key>, NoMemory> 
 }
 
 // Looks at what some transactions may read of a table, where their arguments are keys.
-fn look_at_table<V: Versions>(
-    alloc: Global,
-    chain: &Chain<V>,
-    table: u32,
-    txs: &[Tx],
-) -> Result<usize, NoMemory> {
+fn look_at_table<V: Versions>(alloc: Global, chain: &Chain<V>, table: u32, txs: &[Tx]) -> usize {
     let Some(def) = chain.app.tables().get(table as usize) else {
-        return Ok(0);
+        return 0;
     };
     let Some(kind) = key_kind(def) else {
-        return Ok(0);
+        return 0;
     };
-    let keys = keys_in(alloc, kind, txs)?;
-    chain.versions.look_ahead(table, keys.as_slice())
+    match keys_in(alloc, kind, txs) {
+        Ok(keys) => chain.versions.look_ahead(table, keys.as_slice()),
+        Err(NoMemory) => 0,
+    }
 }
 
 // Looks at what some transactions may read.
-fn look_at_tables<V: Versions>(
-    alloc: Global,
-    chain: &Chain<V>,
-    txs: &[Tx],
-) -> Result<usize, NoMemory> {
+fn look_at_tables<V: Versions>(alloc: Global, chain: &Chain<V>, txs: &[Tx]) -> usize {
     let mut count: usize = 0;
     for table in 0..chain.app.tables().len().min(MOST_TABLES) {
-        let found = look_at_table(alloc, chain, table as u32, txs)?;
+        let found = look_at_table(alloc, chain, table as u32, txs);
         count = count.wrapping_add(found);
     }
-    Ok(count)
+    count
 }
 
 /// Where so many transactions of a block were decided that others are to be looked at, looks at what the next ones may read. Nothing
-/// is changed and nothing is promised: the reads that follow wait less for memory.
+/// is changed and nothing is promised: the reads that follow wait less for memory. It can not fail: where memory runs out, it looks at
+/// less.
+///
+/// It is told whether looks pay, and answers the same: they do until one finds no row, as where all transactions insert.
 pub fn look_ahead<V: Versions>(
     alloc: Global,
     chain: &Chain<V>,
     txs: &[Tx],
     decided: usize,
-) -> Result<(), NoMemory> {
-    if decided % TOGETHER != 0 {
-        return Ok(());
+    pays: bool,
+) -> bool {
+    if !pays || decided % TOGETHER != 0 {
+        return pays;
     }
     let end = decided.saturating_add(TOGETHER).min(txs.len());
-    let Some(next) = txs.get(decided..end) else {
-        return Ok(());
-    };
-    // No count is as large, and a compiler can not know that, so that it does not leave the look out.
-    if look_at_tables(alloc, chain, next)? == usize::MAX {
-        return Err(NoMemory);
+    match txs.get(decided..end) {
+        None => false,
+        Some(next) => look_at_tables(alloc, chain, next) > 0,
     }
-    Ok(())
 }

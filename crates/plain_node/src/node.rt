@@ -90,7 +90,7 @@ impl<V: Versions> PlainNode<V> {
         &self.chain.versions
     }
 
-    /// The results of the blocks, and the tables after the last of them; beside them the store, of which nothing is promised.
+    /// The results of the blocks, and the tables after the last of them; beside them the store, which has the node's history.
     pub fn close(self) -> Result<(NodeResult, V), NoMemory>
         requires store { StoreFits self.chain.app.value.app (V.tables self.chain.versions) (V.history self.chain.versions) self.chain.blocks }
         ensures report { IfOk result (λ made. (blocks : List BlockText) → HoldsFold self.chain.app.value.app blocks (V.history self.chain.versions) self.ids self.chain.blocks
@@ -99,6 +99,7 @@ impl<V: Versions> PlainNode<V> {
         ensures replays { IfOk result (λ made. (blocks : List BlockText) → AreNumbered 1 blocks
             → HoldsFold self.chain.app.value.app blocks (V.history self.chain.versions) self.ids self.chain.blocks
             → EachInOrder self.chain.app.value.app blocks made.0.blocks) }
+        ensures store { IfOk result (λ made. V.history made.1 ≡ V.history self.chain.versions) }
     {
         self.chain.close(List::new(self.alloc))
     }

@@ -15,7 +15,7 @@ pub enum Query {
 }
 
 /// Why a query has no answer. But where memory runs out, the first of these that applies.
-#[derive(Clone, Copy, Debug, PartialEq, Eq)]
+#[derive(Clone, Copy, PartialEq, Eq)]
 pub enum QueryFault {
     /// Memory ran out.
     NoMemory,

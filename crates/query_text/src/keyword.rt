@@ -10,7 +10,7 @@ use proc_parse::phrase::Stop;
 use proc_parse::{Lexeme, Token};
 
 /// A word that is no name in a query.
-#[derive(Clone, Copy, Debug, PartialEq, Eq)]
+#[derive(Clone, Copy, PartialEq, Eq)]
 pub enum Keyword {
     As,
     Join,

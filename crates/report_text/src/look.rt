@@ -2,7 +2,7 @@
 
 /// The form of a report, and what it shows only where it is asked for. The lines of a block stand after its transactions, in the order
 /// of these fields; the journals stand after the report.
-#[derive(Clone, Copy, Debug, PartialEq, Eq)]
+#[derive(Clone, Copy, PartialEq, Eq)]
 pub struct Look {
     /// The line `order`, and in it, each after a space, the positions of the block's committed transactions, from 1, in their
     /// serial order. Where none committed the line is `order` alone.

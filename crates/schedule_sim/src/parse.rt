@@ -11,7 +11,7 @@ use rel_base::NoMemory;
 use tx_text::MOST_LINE_BYTES;
 
 /// Why a text is no schedule.
-#[derive(Clone, Copy, Debug, PartialEq, Eq)]
+#[derive(Clone, Copy, PartialEq, Eq)]
 pub enum ScheduleFault {
     /// Memory ran out.
     NoMemory,

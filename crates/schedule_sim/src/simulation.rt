@@ -28,7 +28,7 @@ const PROCESSOR: u32 = 0;
 const BRINGER: u32 = 17;
 
 /// Why a schedule tells no result.
-#[derive(Clone, Copy, Debug, PartialEq, Eq)]
+#[derive(Clone, Copy, PartialEq, Eq)]
 pub enum SimFault {
     /// Memory ran out.
     NoMemory,

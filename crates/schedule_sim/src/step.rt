@@ -5,7 +5,7 @@ use rel_base::List;
 
 /// What happens next in a node. The actors that claim jobs have the numbers from 1 to 16; what comes from outside is delivered,
 /// decided and sealed by the processor.
-#[derive(Clone, Copy, Debug, PartialEq, Eq)]
+#[derive(Clone, Copy, PartialEq, Eq)]
 pub enum Step {
     /// The arrival of this number, from 1, comes.
     Arrive(u64),

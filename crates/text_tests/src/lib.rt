@@ -5,6 +5,8 @@
 #[cfg(test)]
 mod digests;
 #[cfg(test)]
+mod explaining;
+#[cfg(test)]
 mod files;
 #[cfg(test)]
 mod shelves;

@@ -2,13 +2,14 @@
 use Rattle.std.specs.Prelude.{◌≡◌, ◌-◌, ℕ, Bool, List, Option, Some, None, is_some, length, nat_le, slice_get, true}
 use Rattle.std.specs.FinMap.{get}
 use Rattle.std.specs.List.{filter}
-use Rattle.std.specs.Option.{IsSomeAnd}
+use Rattle.std.specs.Option.{IsSomeAnd, option_map}
 use Rattle.rel_base.specs.Tables.{Stamped, tables_at}
 use Rattle.rel_base.specs.declared.value.Value.{Value}
 use Rattle.row_sets.specs.Lifespans.{is_of_table}
 use Rattle.version_index.specs.Chain.{IsLast, is_seen}
 use Rattle.version_index.specs.Numbers.{passes_at}
 use Rattle.version_index.specs.Rows.{seen_of}
+use Rattle.version_index.specs.declared.look_up.Probed.{Probed}
 use Rattle.version_index.specs.declared.view.TableView.{TableView}
 
 -- a write left the row that the tables at a height have at a table and key
@@ -32,3 +33,11 @@ is_low history height number = passes_at (λ stamped. nat_le stamped.0 height) h
 -- how many entries of the log are in its tail
 abbrev pub tail_in : TableView → ℕ
 tail_in view = length view.entries.now - view.noted
+
+-- a write that was looked at is the entry of its number
+abbrev pub IsProbed : TableView → Probed → Type 0
+IsProbed view probed = slice_get view.entries.now probed.number ≡ Some probed.entry.now
+
+-- the number of a write that may have been looked at
+abbrev pub number_of : Option Probed → Option ℕ
+number_of found = option_map (λ probed. probed.number) found

@@ -84,17 +84,25 @@ fn count_ends(rows: &[&Row]) -> usize {
     count
 }
 
-/// About twice as many as some keys have rows: it counts the ends of the rows, so that it looks at their memory.
-pub fn count_rows(
+/// The rows that the last writes left at the slots that are guessed of some keys.
+fn guessed_rows<'a>(
     alloc: Global,
-    entries: &[LogEntry],
+    entries: &'a [LogEntry],
     chains: &Chains,
     keys: &[Key],
-) -> Result<usize, NoMemory> {
+) -> Result<Vec<&'a Row>, NoMemory> {
     let slots = guessed_slots(alloc, chains, keys)?;
     let numbers = last_numbers(alloc, chains, slots.as_slice())?;
-    let rows = rows_left(alloc, entries, numbers.as_slice())?;
-    Ok(count_ends(rows.as_slice()))
+    rows_left(alloc, entries, numbers.as_slice())
+}
+
+/// About twice as many as some keys have rows: it counts the ends of the rows, so that it looks at their memory. Where memory runs out,
+/// it looks at nothing.
+pub fn count_rows(alloc: Global, entries: &[LogEntry], chains: &Chains, keys: &[Key]) -> usize {
+    match guessed_rows(alloc, entries, chains, keys) {
+        Ok(rows) => count_ends(rows.as_slice()),
+        Err(NoMemory) => 0,
+    }
 }
 
 /// The number of the last write at the slot that is guessed of a key.

@@ -1,17 +1,15 @@
 //! The version of a key that is visible at a height, in few steps.
 
-ghost use Rattle.std.specs.Prelude.{◌≡◌, ◌≤◌, ◌<◌, ◌+◌, ◌*◌, ◌-◌, ◌^◌, ℕ, All, false, length, take, true};
+ghost use Rattle.std.specs.Prelude.{◌≡◌, ◌≤◌, ◌<◌, ◌+◌, ◌*◌, ◌-◌, ◌^◌, ℕ, All, IfSome, false, length, take, true};
 ghost use Rattle.row_sets.specs.Log.{history_of};
 ghost use Rattle.version_index.specs.Chain.{IsLast, IsLastFrom, is_seen};
 ghost use Rattle.version_index.specs.Chains.{lists_of, numbers_at, slot_of};
-ghost use Rattle.version_index.specs.Found.{IsVersion, count_on, is_low, tail_in};
-ghost use Rattle.version_index.specs.Kept.{store_history, store_tables, store_tail};
+ghost use Rattle.version_index.specs.Found.{IsProbed, IsVersion, count_on, is_low, number_of, tail_in};
 ghost use Rattle.version_index.specs.Numbers.{passes_at};
 ghost use Rattle.version_index.specs.View.{IsView, history_in};
 
-use crate::look_up::LookUp;
+use crate::look_up::{LookUp, Probed};
 use crate::steps::Steps;
-use crate::store::IndexVersions;
 use rel_base::Key;
 use std::sync::ledger::Ledger;
 
@@ -45,17 +43,18 @@ fn count_low<L: Ledger>(
     low
 }
 
-/// The number of the last of the noted writes on a key, whose slot is given, in a block up to a height.
-fn seen_noted<L: Ledger>(
-    look_up: &LookUp<'_>,
+/// The last of the noted writes on a key, whose slot is given, in a block up to a height.
+fn seen_noted<'a, L: Ledger>(
+    look_up: &LookUp<'a>,
     key: &Key,
     slot: Option<usize>,
     height: u64,
     steps: &mut Steps<L>,
-) -> Option<usize>
+) -> Option<Probed<'a>>
     requires view { IsView look_up.now.view }
     requires slot { slot ≡ slot_of look_up.now.view.index.now.chains key.now }
-    ensures last { IsLast (is_seen (look_up.now.view.table, key.now) height) (take look_up.now.view.noted (history_in look_up.now.view)) result }
+    ensures last { IsLast (is_seen (look_up.now.view.table, key.now) height) (take look_up.now.view.noted (history_in look_up.now.view)) (number_of result) }
+    ensures entry { IfSome result (IsProbed look_up.now.view) }
     ensures on { steps.old ≤ steps.new }
     ensures cost { 2 ^ (steps.new - steps.old) ≤ 4 * count_on look_up.now.view.table (history_in look_up.now.view) + 2 }
 {
@@ -63,70 +62,54 @@ fn seen_noted<L: Ledger>(
     if count == 0 {
         return None;
     }
-    Some(look_up.probe(slot, count - 1, steps).number)
+    Some(look_up.probe(slot, count - 1, steps))
 }
 
-/// The number of the last write on a key in the tail, in a block up to a height.
-fn seen_in_tail<L: Ledger>(
-    look_up: &LookUp<'_>,
+/// The last write on a key in the tail, in a block up to a height.
+fn seen_in_tail<'a, L: Ledger>(
+    look_up: &LookUp<'a>,
     key: &Key,
     height: u64,
     steps: &mut Steps<L>,
-) -> Option<usize>
-    ensures last { IsLastFrom (is_seen (look_up.now.view.table, key.now) height) look_up.now.view.noted (history_in look_up.now.view) result }
+) -> Option<Probed<'a>>
+    ensures last { IsLastFrom (is_seen (look_up.now.view.table, key.now) height) look_up.now.view.noted (history_in look_up.now.view) (number_of result) }
+    ensures entry { IfSome result (IsProbed look_up.now.view) }
     ensures on { steps.old ≤ steps.new }
     ensures cost { steps.new ≤ steps.old + tail_in look_up.now.view }
 {
     let mut end = look_up.end();
     while end > look_up.noted() {
-        if look_up.is_seen_at(key, height, end - 1, steps) {
-            return Some(end - 1);
+        let probed = look_up.probe_at(end - 1, steps);
+        if probed.is_seen(look_up.table(), key, height) {
+            return Some(probed);
         }
         end -= 1;
     }
     None
 }
 
-/// The number of the last write on a key, whose slot is given, in a block up to a height. The tail is looked through first.
-pub fn last_seen<L: Ledger>(
-    look_up: &LookUp<'_>,
+/// The last write on a key, whose slot is given, in a block up to a height. The tail is looked through first.
+pub fn last_seen<'a, L: Ledger>(
+    look_up: &LookUp<'a>,
     key: &Key,
     slot: Option<usize>,
     height: u64,
     steps: &mut Steps<L>,
-) -> Option<usize>
+) -> Option<Probed<'a>>
     requires view { IsView look_up.now.view }
     requires slot { slot ≡ slot_of look_up.now.view.index.now.chains key.now }
-    ensures last { IsLast (is_seen (look_up.now.view.table, key.now) height) (history_in look_up.now.view) result }
+    ensures last { IsLast (is_seen (look_up.now.view.table, key.now) height) (history_in look_up.now.view) (number_of result) }
+    ensures entry { IfSome result (IsProbed look_up.now.view) }
     ensures on { steps.old ≤ steps.new }
     ensures cost { 2 ^ (steps.new - steps.old - tail_in look_up.now.view) ≤ 4 * count_on look_up.now.view.table (history_in look_up.now.view) + 2 }
 {
     match seen_in_tail(look_up, key, height, steps) {
         None => seen_noted(look_up, key, slot, height, steps),
-        Some(number) => Some(number),
+        Some(probed) => Some(probed),
     }
 }
 
-/// The number of the write that left the row of a key that is visible at a height.
-fn find_version<L: Ledger>(
-    look_up: &LookUp<'_>,
-    key: &Key,
-    height: u64,
-    steps: &mut Steps<L>,
-) -> Option<usize>
-    requires { IsView look_up.now.view }
-    ensures version { IsVersion (look_up.now.view.table, key.now) height (history_in look_up.now.view) result }
-    ensures on { steps.old ≤ steps.new }
-    ensures cost { 2 ^ (steps.new - steps.old - tail_in look_up.now.view) ≤ 4 * count_on look_up.now.view.table (history_in look_up.now.view) + 2 }
-{
-    let slot = look_up.slot(key);
-    match last_seen(look_up, key, slot, height, steps) {
-        None => None,
-        Some(number) => look_up.version_of(number),
-    }
-}
-
-impl IndexVersions {
+impl LookUp<'_> {
     /// The number of the version of a key that is visible at a height: of the last write on the key in a block up to the height, where
     /// it left a row. Numbers count the writes of the history from 0.
     ///
@@ -134,19 +117,19 @@ impl IndexVersions {
     /// the history are on the table and the tail is empty, as it is after `reserve`, the `k` steps of a call have `2 ^ k <= 4 n + 2`.
     /// Each write of the tail may cost one step more. The list of the numbers is looked up by the key in the two `BTreeMap`s of the keys
     /// first: that is one look-up of the standard library in each, and no step.
-    pub fn find<L: Ledger>(
-        &self,
-        table: u32,
-        key: &Key,
-        height: u64,
-        steps: &mut Steps<L>,
-    ) -> Option<usize>
-        requires declared { table < length (store_tables self.now) }
-        ensures version { IsVersion (table, key.now) height (store_history self.now) result }
+    ///
+    /// The store is not at hand here, and the log and the lists are private to the module of the look-up. So nothing is known of a write
+    /// but by a step.
+    pub fn find<L: Ledger>(&self, key: &Key, height: u64, steps: &mut Steps<L>) -> Option<usize>
+        requires { IsView self.now.view }
+        ensures version { IsVersion (self.now.view.table, key.now) height (history_in self.now.view) result }
         ensures on { steps.old ≤ steps.new }
-        ensures cost { 2 ^ (steps.new - steps.old - store_tail self.now) ≤ 4 * count_on table (store_history self.now) + 2 }
-        ensures noted { store_tail self.now ≡ 0 → 2 ^ (steps.new - steps.old) ≤ 4 * count_on table (store_history self.now) + 2 }
+        ensures cost { 2 ^ (steps.new - steps.old - tail_in self.now.view) ≤ 4 * count_on self.now.view.table (history_in self.now.view) + 2 }
+        ensures noted { tail_in self.now.view ≡ 0 → 2 ^ (steps.new - steps.old) ≤ 4 * count_on self.now.view.table (history_in self.now.view) + 2 }
     {
-        find_version(&self.look_up(table), key, height, steps)
+        match last_seen(self, key, self.slot(key), height, steps) {
+            None => None,
+            Some(probed) => probed.version(),
+        }
     }
 }

@@ -31,15 +31,13 @@ fn note_one(
 /// Where so many writes were noted that others are to be looked at, looks at the memory that noting the next ones needs. Nothing is
 /// changed and nothing is promised. A write waits for the guess at its slot, the last write there and the row that it left, one
 /// after the other, and so would each after it: in a look at sixteen of them the waits overlap.
-fn look_ahead(indexes: &[TableIndex], entries: &[LogEntry], number: usize) -> Result<(), NoMemory> {
-    if number % TOGETHER != 0 {
-        return Ok(());
+///
+/// It is told whether looks pay, and answers the same: they do until one finds no row, as where all writes insert.
+fn look_ahead(indexes: &[TableIndex], entries: &[LogEntry], number: usize, pays: bool) -> bool {
+    if !pays || number % TOGETHER != 0 {
+        return pays;
     }
-    // No count is as large, and a compiler can not know that, so that it does not leave the look out.
-    if count_writes(entries, indexes, number) == usize::MAX {
-        return Err(NoMemory);
-    }
-    Ok(())
+    count_writes(entries, indexes, number) > 0
 }
 
 /// Notes the writes of the tail, one after the other. Where memory is wanting, those before are noted already, and counted.
@@ -58,8 +56,9 @@ pub fn note_tail(
     ensures columns { columns_in indexes.new.items ≡ columns_in indexes.old.items }
     ensures whole { OnOk result (noted.new ≡ length entries.now) }
 {
+    let mut pays = true;
     while *noted < entries.len() {
-        look_ahead(indexes.as_slice(), entries, *noted)?;
+        pays = look_ahead(indexes.as_slice(), entries, *noted, pays);
         note_one(alloc, indexes, entries, *noted)?;
         *noted += 1;
     }

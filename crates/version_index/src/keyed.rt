@@ -97,7 +97,10 @@ fn last_uncounted<L: Ledger>(
     ensures { IsLast (is_seen (view.now.table, key.now) height) (history_in view.now) result }
 {
     let mut steps = Steps::<L>::new(blank);
-    last_seen(&LookUp::new(*view), key, slot, height, &mut steps)
+    match last_seen(&LookUp::new(*view), key, slot, height, &mut steps) {
+        None => None,
+        Some(probed) => Some(probed.number),
+    }
 }
 
 /// The number of the last write on the key of a slot, where there is no tail to look through.

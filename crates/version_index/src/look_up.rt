@@ -3,13 +3,10 @@
 //! A step is one look at a number of a write on the key, with its entry, or at one entry of the tail. Where they stand is private
 //! here, so whoever looks a version up gets at none of them but by a step.
 
-ghost use Rattle.std.specs.Prelude.{◌≡◌, ◌<◌, ◌+◌, ◌-◌, ℕ, All, List, Some, cond, is_some, length, None, slice_get};
-ghost use Rattle.rel_base.specs.declared.value.Value.{Value as Cell};
-ghost use Rattle.version_index.specs.Chain.{IsLast, is_seen};
+ghost use Rattle.std.specs.Prelude.{◌≡◌, ◌<◌, ◌+◌, All, None, Some, cond, is_some, length, slice_get};
+ghost use Rattle.row_sets.specs.Log.{stamped_of};
+ghost use Rattle.version_index.specs.Chain.{is_seen};
 ghost use Rattle.version_index.specs.Chains.{lists_of, numbers_at, slot_of};
-ghost use Rattle.version_index.specs.Found.{IsVersion};
-ghost use Rattle.version_index.specs.Numbers.{passes_at};
-ghost use Rattle.version_index.specs.View.{history_in};
 
 use crate::steps::Steps;
 use crate::view::TableView;
@@ -23,20 +20,29 @@ pub struct LookUp<'a> {
     view: TableView<'a>,
 }
 
-/// A write that was looked at: its number, and its entry in the log.
+/// A write that was looked at, in one step: its number, and its entry in the log.
 #[derive(Clone, Copy)]
 pub struct Probed<'a> {
     pub number: usize,
     pub entry: &'a LogEntry,
 }
 
-/// The number of a write, where it left a row.
-fn if_row(entry: &LogEntry, number: usize) -> Option<usize>
-    ensures { result ≡ cond (is_some entry.now.placed.write.after) (Some number) None }
-{
-    match &entry.placed.write.after {
-        None => None,
-        Some(_) => Some(number),
+impl Probed<'_> {
+    /// The number of the write, where it left a row.
+    pub fn version(&self) -> Option<usize>
+        ensures { result ≡ cond (is_some self.now.entry.now.placed.write.after) (Some self.now.number) None }
+    {
+        match &self.entry.placed.write.after {
+            None => None,
+            Some(_) => Some(self.number),
+        }
+    }
+
+    /// Whether the write is on a key of a table, in a block up to a height.
+    pub fn is_seen(&self, table: u32, key: &Key, height: u64) -> bool
+        ensures { result ≡ is_seen (table, key.now) height (stamped_of self.now.entry.now) }
+    {
+        is_on_key(self.entry, table, key) && self.entry.block <= height
     }
 }
 
@@ -75,12 +81,8 @@ impl<'a> LookUp<'a> {
         ensures entry { slice_get self.now.view.entries.now result.number ≡ Some result.entry.now }
         ensures step { steps.new ≡ steps.old + 1 }
     {
-        steps.tick();
         let number = self.view.index.chains.numbers(slot)[at];
-        Probed {
-            number,
-            entry: entry_at(self.view.entries, number),
-        }
+        self.probe_at(number, steps)
     }
 
     /// How many entries the log has.
@@ -97,29 +99,24 @@ impl<'a> LookUp<'a> {
         self.view.noted
     }
 
-    /// Whether the write of a number is on a key, in a block up to a height. It is one step.
-    pub fn is_seen_at<L: Ledger>(
-        &self,
-        key: &Key,
-        height: u64,
-        number: usize,
-        steps: &mut Steps<L>,
-    ) -> bool
+    /// The number of the table.
+    pub fn table(&self) -> u32
+        ensures { result ≡ self.now.view.table }
+    {
+        self.view.table
+    }
+
+    /// One look at the write of a number, in one step.
+    pub fn probe_at<L: Ledger>(&self, number: usize, steps: &mut Steps<L>) -> Probed<'a>
         requires { number < length self.now.view.entries.now }
-        ensures seen { result ≡ passes_at (is_seen (self.now.view.table, key.now) height) (history_in self.now.view) number }
+        ensures number { result.number ≡ number }
+        ensures entry { slice_get self.now.view.entries.now number ≡ Some result.entry.now }
         ensures step { steps.new ≡ steps.old + 1 }
     {
         steps.tick();
-        let entry = entry_at(self.view.entries, number);
-        is_on_key(entry, self.view.table, key) && entry.block <= height
-    }
-
-    /// The number of the last write on a key up to a height, which was looked at, where it left a row.
-    pub fn version_of(&self, number: usize) -> Option<usize>
-        requires { number < length self.now.view.entries.now }
-        ensures version { (key : List Cell) (height : ℕ) → IsLast (is_seen (self.now.view.table, key) height) (history_in self.now.view) (Some number)
-            → IsVersion (self.now.view.table, key) height (history_in self.now.view) result }
-    {
-        if_row(entry_at(self.view.entries, number), number)
+        Probed {
+            number,
+            entry: entry_at(self.view.entries, number),
+        }
     }
 }

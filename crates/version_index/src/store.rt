@@ -171,9 +171,9 @@ impl Versions for IndexVersions {
         rows_at(self.alloc, &view, &ReadAtHeight { def, read, height })
     }
 
-    fn look_ahead(&self, table: u32, keys: &[Key]) -> Result<usize, NoMemory> {
+    fn look_ahead(&self, table: u32, keys: &[Key]) -> usize {
         match self.indexes.as_slice().get(table as usize) {
-            None => Ok(0),
+            None => 0,
             Some(index) => count_rows(self.alloc, self.log.as_slice(), &index.chains, keys),
         }
     }

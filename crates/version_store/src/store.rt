@@ -73,8 +73,8 @@ impl Versions for PlainVersions {
     }
 
     /// It looks at nothing ahead.
-    fn look_ahead(&self, _table: u32, _keys: &[Key]) -> Result<usize, NoMemory> {
-        Ok(0)
+    fn look_ahead(&self, _table: u32, _keys: &[Key]) -> usize {
+        0
     }
 
     fn late_hit(&self, after: u64, upto: u64, read: &Read) -> Option<HitRef<'_>> {

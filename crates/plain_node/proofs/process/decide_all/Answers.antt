@@ -1,3 +1,4 @@
+use Rattle.std.proofs.lemmas.Grind.{common_steps}
 use Rattle.std.proofs.Common.{ap, arith, drop, length, rules, slice_index_or, subst, sym, ◌+◌, ◌<◌, ◌∙◌, ◌≡◌, ◌∷◌}
 use Rattle.std.proofs.lemmas.List.{drop_more}
 use Rattle.block_work.specs.Block.{work_of}
@@ -38,3 +39,6 @@ loop-tx-preserved g c =
             subst (λ number. HasFirstPlaces c.decide_next.new.ids sealed number c.decide_next.new.work.outcomes.items) before.0 next.1,
           )),
     )
+
+pub returns-clause-work : goal.returns-clause-work
+returns-clause-work g c = grind (arith, common_steps)

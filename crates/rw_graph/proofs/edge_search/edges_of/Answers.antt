@@ -1,4 +1,5 @@
-use Rattle.std.proofs.Common.{ap, drop, length, rules, ◌∷◌, ◌+◌, ◌<◌, ◌∙◌, ◌≡◌}
+use Rattle.std.proofs.Common.{ap, arith, drop, length, rules, ◌∷◌, ◌+◌, ◌<◌, ◌∙◌, ◌≡◌}
+use Rattle.std.proofs.lemmas.Grind.{common_steps}
 use Rattle.std.proofs.lemmas.List.{drop_more}
 use Rattle.node_model.specs.Edges.{touches}
 use Rattle.rw_graph.proofs.Noted.{note_next}
@@ -16,3 +17,9 @@ loop-done-preserved c =
       note_next (λ x. x.pos) (λ x. touches c.args.tables.now c.args.reads.now x.writes) all _ after done (holds c.loop-done.edges.out) (holds c.note.new.edges.out) left c.loop-done.invariant.0 (search rules),
       note_next (λ x. x.pos) (λ x. touches c.args.tables.now x.reads c.args.writes.now) all _ after done (holds c.loop-done.edges.into) (holds c.note.new.edges.into) left c.loop-done.invariant.1 (search rules),
     )
+
+pub returns-clause-out : goal.returns-clause-out
+returns-clause-out c = grind (arith, common_steps)
+
+pub returns-clause-into : goal.returns-clause-into
+returns-clause-into c = grind (arith, common_steps)

@@ -1,7 +1,7 @@
 use Rattle.std.proofs.Common.{◌+◌, ◌*◌}
 use Rattle.row_sets.specs.Log.{history_of}
 use Rattle.version_index.specs.Chain.{is_seen}
-use Rattle.version_index.specs.Found.{count_on, tail_in}
+use Rattle.version_index.specs.Found.{count_on, number_of, tail_in}
 use Rattle.version_index.proofs.Halves.{with_others}
 use Rattle.version_index.proofs.Lows.{last_of_noted}
 use Rattle.version_index.proofs.finding.last_seen.Goals as goal
@@ -10,7 +10,7 @@ use Rattle.version_index.proofs.finding.last_seen.Goals as goal
 pub returns-in-None-clause-last : goal.returns-in-None-clause-last
 returns-in-None-clause-last g c =
     let view = c.args.look_up.now.view in
-    last_of_noted (is_seen (view.table, c.args.key.now) c.args.height) view.noted (history_of view.entries.now) c.seen_noted.result c.seen_noted.ensures.last c.in-None.ensures.last
+    last_of_noted (is_seen (view.table, c.args.key.now) c.args.height) view.noted (history_of view.entries.now) (number_of c.seen_noted.result) c.seen_noted.ensures.last c.in-None.ensures.last
 
 pub returns-in-None-clause-cost : goal.returns-in-None-clause-cost
 returns-in-None-clause-cost g c =

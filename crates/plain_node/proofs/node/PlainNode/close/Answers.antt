@@ -9,5 +9,5 @@ use Rattle.serial_laws.specs.InOrder.{EachInOrder}
 pub returns-clause-replays : goal.returns-clause-replays
 returns-clause-replays g c =
     let app = c.args.self.chain.app.value.app in
-    if_ok_then c.close.result _ _ c.close.ensures (λ made is. λ blocks numbered holds.
+    if_ok_then c.close.result _ _ c.close.ensures.report (λ made is. λ blocks numbered holds.
     subst (EachInOrder app blocks) (sym (ap (λ (result : NodeResult). result.blocks) (is (fold app blocks) holds.chain))) (results_run app blocks numbered))

@@ -1,0 +1,5 @@
+mod Bits
+pub mod Lanes
+mod Rounding
+mod Taken
+mod Turning

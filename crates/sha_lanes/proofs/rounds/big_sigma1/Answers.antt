@@ -1,0 +1,6 @@
+use Rattle.std.proofs.Common.{arith}
+use Rattle.sha_lanes.proofs.Turning.{sigma1_nested}
+use Rattle.sha_lanes.proofs.rounds.big_sigma1.Goals as goal
+
+pub returns : goal.returns
+returns c = rw (c.rotate_right-3.ensures, c.rotate_right-2.ensures, c.rotate_right.ensures) (sigma1_nested c.args.x (omega arith))
