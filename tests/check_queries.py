@@ -4,11 +4,13 @@
 The blocks are drawn too. What the tables were after each block, and who wrote each row, is printed by `provenance`, so that nothing of the
 command's own is taken for right. Most queries are good ones; some have a token too few or too many, or one of another query. The last ones stand at
 the limits: 1,000,000 tuples and one row more, a sum at either end of the ints and beyond, lists of 16 elements and of 17, 4,096 bytes and 4,097.
+At last a text that is no query has to take a small part of the processor time that a query takes, since no block is run for it.
 Usage: check_queries.py PROGRAM
 """
 import os
 import random
 import re
+import resource
 import sys
 import tempfile
 
@@ -211,10 +213,44 @@ def run_limits(program, tally):
     run_limit(program, ['add 1 "o" 1', 'add 2 "o" 1'], lists, tally)
 
 
+# ---- no block is run for a text that is no query
+
+BUSY = """table t (id int) key (id);
+proc add(i int) { insert t (i); }
+proc count() { let n = 0; for a in t span on id { for b in t span on id { n = n + 1; } } insert t (n); }
+"""
+
+
+def processor_time(program, folder, words):
+    """The answer to some words, and the seconds of a processor that it took."""
+    before = resource.getrusage(resource.RUSAGE_CHILDREN).ru_utime
+    answer = run(program, folder, words)
+    return answer, resource.getrusage(resource.RUSAGE_CHILDREN).ru_utime - before
+
+
+def run_no_query(program, tally):
+    lines = ["draft 1", "block 1", *(f"tx a{number} 0 add {number}" for number in range(100)), "end"]
+    lines += ["block 2", *(f"tx c{number} 1 count" for number in range(400)), "end", ""]
+    with tempfile.TemporaryDirectory() as folder:
+        for name, text in (("app", BUSY), ("blocks", "\n".join(lines))):
+            with open(os.path.join(folder, name), "w", encoding="utf-8") as file:
+                file.write(text)
+        files = ["--app", "app", "--blocks", "blocks"]
+        for words, query, none in (
+            (["query", *files, "--height", "2", "--text"], "from t as t select t.id;", "from t as t select t.no;"),
+            (["provenance", *files, "--query"], "history t 1", "history"),
+        ):
+            (status, _), answered = processor_time(program, folder, [*words, query])
+            (refused, _), parsed = processor_time(program, folder, [*words, none])
+            small = "a small part" if 4 * parsed < answered else f"{parsed:.3f} of {answered:.3f} seconds"
+            tally.note(f"{words[0]} of a text that is no query", ((0, 9), "a small part"), ((status, refused), small))
+
+
 def main():
     program, tally = os.path.abspath(sys.argv[1]), Tally()
     run_drawn(program, tally)
     run_limits(program, tally)
+    run_no_query(program, tally)
     print(f"{tally.passed} passed, {tally.failed} failed")
     sys.exit(1 if tally.failed or not tally.passed else 0)
 

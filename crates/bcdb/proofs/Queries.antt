@@ -7,12 +7,12 @@ use Rattle.bcdb.proofs.Processed.{folds_held}
 use Rattle.bcdb.specs.Accepted.{accepted}
 use Rattle.bcdb.specs.ArrivalFiles.{all_arrived}
 use Rattle.bcdb.specs.Folds.{Folds, all_blocks, app_of}
-use Rattle.bcdb.specs.Given.{AreFolded}
+use Rattle.bcdb.specs.Given.{AreFolded, IsBad}
 use Rattle.bcdb.specs.ProgramAnswer.{says}
-use Rattle.bcdb.specs.Refusals.{refusal_line}
+use Rattle.bcdb.specs.Refusals.{query_refusal, refusal_line}
 use Rattle.bcdb.specs.Reply.{Means}
 use Rattle.bcdb.specs.Selected.{Tells, selected}
-use Rattle.bcdb.specs.VersionsAnswer.{over_blocks, over_query}
+use Rattle.bcdb.specs.VersionsAnswer.{over_blocks, over_query, over_versions}
 use Rattle.bcdb.specs.declared.folding.Folded.{Folded}
 use Rattle.bcdb.specs.declared.given.BadSource.TheVariants as bad
 use Rattle.bcdb.specs.declared.given.BadSource.{BadSource}
@@ -20,9 +20,10 @@ use Rattle.bcdb.specs.declared.refusal.BadArrivals.{BadArrivals}
 use Rattle.bcdb.specs.declared.refusal.Refusal.{Refusal}
 use Rattle.bcdb.specs.declared.reply.Reply.{Reply}
 use Rattle.bcdb.specs.declared.sources.Sources.{Sources}
-use Rattle.bcdb.specs.declared.status.Status.TheVariants.{AppRefused}
+use Rattle.bcdb.specs.declared.status.Status.TheVariants.{AppRefused, QueryRefused}
 use Rattle.block_work.specs.declared.ids.IdIndex.{IdIndex}
 use Rattle.chain_file.specs.Numbered.{NumberedFrom}
+use Rattle.chain_file.specs.Chain.{chain}
 use Rattle.edge_traits.specs.Shelf.{Files}
 use Rattle.node_model.specs.Fold.{fold}
 use Rattle.node_model.specs.declared.result.BlockResult.{BlockResult}
@@ -35,7 +36,8 @@ use Rattle.proc_syntax.specs.declared.chain_fault.ChainFault.{ChainFault}
 use Rattle.proc_syntax.specs.declared.tree.App.{App}
 use Rattle.provenance.proofs.Folded.{folds_told, histories_told, results_numbered}
 use Rattle.provenance.specs.Answer.{answer}
-use Rattle.provenance.specs.Asked.{Answers, Asks}
+use Rattle.provenance.specs.Asked.{Answers}
+use Rattle.provenance.specs.Grammar.{query_of}
 use Rattle.provenance.specs.Laws.{RunFromOne}
 use Rattle.provenance.specs.Versions.{AreTold, history_of}
 use Rattle.provenance.specs.declared.query.Query.{Query}
@@ -78,14 +80,6 @@ tells app blocks history ids results query text result holds is answers =
     same_told result (answer (tables_of app) results query) (selected app blocks text)
     (ap (λ found. answer (tables_of app) found query) holds.chain.results ∙ ap (selected app blocks) (sym is)) answers
 
--- and a text that is no query is answered so
-pub tells_bad : (app : App) (blocks : List Block) (refused : QueryFault) (text : Option Query) → Asks (Err refused) text → Tells (Err refused) (selected app blocks text)
-tells_bad app blocks fault.NoMemory text asks = tt
-tells_bad app blocks fault.BadQuery text asks = ap (selected app blocks) asks
-tells_bad app blocks fault.UnknownTable text asks = absurd asks
-tells_bad app blocks fault.BadKey text asks = absurd asks
-tells_bad app blocks fault.BadRange text asks = absurd asks
-
 -- of a node that was given all blocks of a file
 pub tells_folds : (folded : Folded) (query : Query) (text : Option Query) (results : List BlockResult) (result : Result (List Version) QueryFault) → text ≡ Some query → results ≡ folded.node.chain.blocks
     → Answers result (answer (tables_of (app_of folded)) results query) → (blocks : List Block) → Folds all_blocks blocks folded → Tells result (selected (app_of folded) blocks text)
@@ -114,28 +108,41 @@ pub query_means : (query : List ℕ) (folded : Folded) (result : Result Reply No
 query_means query folded (Ok reply) means = λ asked files none unscheduled are. given_means query asked files folded reply are means
 query_means query folded (Err e) means = tt
 
+-- a text that is no query is refused, whatever the blocks come to
+refused_means : (query : List ℕ) (asked : Sources) (files : Files) (folded : Folded) (reply : Reply) → query_of query ≡ None → Means (says QueryRefused (query_refusal fault.BadQuery)) reply
+    → AreFolded 0 (Ok folded) asked files → Means (over_query query (accepted (files asked.app)) (files asked.blocks)) reply
+refused_means query asked files folded reply none means are =
+    subst (λ (f : Result App Refusal). Means (over_query query f (files asked.blocks)) reply) (sym are.0)
+    (subst (λ (o : Option Query). Means (over_versions (tables_of (app_of folded)) (chain (files asked.blocks)).1 (selected (app_of folded) (chain (files asked.blocks)).0 o)) reply) (sym none) means)
+
+pub text_means : (query : List ℕ) (folded : Folded) (result : Result Reply NoMemory) → IfOk result (λ reply. (query_of query ≡ None) × Means (says QueryRefused (query_refusal fault.BadQuery)) reply)
+    → IfOk result (λ reply. (asked : Sources) (files : Files) → asked.nodes ≡ 0 → asked.schedule ≡ None → AreFolded 0 (Ok folded) asked files
+    → Means (over_query query (accepted (files asked.app)) (files asked.blocks)) reply)
+text_means query folded (Ok reply) means = λ asked files none unscheduled are. refused_means query asked files folded reply means.0 means.1 are
+text_means query folded (Err e) means = tt
+
 pub app_means : (query : List ℕ) (refusal : Refusal) (result : Result Reply NoMemory) → IfOk result (λ reply. Means (says AppRefused (refusal_line refusal)) reply)
-    → IfOk result (λ reply. (asked : Sources) (files : Files) → asked.nodes ≡ 0 → asked.schedule ≡ None → AreFolded all_blocks (Err (bad.App refusal)) asked files
+    → IfOk result (λ reply. (asked : Sources) (files : Files) → asked.nodes ≡ 0 → asked.schedule ≡ None → IsBad (bad.App refusal) asked files
     → Means (over_query query (accepted (files asked.app)) (files asked.blocks)) reply)
 app_means query refusal (Ok reply) means = λ asked files none unscheduled is.
     subst (λ (f : Result App Refusal). Means (over_query query f (files asked.blocks)) reply) (sym is) means
 app_means query refusal (Err e) means = tt
 
 pub arrivals_mean : (query : List ℕ) (why : BadArrivals) (result : Result Reply NoMemory)
-    → IfOk result (λ reply. (asked : Sources) (files : Files) → asked.nodes ≡ 0 → asked.schedule ≡ None → AreFolded all_blocks (Err (bad.Arrivals why)) asked files
+    → IfOk result (λ reply. (asked : Sources) (files : Files) → asked.nodes ≡ 0 → asked.schedule ≡ None → IsBad (bad.Arrivals why) asked files
     → Means (over_query query (accepted (files asked.app)) (files asked.blocks)) reply)
 arrivals_mean query why (Ok reply) = λ asked files none unscheduled is. absurd (no_arrivals asked.arrivals asked.nodes why files none is.1)
 arrivals_mean query why (Err e) = tt
 
 pub schedule_means : (query : List ℕ) (line : ℕ) (result : Result Reply NoMemory)
-    → IfOk result (λ reply. (asked : Sources) (files : Files) → asked.nodes ≡ 0 → asked.schedule ≡ None → AreFolded all_blocks (Err (bad.Schedule line)) asked files
+    → IfOk result (λ reply. (asked : Sources) (files : Files) → asked.nodes ≡ 0 → asked.schedule ≡ None → IsBad (bad.Schedule line) asked files
     → Means (over_query query (accepted (files asked.app)) (files asked.blocks)) reply)
 schedule_means query line (Ok reply) = λ asked files none unscheduled is. absurd (no_schedule asked.schedule line files unscheduled is.2)
 schedule_means query line (Err e) = tt
 
 -- over a shelf that tells its files
-pub means_told : (told : Option Files) (query : List ℕ) (asked : Sources) (read : Result Folded BadSource) (reply : Reply) → asked.nodes ≡ 0 → asked.schedule ≡ None
-    → ((asked : Sources) (files : Files) → asked.nodes ≡ 0 → asked.schedule ≡ None → AreFolded all_blocks read asked files → Means (over_query query (accepted (files asked.app)) (files asked.blocks)) reply)
-    → IfSome told (λ files. AreFolded all_blocks read asked files) → IfSome told (λ files. Means (over_query query (accepted (files asked.app)) (files asked.blocks)) reply)
-means_told None query asked read reply none unscheduled gives are = tt
-means_told (Some files) query asked read reply none unscheduled gives are = gives asked files none unscheduled are
+pub means_told : (told : Option Files) (query : List ℕ) (height : ℕ) (asked : Sources) (read : Result Folded BadSource) (reply : Reply) → asked.nodes ≡ 0 → asked.schedule ≡ None
+    → ((asked : Sources) (files : Files) → asked.nodes ≡ 0 → asked.schedule ≡ None → AreFolded height read asked files → Means (over_query query (accepted (files asked.app)) (files asked.blocks)) reply)
+    → IfSome told (λ files. AreFolded height read asked files) → IfSome told (λ files. Means (over_query query (accepted (files asked.app)) (files asked.blocks)) reply)
+means_told None query height asked read reply none unscheduled gives are = tt
+means_told (Some files) query height asked read reply none unscheduled gives are = gives asked files none unscheduled are

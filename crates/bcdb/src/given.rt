@@ -4,7 +4,7 @@ ghost use Rattle.std.specs.Prelude.{◌≡◌, IfOk, IfSome, IsErrOf, List, Ok, 
 ghost use Rattle.std.specs.List.{AllByRecursion};
 ghost use Rattle.bcdb.specs.Accepted.{accepted};
 ghost use Rattle.bcdb.specs.ArrivalFiles.{all_arrived};
-ghost use Rattle.bcdb.specs.Folds.{Folds};
+ghost use Rattle.bcdb.specs.Folds.{Folds, app_of};
 ghost use Rattle.bcdb.specs.Given.{AreFolded, AreGiven, AreInputs};
 ghost use Rattle.bcdb.specs.Plan.{AllowsPlan, BlocksFile, Counted, RoseAt, RoseIn, plan_from_arrivals, plan_from_schedule, planned, sources_plan};
 ghost use Rattle.bcdb.specs.Taking.{GivesApp};
@@ -126,9 +126,9 @@ fn read_from_arrivals<S: Shelf>(
     }
 }
 
-// What is read before the blocks, or the first file that is refused: the application, what arrives at each node and the schedule are read
-// one after another, each only once the one before it is what it must be.
-fn read_inputs<S: Shelf>(
+/// What is read before the blocks, or the first file that is refused: the application, what arrives at each node and the schedule are read
+/// one after another, each only once the one before it is what it must be.
+pub fn read_inputs<S: Shelf>(
     alloc: Global,
     shelf: &mut S,
     asked: &Sources,
@@ -184,17 +184,18 @@ fn read_last<S: Shelf>(
     }
 }
 
-// What the blocks come to once all but these was read.
-fn fold_last<S: Shelf>(
+/// What the blocks come to on its application up to a height, once all but these was read.
+pub fn fold_inputs<S: Shelf>(
     alloc: Global,
     shelf: &mut S,
     asked: &Sources,
     inputs: Inputs,
     height: u64,
-) -> Result<Result<Folded, BadSource>, FilesFault>
+) -> Result<Folded, FilesFault>
     requires allowed { AllowsPlan (planned BlocksFile asked.now.blocks) (S.told shelf.old) (S.may_read shelf.old) }
-    ensures told { IfOk result (λ read. IfSome (S.told shelf.old) (λ files. AreInputs (Ok inputs) asked.now files → AreFolded height read asked.now files)) }
-    ensures folds { IfOk result (λ read. IfOk read (λ folded. (blocks : List BlockText) × Folds height blocks folded)) }
+    ensures told { IfOk result (λ folded. IfSome (S.told shelf.old) (λ files. AreInputs (Ok inputs) asked.now files → AreFolded height (Ok folded) asked.now files)) }
+    ensures app { IfOk result (λ folded. app_of folded ≡ inputs.app.app) }
+    ensures folds { IfOk result (λ folded. (blocks : List BlockText) × Folds height blocks folded) }
     ensures counted { Counted result (RoseAt (planned BlocksFile asked.now.blocks) (S.faults shelf.old) (S.faults shelf.new)) (S.faults shelf.old) (S.faults shelf.new) }
 {
     let Inputs {
@@ -209,7 +210,24 @@ fn fold_last<S: Shelf>(
     };
     let folded = fold_blocks(alloc, shelf, asked.blocks.as_str(), &app, height);
     drop(app);
-    Ok(Ok(folded?))
+    folded
+}
+
+// The same as it is given.
+fn fold_last<S: Shelf>(
+    alloc: Global,
+    shelf: &mut S,
+    asked: &Sources,
+    inputs: Inputs,
+    height: u64,
+) -> Result<Result<Folded, BadSource>, FilesFault>
+    requires allowed { AllowsPlan (planned BlocksFile asked.now.blocks) (S.told shelf.old) (S.may_read shelf.old) }
+    ensures told { IfOk result (λ read. IfSome (S.told shelf.old) (λ files. AreInputs (Ok inputs) asked.now files → AreFolded height read asked.now files)) }
+    ensures folds { IfOk result (λ read. IfOk read (λ folded. (blocks : List BlockText) × Folds height blocks folded)) }
+    ensures counted { Counted result (RoseAt (planned BlocksFile asked.now.blocks) (S.faults shelf.old) (S.faults shelf.new)) (S.faults shelf.old) (S.faults shelf.new) }
+{
+    let folded = fold_inputs(alloc, shelf, asked, inputs, height)?;
+    Ok(Ok(folded))
 }
 
 /// What a command is given that asks for all blocks, or the first of its files that is refused. The blocks are read last, only once

@@ -3,9 +3,10 @@ use Rattle.std.proofs.Common.{Bool, Err, IfOk, List, None, Ok, OnErr, OnOk, Opti
 use Rattle.std.proofs.lemmas.Bool.{eq-eqb, false≢true}
 use Rattle.std.proofs.lemmas.Option.{none-some}
 use Rattle.std.specs.Option.{option_and_then}
+use Rattle.cluster_run.proofs.Made.{turn_makes}
 use Rattle.cluster_run.proofs.Quiet.{step_blocks}
 use Rattle.cluster_run.proofs.Turning.{answer_is, at_work, finds_none, found_later, look_blocks, look_none, step_delivers, step_none, step_state}
-use Rattle.cluster_run.specs.Standing.{AllDecided, HasNone, IsTrue, SameBlocks, Says, delivered_by, in_work, state_seen}
+use Rattle.cluster_run.specs.Standing.{AllDecided, HasMade, HasNone, IsTrue, SameBlocks, Says, delivered_by, in_work, state_seen}
 use Rattle.node_core.specs.Answers.{decided_as, delivered_as, sealed_as}
 use Rattle.node_core.specs.Core.{Core, entries_for}
 use Rattle.node_core.specs.declared.answers.Decided.TheVariants as answered
@@ -99,6 +100,28 @@ is_all (steps.AllDecided number) = true
 is_all (steps.NoBlock sealed) = true
 is_all _ = false
 
+-- it says that one was decided, of which it is an entry
+abbrev pub is_decided : Answer → Bool
+is_decided (steps.Decided pos) = true
+is_decided _ = false
+
+record Noted (event : Option Event) : Type 0 where
+  pub one : Event
+  pub is : event ≡ Some one
+
+decided_noted : (app : App) (w : World) (o : Option BlockInWork) → is_decided (commits app w o).0 ≡ true → Noted (commits app w o).1
+decided_noted app w None e = absurd (false≢true e)
+decided_noted app w (Some work) e = by (due work) e
+  where
+    by_ready : (b : Bool) (pos : ℕ) (holder : Option ℕ) → is_decided (cond {A = Reply} b (steps.Decided pos, Some (Commit pos)) (steps.NotReady pos holder, None)).0 ≡ true
+        → Noted (cond {A = Reply} b (steps.Decided pos, Some (Commit pos)) (steps.NotReady pos holder, None)).1
+    by_ready true pos holder e = record { one = Commit pos; is = refl }
+    by_ready false pos holder e = absurd (false≢true e)
+
+    by : (t : Option Tx) → is_decided (commits_due app w work t).0 ≡ true → Noted (commits_due app w work t).1
+    by None e = absurd (false≢true e)
+    by (Some tx) e = by_ready (is_ready app w work tx) (decided work + 1) _ e
+
 record NoneDue (o : Option BlockInWork) (event : Option Event) : Type 0 where
   pub all : option_and_then due o ≡ None
   pub quiet : event ≡ None
@@ -184,6 +207,12 @@ module _ {ghosts : Ghosts Core App Entry} (old new : Pass Core App Entry ghosts)
         let due_none = all_none (pass_base old) found found.work (sym (ap is_all (answer_is old new same ToCommit answer has.true_to turn)) ∙ all) in
         ap (λ (w : World). option_and_then due w.work) (step_state old new same ToCommit answer has.true_to turn None due_none.quiet) ∙ due_none.all
 
+    commit_made : is_decided answer ≡ true → HasMade old new
+    commit_made is =
+        let found : World = world (pass_base old) turn.journal in
+        let noted = decided_noted (pass_base old) found found.work (sym (ap is_decided (answer_is old new same ToCommit answer has.true_to turn)) ∙ is) in
+        turn_makes old new ToCommit answer turn noted.one noted.is
+
   -- ---- a seal
 
   module _ (answer : Answer) (has : HasNone old) (turn : IsTurn old new ToSeal answer) where
@@ -246,11 +275,11 @@ module _ {ghosts : Ghosts Core App Entry} (old new : Pass Core App Entry ghosts)
     commit_blocks (Ok got) turn err = step_blocks old new same ToCommit (decided_as got) has.true_to turn tt zero_is
     commit_blocks (Err refused) turn err = look_blocks old new same has.true_to err zero_is
 
-    pub commit_says : (r : Result Decided M) → IfOk r (λ got. IsTurn old new ToCommit (decided_as got)) → IfOk r (λ got. Says got new)
+    pub commit_says : (r : Result Decided M) → IfOk r (λ got. IsTurn old new ToCommit (decided_as got)) → IfOk r (λ got. Says got old new)
     commit_says (Ok got) turn = by got turn
       where
-        by : (got : Decided) → IsTurn old new ToCommit (decided_as got) → Says got new
-        by (answered.Outcome pos) turn = tt
+        by : (got : Decided) → IsTurn old new ToCommit (decided_as got) → Says got old new
+        by (answered.Outcome pos) turn = commit_made (steps.Decided pos) has turn refl
         by (answered.NotReady pos holder) turn = tt
         by (answered.AllDecided number) turn = commit_all (steps.AllDecided number) has turn refl
         by (answered.NoBlock sealed) turn = commit_all (steps.NoBlock sealed) has turn refl

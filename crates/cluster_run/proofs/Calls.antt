@@ -1,10 +1,10 @@
 -- What each call of a held job leaves in hand, whether or not memory was wanting.
-use Rattle.std.proofs.Common.{Err, IfErr, IfOk, IfSome, None, Ok, OnErr, OnOk, Option, Result, Some, ap, subst, sym, ◌∙◌, ◌≡◌}
-use Rattle.cluster_run.proofs.Hands.{claim_has, finish_has, finish_over, none_taken, read_has}
+use Rattle.std.proofs.Common.{Bool, Err, IfErr, IfOk, IfSome, None, Ok, OnErr, OnOk, Option, Result, Some, cond, false, inl, inr, length, subst, sym, true, ◌+◌, ◌∙◌, ◌≡◌}
+use Rattle.cluster_run.proofs.Hands.{claim_has, claim_made, finish_has, finish_over, none_taken, read_has}
 use Rattle.cluster_run.proofs.Quiet.{step_blocks}
 use Rattle.cluster_run.proofs.Turning.{look_blocks, look_none, look_work}
-use Rattle.cluster_run.specs.Standing.{Has, HasNone, HasWork, IsOver, SameBlocks, Stands, Takes, left_of}
-use Rattle.node_core.specs.Answers.{claimed_as, finished_as, got_as}
+use Rattle.cluster_run.specs.Standing.{Has, HasNone, HasWork, IsFurther, IsOver, Leaves, SameBlocks, Stands, Takes, left_of}
+use Rattle.node_core.specs.Answers.{claimed_as, finished_as, got_as, is_gone}
 use Rattle.node_core.specs.Core.{Core, IsHeld}
 use Rattle.node_core.specs.Hands.{IsAnswered, IsClaimed}
 use Rattle.node_core.specs.InHand.{InHand, IsSameRun}
@@ -34,6 +34,12 @@ module _ {ghosts : Ghosts Core App Entry} where
   pub ran_stands : (turns : TurnLock Core App Entry) (pass : Pass Core App Entry ghosts) (old new : InHand) → IsSameRun old new → Stands turns pass (Some old) → Stands turns pass (Some new)
   ran_stands turns pass old new same was = record { lock = was.lock; no_turn = was.no_turn; hand = ran_on pass old new same was.hand }
 
+  -- and what a step leaves of it is the same
+  pub ran_leaves : {M : Type 0} (pass : Pass Core App Entry ghosts) (old new : InHand) → IsSameRun old new → (r : Result (Option InHand) M) → IfOk r (Leaves pass new) → IfOk r (Leaves pass old)
+  ran_leaves pass old new same (Ok None) leaves = subst (λ (one : InHand). IsOver pass one.job) same leaves
+  ran_leaves pass old new same (Ok (Some work)) leaves = subst (λ (one : InHand). (work.job ≡ one.job) × IsFurther one work) same leaves
+  ran_leaves pass old new same (Err refused) leaves = tt
+
   -- two stretches with the same blocks
   pub same_trans : (one two three : Pass Core App Entry ghosts) → IsSamePass one two → (pass_number one ≡ 0 → SameBlocks one two) → (pass_number two ≡ 0 → SameBlocks two three) → pass_number one ≡ 0 → SameBlocks one three
   same_trans one two three same first then zero = let p = first zero in let q = then (same.same_number ∙ zero) in record {
@@ -48,9 +54,9 @@ module _ {ghosts : Ghosts Core App Entry} where
     claim_leaves pick (Ok got) has turn held fresh err = claim_has old new same pick has got turn held fresh
     claim_leaves pick (Err refused) has turn held fresh err = look_none old new same has.true_to err has
 
-    pub claim_takes : (pick : Pick) (r : Result (Option InHand) M) → HasNone old → IfOk r (λ got. IsTurn old new (ToClaim pick) (claimed_as got)) → IfOk r (Takes new pick)
+    pub claim_takes : (pick : Pick) (r : Result (Option InHand) M) → HasNone old → IfOk r (λ got. IsTurn old new (ToClaim pick) (claimed_as got)) → IfOk r (Takes old new pick)
     claim_takes pick (Ok None) has turn = none_taken old new same pick has turn
-    claim_takes pick (Ok (Some work)) has turn = tt
+    claim_takes pick (Ok (Some work)) has turn = claim_made old new same pick has work.job turn
     claim_takes pick (Err refused) has turn = tt
 
     pub claim_blocks : (pick : Pick) (r : Result (Option InHand) M) → HasNone old → IfOk r (λ got. IsTurn old new (ToClaim pick) (claimed_as got)) → OnErr r (IsLook old new) → pass_number old ≡ 0 → SameBlocks old new
@@ -64,9 +70,13 @@ module _ {ghosts : Ghosts Core App Entry} where
       read_leaves (Ok got) work' turn held answered err = read_has old new same work has got turn work' held answered
       read_leaves (Err refused) work' turn held answered err = subst (HasWork new) (sym err.1) (look_work old new same has.true_to err.0 work has)
 
-      pub read_job : (r : Result Got M) (work' : InHand) → IfOk r (λ got. IsAnswered got work work') → OnErr r (IsLook old new × (work' ≡ work)) → work'.job ≡ work.job
-      read_job (Ok got) work' answered err = answered.job
-      read_job (Err refused) work' answered err = ap (λ (one : InHand). one.job) err.1
+      pub read_further : (r : Result Got M) (work' : InHand) → work.gone ≡ false → IfOk r (λ got. IsAnswered got work work') → OnOk r ((work'.job ≡ work.job) × IsFurther work work')
+      read_further (Ok got) work' here answered = (answered.job, by (is_gone got) answered.gone answered.reads)
+        where
+          by : (b : Bool) → work'.gone ≡ b → length work'.told.fed ≡ cond b (length work.told.fed) (length work.told.fed + 1) → IsFurther work work'
+          by true gone reads = inr (here, gone)
+          by false gone reads = inl reads
+      read_further (Err refused) work' here answered = tt
 
       pub read_blocks : (r : Result Got M) (work' : InHand) → IfOk r (λ got. IsTurn old new (ToRead work.job) (got_as got)) → OnErr r (IsLook old new × (work' ≡ work)) → pass_number old ≡ 0 → SameBlocks old new
       read_blocks (Ok got) work' turn err = step_blocks old new same (ToRead work.job) (got_as got) has.true_to turn tt

@@ -5,7 +5,8 @@ use Rattle.std.proofs.lemmas.Option.{same_Some}
 use Rattle.std.specs.List.{list_any}
 use Rattle.std.specs.Option.{is_some, option_and_then}
 use Rattle.cluster_run.proofs.Turning.{answer_is, finds_held, finds_none, finds_only, finds_settled, step_none, step_state, step_job}
-use Rattle.cluster_run.specs.Standing.{Has, HasNone, HasWork, HoldsOnly, IsOver, Takes, state_seen}
+use Rattle.cluster_run.proofs.Made.{turn_makes}
+use Rattle.cluster_run.specs.Standing.{Has, HasMade, HasNoJob, HasNone, HasWork, HoldsOnly, IsOver, state_seen}
 use Rattle.node_core.proofs.Claims.{changed_at}
 use Rattle.node_core.specs.Answers.{claimed_as, got_as, is_gone}
 use Rattle.node_core.specs.Core.{Core, IsHeld, world_of}
@@ -107,12 +108,19 @@ module _ {ghosts : Ghosts Core App Entry} (old new : Pass Core App Entry ghosts)
         (λ gone. absurd (false≢true (sym fresh.not_gone ∙ gone)))
 
     -- where none was taken, there is none to take
-    pub none_taken : IsTurn old new (ToClaim pick) steps.NoJob → Takes new pick None
+    pub none_taken : IsTurn old new (ToClaim pick) steps.NoJob → HasNoJob new pick
     none_taken turn =
         let found : World = world_of (record { app = pass_base old; journal = turn.journal }) in
         let is = none_claimed (chosen (pass_base old) found pick) (answer_is old new same (ToClaim pick) steps.NoJob has.true_to turn) in
         let state = step_state old new same (ToClaim pick) steps.NoJob has.true_to turn None (ap (λ (o : Option ℕ). (claims o).1) is) in
         ap (λ (a : App). chosen a (state_seen new) pick) same.same_base ∙ (ap (λ (w : World). chosen (pass_base old) w pick) state ∙ is)
+
+    -- a claim that takes a job is an entry
+    pub claim_made : (number : ℕ) → IsTurn old new (ToClaim pick) (steps.Claimed number) → HasMade old new
+    claim_made number turn =
+        let found : World = world_of (record { app = pass_base old; journal = turn.journal }) in
+        let is = claimed_is (chosen (pass_base old) found pick) number (answer_is old new same (ToClaim pick) (steps.Claimed number) has.true_to turn) in
+        turn_makes old new (ToClaim pick) (steps.Claimed number) turn (event_of.Claim number) (ap (λ (o : Option ℕ). (claims o).1) is)
 
     pub claim_has : (got : Option InHand) → IsTurn old new (ToClaim pick) (claimed_as got) → IfSome got (IsHeld (node_seen new)) → IfSome got (IsClaimed (pass_number old)) → Has new got
     claim_has None turn held fresh = claimed_none turn

@@ -1,6 +1,7 @@
 pub mod Arriving
 pub mod Turning
 pub mod Hands
+pub mod Made
 pub mod Quiet
 pub mod Calls
 pub mod Blocks

@@ -18,7 +18,7 @@ use Rattle.rel_base.specs.declared.storied.Storied.{Ghosts}
 use Rattle.schedule_laws.specs.Scheduled.{block_in}
 use Rattle.schedule_laws.specs.Stable.{entries_by}
 use Rattle.std.specs.Option.{option_and_then}
-use Rattle.std.specs.Prelude.{Bool, Err, List, None, Ok, Option, Result, Some, [], false, true, ◌+◌, ◌≡◌, ◌≢◌, ◌⊎◌, ℕ}
+use Rattle.std.specs.Prelude.{Bool, Err, List, None, Ok, Option, Result, Some, [], false, length, true, ◌+◌, ◌<◌, ◌≡◌, ◌≢◌, ◌≤◌, ◌⊎◌, ℕ}
 use Rattle.turn_lock.specs.Ledger.{made_by}
 use Rattle.turn_lock.specs.Passes.{HoldsNoTurn, IsPassOf, IsSameHolder, IsSamePass, joined, left, mine, pass_base, pass_number, seen}
 use Rattle.turn_lock.specs.declared.lock.TurnLock.{TurnLock}
@@ -32,6 +32,10 @@ pub record Brings (executors : ℕ) (handed : List Tx) (actor : ℕ) (entries : 
 -- an actor holds no job but one
 abbrev pub HoldsOnly : World → ℕ → ℕ → Type 0
 HoldsOnly w actor one = (number : ℕ) (job : Job) → Holds w.jobs actor number job → number ≡ one
+
+-- a job in hand has made one read more, or has found that its id is settled
+abbrev pub IsFurther : (old new : InHand) → Type 0
+IsFurther old new = (length new.told.fed ≡ length old.told.fed + 1) ⊎ ((old.gone ≡ false) × (new.gone ≡ true))
 
 module _ {ghosts : Ghosts Core App Entry} where
   -- the state of the node as a pass has seen it
@@ -71,11 +75,16 @@ module _ {ghosts : Ghosts Core App Entry} where
     pub no_turn : HoldsNoTurn pass
     pub hand : Has pass work
 
-  -- a pass that stays the same, and has no turn and this in hand after its turns
+  -- a pass that stays the same and keeps its entries, and has no turn and this in hand after its turns
   pub record Comes (old new : Pass Core App Entry ghosts) (work : Option InHand) : Type 0 where
     pub same : IsSamePass old new
     pub no_turn : HoldsNoTurn new
     pub hand : Has new work
+    pub entries : length (mine old) ≤ length (mine new)
+
+  -- it has made entries of its own since
+  abbrev pub HasMade : Pass Core App Entry ghosts → Pass Core App Entry ghosts → Type 0
+  HasMade old new = length (mine old) < length (mine new)
 
   -- ---- what becomes of a job
 
@@ -85,20 +94,28 @@ module _ {ghosts : Ghosts Core App Entry} where
     pub stands : job_at (state_seen pass).jobs number ≡ Some job
     pub over : (job.status ≡ Done) ⊎ (job.status ≡ Dropped)
 
-  -- what a step leaves of the job of a number: it goes on, or it is over
-  abbrev pub Leaves : Pass Core App Entry ghosts → ℕ → Option InHand → Type 0
-  Leaves pass number None = IsOver pass number
-  Leaves pass number (Some work) = work.job ≡ number
+  -- what a step leaves of a job: it is over, or it goes on and is further than it was
+  abbrev pub Leaves : Pass Core App Entry ghosts → InHand → Option InHand → Type 0
+  Leaves pass old None = IsOver pass old.job
+  Leaves pass old (Some new) = (new.job ≡ old.job) × IsFurther old new
 
-  -- what a claim takes: a job, or there is none to take
-  abbrev pub Takes : Pass Core App Entry ghosts → Pick → Option InHand → Type 0
-  Takes pass pick None = chosen (pass_base pass) (state_seen pass) pick ≡ None
-  Takes pass pick (Some work) = Unit {0}
+  -- there is no job to take
+  abbrev pub HasNoJob : Pass Core App Entry ghosts → Pick → Type 0
+  HasNoJob pass pick = chosen (pass_base pass) (state_seen pass) pick ≡ None
 
-  -- whether a job was taken and run: one is over, or there is none to take
-  abbrev pub Runs : Pass Core App Entry ghosts → Pick → Bool → Type 0
-  Runs pass pick true = (number : ℕ) × IsOver pass number
-  Runs pass pick false = Takes pass pick None
+  -- what a claim takes: a job, by an entry of its own, or there is none to take
+  abbrev pub Takes : (old new : Pass Core App Entry ghosts) → Pick → Option InHand → Type 0
+  Takes old new pick None = HasNoJob new pick
+  Takes old new pick (Some work) = HasMade old new
+
+  -- whether a job was taken and run: it made entries and one is over, or there is none to take
+  abbrev pub Runs : (old new : Pass Core App Entry ghosts) → Pick → Bool → Type 0
+  Runs old new pick true = HasMade old new × ((number : ℕ) × IsOver new number)
+  Runs old new pick false = HasNoJob new pick
+
+  -- why to look again: it made entries, or a claim found no job to take
+  abbrev pub MayLookAgain : (old new : Pass Core App Entry ghosts) → Type 0
+  MayLookAgain old new = HasMade old new ⊎ ((pick : Pick) × HasNoJob new pick)
 
   -- ---- the blocks
 
@@ -115,11 +132,16 @@ module _ {ghosts : Ghosts Core App Entry} where
   AllDecided pass = option_and_then due (state_seen pass).work ≡ None
 
   -- what the answer to a commit says of the block in work
-  abbrev pub Says : Decided → Pass Core App Entry ghosts → Type 0
-  Says (decided.Outcome pos) pass = Unit {0}
-  Says (decided.NotReady pos holder) pass = Unit {0}
-  Says (decided.AllDecided number) pass = AllDecided pass
-  Says (decided.NoBlock sealed) pass = AllDecided pass
+  abbrev pub Says : Decided → (old new : Pass Core App Entry ghosts) → Type 0
+  Says (decided.Outcome pos) old new = HasMade old new
+  Says (decided.NotReady pos holder) old new = Unit {0}
+  Says (decided.AllDecided number) old new = AllDecided new
+  Says (decided.NoBlock sealed) old new = AllDecided new
+
+  -- what the answer to a look at the block in work says, whether all of it is decided
+  abbrev pub Looks : Bool → (old new : Pass Core App Entry ghosts) → Type 0
+  Looks true old new = AllDecided new
+  Looks false old new = MayLookAgain old new
 
   -- the same blocks were delivered, and the same one is in work
   pub record SameBlocks (old new : Pass Core App Entry ghosts) : Type 0 where

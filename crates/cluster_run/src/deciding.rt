@@ -1,7 +1,8 @@
 //! The transactions of the block in work are decided.
 
-ghost use Rattle.std.specs.Prelude.{◌≡◌, IfOk, None, OnOk, true};
-ghost use Rattle.cluster_run.specs.Standing.{AllDecided, Comes, SameBlocks, Says, Stands};
+ghost use Rattle.std.specs.Prelude.{◌≡◌, IfOk, None, OnOk};
+ghost use Rattle.cluster_run.specs.Standing.{AllDecided, Comes, HasNoJob, Looks, SameBlocks, Says, Stands};
+ghost use Rattle.node_model.specs.declared.journal.Pick.TheVariants.{Due};
 ghost use Rattle.turn_lock.specs.Passes.{pass_number};
 
 use crate::crew::Crew;
@@ -24,7 +25,7 @@ fn commit_next<V: Versions, R: Wait>(
     requires processor { pass_number pass.old ≡ 0 }
     ensures comes { Comes pass.old pass.new None }
     ensures blocks { SameBlocks pass.old pass.new }
-    ensures says { IfOk result (λ decided. Says decided pass.new) }
+    ensures says { IfOk result (λ decided. Says decided pass.old pass.new) }
 {
     node.commit(rt, pass)
 }
@@ -40,6 +41,7 @@ fn run_due<V: Versions, G: Gate, R: Wait>(
     requires processor { pass_number pass.old ≡ 0 }
     ensures comes { Comes pass.old pass.new None }
     ensures blocks { SameBlocks pass.old pass.new }
+    ensures none { OnOk result (HasNoJob pass.new Due) }
 {
     for _ in rt.forever() {
         if !run_one(rt, node, crew, pass, Pick::Due)? {
@@ -61,7 +63,7 @@ fn decide_next<V: Versions, G: Gate, R: Wait>(
     requires processor { pass_number pass.old ≡ 0 }
     ensures comes { Comes pass.old pass.new None }
     ensures blocks { SameBlocks pass.old pass.new }
-    ensures all { IfOk result (λ all. all ≡ true → AllDecided pass.new) }
+    ensures looks { IfOk result (λ all. Looks all pass.old pass.new) }
 {
     let heard = crew.ended.heard();
     match commit_next(rt, node, pass) {

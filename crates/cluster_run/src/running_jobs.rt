@@ -1,8 +1,8 @@
 //! A job is run from its claim to its end.
 
-ghost use Rattle.std.specs.Prelude.{◌≡◌, IfErr, IfOk, None, OnOk, Some, true, ℕ};
+ghost use Rattle.std.specs.Prelude.{◌≡◌, IfErr, IfOk, None, OnOk, Some, true};
 ghost use Rattle.cluster_run.specs.Standing.{Comes, IsOver, Leaves, Runs, SameBlocks, Stands, Takes, left_of};
-ghost use Rattle.node_core.specs.InHand.{IsReady, WantsRead};
+ghost use Rattle.node_core.specs.InHand.{InHand, IsReady, WantsRead};
 ghost use Rattle.turn_lock.specs.Passes.{pass_number};
 
 use crate::crew::Crew;
@@ -24,7 +24,7 @@ pub fn take_job<V: Versions, R: Wait>(
     requires stands { Stands node.now.lock pass.old None }
     ensures comes { Comes pass.old pass.new (left_of result) }
     ensures blocks { pass_number pass.old ≡ 0 → SameBlocks pass.old pass.new }
-    ensures takes { IfOk result (Takes pass.new pick) }
+    ensures takes { IfOk result (Takes pass.old pass.new pick) }
 {
     node.claim(rt, pass, pick)
 }
@@ -55,7 +55,7 @@ fn make_read<V: Versions, R: Wait>(
     requires wants { WantsRead work }
     ensures comes { Comes pass.old pass.new (left_of result) }
     ensures blocks { pass_number pass.old ≡ 0 → SameBlocks pass.old pass.new }
-    ensures leaves { IfOk result (Leaves pass.new work.job) }
+    ensures leaves { IfOk result (Leaves pass.new work) }
 {
     if node.read(rt, pass, &mut work).is_err() {
         give_up(rt, node, pass, work);
@@ -75,7 +75,7 @@ fn settle<V: Versions, R: Wait>(
     requires back { IfErr ended (λ refused. Stands node.now.lock pass.old (Some refused.0)) }
     ensures comes { Comes pass.old pass.new (left_of result) }
     ensures blocks { pass_number pass.old ≡ 0 → SameBlocks pass.old pass.new }
-    ensures leaves { (number : ℕ) → OnOk ended (IsOver pass.old number) → IfOk result (Leaves pass.new number) }
+    ensures leaves { (work : InHand) → OnOk ended (IsOver pass.old work.job) → IfOk result (Leaves pass.new work) }
 {
     match ended {
         Ok(_) => Ok(None),
@@ -97,7 +97,7 @@ fn end_job<V: Versions, R: Wait>(
     requires ready { IsReady work }
     ensures comes { Comes pass.old pass.new (left_of result) }
     ensures blocks { pass_number pass.old ≡ 0 → SameBlocks pass.old pass.new }
-    ensures leaves { IfOk result (Leaves pass.new work.job) }
+    ensures leaves { IfOk result (Leaves pass.new work) }
 {
     let ended = node.finish(rt, pass, work);
     settle(rt, node, pass, ended)
@@ -114,7 +114,7 @@ pub fn step_job<V: Versions, G: Gate, R: Wait>(
     requires stands { Stands node.now.lock pass.old (Some work) }
     ensures comes { Comes pass.old pass.new (left_of result) }
     ensures blocks { pass_number pass.old ≡ 0 → SameBlocks pass.old pass.new }
-    ensures leaves { IfOk result (Leaves pass.new work.job) }
+    ensures leaves { IfOk result (Leaves pass.new work) }
 {
     match work.advance() {
         Ok(Next::Wants) => make_read(rt, node, pass, work),
@@ -172,7 +172,7 @@ pub fn run_one<V: Versions, G: Gate, R: Wait>(
     requires stands { Stands node.now.lock pass.old None }
     ensures comes { Comes pass.old pass.new None }
     ensures blocks { pass_number pass.old ≡ 0 → SameBlocks pass.old pass.new }
-    ensures runs { IfOk result (Runs pass.new pick) }
+    ensures runs { IfOk result (Runs pass.old pass.new pick) }
 {
     match take_job(rt, node, pass, pick) {
         Ok(None) => Ok(false),

@@ -38,15 +38,20 @@ module _ (text : List ℕ → Option (List ℕ × List ℕ)) where
       cond (b == quote) (literal_piece lexeme.Text (text (b ∷ bs)))
       (sign_piece (b ∷ bs)))))))
 
-  abbrev tokens_by : ℕ → Position → List ℕ → List Token
-  tokens_by zero place bytes = []
-  tokens_by (suc steps) place bytes = put (piece_by bytes).0 place (tokens_by steps (moved (piece_by bytes).0 (length bytes - length (piece_by bytes).1) place) (piece_by bytes).1)
+  abbrev tokens_by : ℕ → (total : ℕ) → Position → List ℕ → List Token
+  tokens_by zero total place bytes = []
+  tokens_by (suc steps) total place bytes =
+      put (piece_by bytes).0 place (total - length bytes) (total - length (piece_by bytes).1)
+      (tokens_by steps total (moved (piece_by bytes).0 (length bytes - length (piece_by bytes).1) place) (piece_by bytes).1)
 
-same_tokens : (steps : ℕ) (place : Position) (bytes : List ℕ) → tokens_by text_at steps place bytes ≡ tokens_in steps place bytes
-same_tokens zero place bytes = refl
-same_tokens (suc steps) place [] = ap (put (piece_at []).0 place) (same_tokens steps (moved (piece_at []).0 (length {A = ℕ} [] - length (piece_at []).1) place) (piece_at []).1)
-same_tokens (suc steps) place (b ∷ bs) =
-    ap (put (piece_at (b ∷ bs)).0 place) (same_tokens steps (moved (piece_at (b ∷ bs)).0 (length (b ∷ bs) - length (piece_at (b ∷ bs)).1) place) (piece_at (b ∷ bs)).1)
+same_tokens : (steps total : ℕ) (place : Position) (bytes : List ℕ) → tokens_by text_at steps total place bytes ≡ tokens_in steps total place bytes
+same_tokens zero total place bytes = refl
+same_tokens (suc steps) total place [] =
+    ap (put (piece_at []).0 place (total - length {A = ℕ} []) (total - length (piece_at []).1))
+    (same_tokens steps total (moved (piece_at []).0 (length {A = ℕ} [] - length (piece_at []).1) place) (piece_at []).1)
+same_tokens (suc steps) total place (b ∷ bs) =
+    ap (put (piece_at (b ∷ bs)).0 place (total - length (b ∷ bs)) (total - length (piece_at (b ∷ bs)).1))
+    (same_tokens steps total (moved (piece_at (b ∷ bs)).0 (length (b ∷ bs) - length (piece_at (b ∷ bs)).1) place) (piece_at (b ∷ bs)).1)
 
 -- ---- a test of texts that computes on ASCII
 
@@ -87,10 +92,10 @@ plain_text = ap text_by (λ i bytes. plain_is bytes i) ∙ (λ i bytes. same_tex
 -- ---- the application
 
 abbrev plain_tokens : List ℕ → List Token
-plain_tokens text = tokens_by (text_by is_plain) (suc (length text)) start text
+plain_tokens text = tokens_by (text_by is_plain) (suc (length text)) (length text) start text
 
 plain_tokens_are : (text : List ℕ) → plain_tokens text ≡ tokens_of text
-plain_tokens_are text = ap (λ (reader : List ℕ → Option (List ℕ × List ℕ)). tokens_by reader (suc (length text)) start text) plain_text ∙ same_tokens (suc (length text)) start text
+plain_tokens_are text = ap (λ (reader : List ℕ → Option (List ℕ × List ℕ)). tokens_by reader (suc (length text)) (length text) start text) plain_text ∙ same_tokens (suc (length text)) (length text) start text
 
 -- by computation
 read_so : tree_of (application (plain_tokens app_text)) ≡ Some (app_with tables procedures)

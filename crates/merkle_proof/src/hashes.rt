@@ -9,7 +9,7 @@ ghost use Rattle.std.specs.Prelude.{◌≡◌, IfOk};
 
 use canon_code::put_write;
 use rel_base::{NoMemory, Placed};
-use sha_lanes::Hasher;
+use sha2::{Digest, Sha256};
 use std::alloc::Global;
 
 /// The code of a write.
@@ -26,8 +26,8 @@ pub fn code_of(alloc: Global, write: &Placed) -> Result<Vec<u8>, NoMemory>
 pub fn leaf(code: &[u8]) -> [u8; 32]
     ensures { result ≡ leaf_of sha256 code.now }
 {
-    let mut hasher = Hasher::new();
-    hasher.update(&[0_u8]);
+    let mut hasher = Sha256::new();
+    hasher.update([0_u8].as_slice());
     hasher.update(code);
     hasher.finalize()
 }
@@ -36,10 +36,10 @@ pub fn leaf(code: &[u8]) -> [u8; 32]
 pub fn node(left: &[u8; 32], right: &[u8; 32]) -> [u8; 32]
     ensures { result ≡ node_of sha256 left.now right.now }
 {
-    let mut hasher = Hasher::new();
-    hasher.update(&[1_u8]);
-    hasher.update(left);
-    hasher.update(right);
+    let mut hasher = Sha256::new();
+    hasher.update([1_u8].as_slice());
+    hasher.update(left.as_slice());
+    hasher.update(right.as_slice());
     hasher.finalize()
 }
 
@@ -47,9 +47,9 @@ pub fn node(left: &[u8; 32], right: &[u8; 32]) -> [u8; 32]
 pub fn head_with(count: u32, root: &[u8; 32]) -> [u8; 32]
     ensures { result ≡ head_at sha256 count root.now }
 {
-    let mut hasher = Hasher::new();
-    hasher.update(&[2_u8]);
-    hasher.update(&count.to_be_bytes());
-    hasher.update(root);
+    let mut hasher = Sha256::new();
+    hasher.update([2_u8].as_slice());
+    hasher.update(count.to_be_bytes().as_slice());
+    hasher.update(root.as_slice());
     hasher.finalize()
 }

@@ -1,5 +1,6 @@
 -- A read is a step, and leaves its job held.
-use Rattle.std.proofs.Common.{Bool, List, None, Option, Some, [], ap, false, length, refl, subst, sym, true, ◌++◌, ◌∙◌, ◌≡◌, ◌∷◌, ℕ}
+use Rattle.std.proofs.Common.{Bool, List, None, Option, Some, [], ap, false, length, refl, subst, sym, true, ◌+◌, ◌++◌, ◌∙◌, ◌≡◌, ◌∷◌, ℕ}
+use Rattle.std.proofs.lemmas.List.{length-append}
 use Rattle.std.proofs.lemmas.Bool.{false≢true}
 use Rattle.std.specs.Option.{is_some, option_and_then, option_map}
 use Rattle.node_core.proofs.Claims.{changed_at}
@@ -9,7 +10,8 @@ use Rattle.node_core.proofs.Rowed.{rows_keep}
 use Rattle.node_core.proofs.Settled.{height_is}
 use Rattle.node_core.specs.Answers.{got_as, got_of}
 use Rattle.node_core.specs.Core.{IsHeld, Steps}
-use Rattle.node_core.specs.InHand.{InHand, IsNextRead, job_in, with_read}
+use Rattle.node_core.specs.Hands.{IsAnswered}
+use Rattle.node_core.specs.InHand.{InHand, IsNextRead, WantsRead, job_in, with_read}
 use Rattle.node_core.specs.Kept.{IsNode, IsRowOf, IsStageOf, Kept, told_in, world_in}
 use Rattle.node_core.specs.declared.jobs.JobRow.{JobRow}
 use Rattle.node_core.specs.declared.jobs.Stage.TheVariants as stage
@@ -49,6 +51,11 @@ held_stage tables told (stage.Held actor) job other held same is = same ∙ is
 held_stage tables told (stage.Done recorded) job other held same is = absurd (false≢true (sym (ap is_held is.0) ∙ held))
 held_stage tables told stage.Taken job other held same is = absurd (false≢true (sym (ap is_held is.0) ∙ held))
 held_stage tables told stage.Dropped job other held same is = absurd (false≢true (sym (ap is_held is) ∙ held))
+
+-- a read with its rows is answered
+pub read_answered : (work : InHand) (read : Read) (rows : List Seen) (cut : Bool) (hit : Option Place) → WantsRead work → IsAnswered (got_of hit) work (with_read work read rows cut)
+read_answered work read rows cut None wants = record { job = refl; actor = refl; gone = wants.0; asks = refl; reads = length-append work.told.fed (record { read = read; rows = rows } ∷ []) }
+read_answered work read rows cut (Some place) wants = record { job = refl; actor = refl; gone = wants.0; asks = refl; reads = length-append work.told.fed (record { read = read; rows = rows } ∷ []) }
 
 module _ (kept : Kept) (node : IsNode kept) (work : InHand) (held : IsHeld (core_of kept) work) where
   -- the id is settled

@@ -7,7 +7,7 @@ use Rattle.node_core.specs.Answers.{is_gone}
 use Rattle.node_core.specs.declared.answers.Got.{Got}
 use Rattle.node_model.specs.Journals.{IsLegal}
 use Rattle.node_model.specs.Steps.{ToFinish, ToRead}
-use Rattle.std.specs.Prelude.{None, [], cond, false, true, ◌≡◌, ℕ}
+use Rattle.std.specs.Prelude.{None, [], cond, false, length, true, ◌+◌, ◌≡◌, ℕ}
 
 -- it is as far as an answer says
 abbrev pub Says : Next → InHand → Type 0
@@ -25,12 +25,13 @@ MayGoOn core next.Gone work = Unit {0}
 abbrev pub GoesOn : Next → InHand → Type 0
 GoesOn next work = (core : Core) → IsLegal core.app core.journal → IsHeld core work → MayGoOn core next work
 
--- a read was answered: the job has the mark exactly where the id is settled, and else it asks no more
+-- a read was answered: the job has the mark exactly where the id is settled, and else it asks no more and has one read more
 pub record IsAnswered (got : Got) (old new : InHand) : Type 0 where
   pub job : new.job ≡ old.job
   pub actor : new.actor ≡ old.actor
   pub gone : new.gone ≡ is_gone got
   pub asks : new.told.asks ≡ cond (is_gone got) old.told.asks None
+  pub reads : length new.told.fed ≡ cond (is_gone got) (length old.told.fed) (length old.told.fed + 1)
 
 -- a job as an actor takes it
 pub record IsClaimed (actor : ℕ) (work : InHand) : Type 0 where

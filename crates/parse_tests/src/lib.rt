@@ -1,4 +1,5 @@
-//! Tests of the parsers and of the printer: the places at which texts are refused, how the sources of queries are read, and how a print is laid out.
+//! Tests of the parsers and of the printer: the places at which texts are refused, how the sources of queries are read, where tokens stand, and how a
+//! print is laid out.
 #![tactic(auto)]
 
 #[cfg(test)]
@@ -9,5 +10,7 @@ mod places;
 mod plans;
 #[cfg(test)]
 mod prints;
+#[cfg(test)]
+mod span_tests;
 #[cfg(test)]
 mod texts;

@@ -1,5 +1,5 @@
 -- No reader goes past the end of the text, nor past a bad token, so what is left where one stops is never empty.
-use Rattle.std.proofs.Common.{◌≡◌, ℕ, zero, suc, ◌<◌, List, [], ◌∷◌, ◌++◌, length, Bool, true, false, cond, ◌||◌, Option, Some, None, Ok, Err, refl, sym, ap, subst, ◌∙◌, arith}
+use Rattle.std.proofs.Common.{◌≡◌, ℕ, zero, suc, ◌<◌, ◌-◌, List, [], ◌∷◌, ◌++◌, length, Bool, true, false, cond, ◌||◌, Option, Some, None, Ok, Err, refl, sym, ap, subst, ◌∙◌, arith}
 use Rattle.proc_parse.specs.declared.token.Token.{Token}
 use Rattle.proc_parse.specs.declared.token.Lexeme.{Lexeme}
 use Rattle.proc_parse.specs.declared.token.Lexeme.TheVariants as lexeme
@@ -98,11 +98,11 @@ ends_one : {A : Type 0} → (meaning : Token → Option A) → ((t : Token) → 
 ends_one meaning never [] h = h
 ends_one meaning never (t ∷ xs) h = ends_found (meaning t) t xs (never t) h
 
-pub halts_one : {A : Type 0} → (meaning : Token → Option A) → ((line col : ℕ) → meaning (record { lexeme = lexeme.End; line = line; col = col }) ≡ None)
-    → ((line col : ℕ) → meaning (record { lexeme = lexeme.Bad; line = line; col = col }) ≡ None) → Halts (one meaning)
+pub halts_one : {A : Type 0} → (meaning : Token → Option A) → ((t : Token) → meaning (record t { lexeme = lexeme.End }) ≡ None)
+    → ((t : Token) → meaning (record t { lexeme = lexeme.Bad }) ≡ None) → Halts (one meaning)
 halts_one meaning e b = record {
   ends = ends_one meaning
-      (λ t h. last_cases (λ l. (line col : ℕ) → meaning (record { lexeme = l; line = line; col = col }) ≡ None) e b t.lexeme h t.line t.col);
+      (λ t h. last_cases (λ l. (t : Token) → meaning (record t { lexeme = l }) ≡ None) e b t.lexeme h t);
 }
 
 ends_op_by : {A : Type 0} → (o : Option Op) (go : Op → Reader A) (stay : A) (t : Token) (xs : List Token) → (is_last t.lexeme ≡ true → o ≡ None) → ((o : Op) → Halts (go o))
@@ -161,13 +161,13 @@ pub halts_parens : {A : Type 0} → (phrase : Reader A) → Halts phrase → Hal
 halts_parens phrase l = halts_sign sign.Open _ (halts_then phrase _ l (λ x. halts_sign sign.Close _ (halts_done x)))
 
 pub halts_named : Halts named
-halts_named = halts_one _ (λ line col. refl) (λ line col. refl)
+halts_named = halts_one _ (λ t. refl) (λ t. refl)
 
 halts_named_behind : (w : Word) → Halts (named_behind w)
 halts_named_behind w = halts_word w named halts_named
 
 pub halts_column : Halts column
-halts_column = halts_then named _ halts_named (λ name. halts_then kind_rule _ ((halts_one _ (λ line col. refl) (λ line col. refl))) (λ kind. halts_done _))
+halts_column = halts_then named _ halts_named (λ name. halts_then kind_rule _ ((halts_one _ (λ t. refl) (λ t. refl))) (λ kind. halts_done _))
 
 pub halts_columns : Halts columns
 halts_columns = halts_parens (list_of column) (halts_list column halts_column)
@@ -187,7 +187,7 @@ halts_field = halts_then named _ halts_named
     (λ name. halts_behind (is_sign sign.Dot) refl refl _ _ (halts_then named _ (halts_named) (λ column. halts_done (expr.Field name column))) (halts_done (expr.Var name)))
 
 halts_atom : (i : Inner) → HaltsInner i → Halts (atom_of i)
-halts_atom i s = halts_before (is_sign sign.Open) i.parens _ s.parens (halts_before is_name name_or_field single halts_field (halts_one _ (λ line col. refl) (λ line col. refl)))
+halts_atom i s = halts_before (is_sign sign.Open) i.parens _ s.parens (halts_before is_name name_or_field single halts_field (halts_one _ (λ t. refl) (λ t. refl)))
 
 halts_unary : (i : Inner) → HaltsInner i → Halts (unary_of i)
 halts_unary i s = halts_before (is_sign sign.Minus) i.minus (atom_of i) s.minus (halts_atom i s)
@@ -207,9 +207,9 @@ halts_whole i s = halts_chain or_op refl refl (conjunction_of i) (halts_chain an
 
 halts_deeper : (i : Inner) → HaltsInner i → HaltsInner (deeper i)
 halts_deeper i s = record {
-  minus = halts_then (line_at (is_sign sign.Minus)) _ (halts_one _ (λ line col. refl) (λ line col. refl)) (λ line. halts_then (unary_of i) _ ((halts_unary i s)) (λ e. halts_done (expr.Neg e line)));
-  nots = halts_then (line_at (is_word word.Not)) _ (halts_one _ (λ line col. refl) (λ line col. refl)) (λ line. halts_then (negation_of i) _ ((halts_negation i s)) (λ e. halts_done (expr.Not e line)));
-  parens = halts_then (line_at (is_sign sign.Open)) _ (halts_one _ (λ line col. refl) (λ line col. refl))
+  minus = halts_then (line_at (is_sign sign.Minus)) _ (halts_one _ (λ t. refl) (λ t. refl)) (λ line. halts_then (unary_of i) _ ((halts_unary i s)) (λ e. halts_done (expr.Neg e line)));
+  nots = halts_then (line_at (is_word word.Not)) _ (halts_one _ (λ t. refl) (λ t. refl)) (λ line. halts_then (negation_of i) _ ((halts_negation i s)) (λ e. halts_done (expr.Not e line)));
+  parens = halts_then (line_at (is_sign sign.Open)) _ (halts_one _ (λ t. refl) (λ t. refl))
       (λ line. halts_then (expression_of i) _ ((halts_whole i s)) (λ e. halts_sign sign.Close _ (halts_done (expr.Paren e line))));
 }
 
@@ -281,7 +281,7 @@ halts_delete : Halts delete_statement
 halts_delete = halts_then (keyed word.Delete) _ (halts_keyed word.Delete) (λ row. halts_ended (stmt.Delete row.0 row.1))
 
 halts_fail : Halts fail_statement
-halts_fail = halts_word word.Fail _ (halts_then text_rule _ ((halts_one _ (λ line col. refl) (λ line col. refl))) (λ text. halts_ended (stmt.Fail text)))
+halts_fail = halts_word word.Fail _ (halts_then text_rule _ ((halts_one _ (λ t. refl) (λ t. refl))) (λ text. halts_ended (stmt.Fail text)))
 
 halts_by : (b : Reader (List Stmt)) → Halts b → (h : Head) → Halts (statement_by b h)
 halts_by b kb head.Let = halts_let
@@ -352,20 +352,21 @@ put_last : (last : Bool) (behind : List Token) → (last ≡ false → has_last 
 put_last true behind h = refl
 put_last false behind h = h refl
 
-piece_last : (p : Piece) (place : Position) (behind : List Token) → (ends p ≡ false → has_last behind ≡ true) → has_last (put p place behind) ≡ true
-piece_last piece.Newline place behind h = h refl
-piece_last piece.Blank place behind h = h refl
-piece_last (piece.Token l) place behind h = put_last (is_last l) behind h
+piece_last : (p : Piece) (place : Position) (from to : ℕ) (behind : List Token) → (ends p ≡ false → has_last behind ≡ true) → has_last (put p place from to behind) ≡ true
+piece_last piece.Newline place from to behind h = h refl
+piece_last piece.Blank place from to behind h = h refl
+piece_last (piece.Token l) place from to behind h = put_last (is_last l) behind h
 
-tokens_last : (steps : ℕ) (place : Position) (bytes : List ℕ) → length bytes < steps → has_last (tokens_in steps place bytes) ≡ true
-tokens_last zero place bytes h = absurd (omega (arith, h))
-tokens_last (suc steps) place [] h = refl
-tokens_last (suc steps) place (b ∷ bs) h =
-    piece_last (piece_at (b ∷ bs)).0 place _ (λ _. tokens_last steps _ (piece_at (b ∷ bs)).1 (omega (arith, piece_shorter b bs, h)))
+tokens_last : (steps total : ℕ) (place : Position) (bytes : List ℕ) → length bytes < steps → has_last (tokens_in steps total place bytes) ≡ true
+tokens_last zero total place bytes h = absurd (omega (arith, h))
+tokens_last (suc steps) total place [] h = refl
+tokens_last (suc steps) total place (b ∷ bs) h =
+    piece_last (piece_at (b ∷ bs)).0 place (total - length (b ∷ bs)) (total - length (piece_at (b ∷ bs)).1) _
+    (λ _. tokens_last steps total _ (piece_at (b ∷ bs)).1 (omega (arith, piece_shorter b bs, h)))
 
 -- the end of a text, or its first bad token, is among its tokens
 pub text_last : (text : List ℕ) → has_last (tokens_of text) ≡ true
-text_last text = tokens_last (suc (length text)) start text (omega arith)
+text_last text = tokens_last (suc (length text)) (length text) start text (omega arith)
 
 -- where an application is not read, something is left
 pub some_left : (text : List ℕ) (rest : List Token) → application (tokens_of text) ≡ Err rest → has_last rest ≡ true

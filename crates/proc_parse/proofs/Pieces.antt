@@ -138,24 +138,28 @@ found_less bytes rest p e = subst (λ (found : Found). ends found.0 ≡ false �
 
 -- ---- the tokens from a place on
 
-tokens_enough : (n m : ℕ) (place : Position) (bytes : List ℕ) → length bytes < n → length bytes < m → tokens_in n place bytes ≡ tokens_in m place bytes
-tokens_enough zero m place bytes h k = absurd (omega (arith, h))
-tokens_enough (suc n) zero place bytes h k = absurd (omega (arith, k))
-tokens_enough (suc n) (suc m) place [] h k = refl
-tokens_enough (suc n) (suc m) place (b ∷ bs) h k =
-    ap (put (piece_at (b ∷ bs)).0 place) (tokens_enough n m _ (piece_at (b ∷ bs)).1 (omega (arith, piece_shorter b bs, h)) (omega (arith, piece_shorter b bs, k)))
+tokens_enough : (n m total : ℕ) (place : Position) (bytes : List ℕ) → length bytes < n → length bytes < m → tokens_in n total place bytes ≡ tokens_in m total place bytes
+tokens_enough zero m total place bytes h k = absurd (omega (arith, h))
+tokens_enough (suc n) zero total place bytes h k = absurd (omega (arith, k))
+tokens_enough (suc n) (suc m) total place [] h k = refl
+tokens_enough (suc n) (suc m) total place (b ∷ bs) h k =
+    ap (put (piece_at (b ∷ bs)).0 place (total - length (b ∷ bs)) (total - length (piece_at (b ∷ bs)).1))
+    (tokens_enough n m total _ (piece_at (b ∷ bs)).1 (omega (arith, piece_shorter b bs, h)) (omega (arith, piece_shorter b bs, k)))
 
 -- the token of a piece, if it has one, and the tokens after it
-tokens_step : (place : Position) (bytes : List ℕ) → tokens_in (suc (length bytes)) place bytes
-    ≡ put (piece_at bytes).0 place (tokens_in (suc (length (piece_at bytes).1)) (moved (piece_at bytes).0 (length bytes - length (piece_at bytes).1) place) (piece_at bytes).1)
-tokens_step place [] = refl
-tokens_step place (b ∷ bs) =
-    ap (put (piece_at (b ∷ bs)).0 place) (tokens_enough (length (b ∷ bs)) (suc (length (piece_at (b ∷ bs)).1)) _ (piece_at (b ∷ bs)).1 (omega (arith, piece_shorter b bs)) (omega arith))
+abbrev add : ℕ → Position → List ℕ → Piece → List ℕ → List Token
+add total place bytes p rest =
+    put p place (total - length bytes) (total - length rest) (tokens_in (suc (length rest)) total (moved p (length bytes - length rest) place) rest)
 
-pub found_step : (place : Position) (bytes rest : List ℕ) (p : Piece) → piece_at bytes ≡ (p, rest)
-    → tokens_in (suc (length bytes)) place bytes ≡ put p place (tokens_in (suc (length rest)) (moved p (length bytes - length rest) place) rest)
-found_step place bytes rest p e =
-    tokens_step place bytes ∙ ap (λ (found : Found). put found.0 place (tokens_in (suc (length found.1)) (moved found.0 (length bytes - length found.1) place) found.1)) e
+tokens_step : (total : ℕ) (place : Position) (bytes : List ℕ) → tokens_in (suc (length bytes)) total place bytes ≡ add total place bytes (piece_at bytes).0 (piece_at bytes).1
+tokens_step total place [] = refl
+tokens_step total place (b ∷ bs) =
+    ap (put (piece_at (b ∷ bs)).0 place (total - length (b ∷ bs)) (total - length (piece_at (b ∷ bs)).1))
+    (tokens_enough (length (b ∷ bs)) (suc (length (piece_at (b ∷ bs)).1)) total _ (piece_at (b ∷ bs)).1 (omega (arith, piece_shorter b bs)) (omega arith))
+
+pub found_step : (total : ℕ) (place : Position) (bytes rest : List ℕ) (p : Piece) → piece_at bytes ≡ (p, rest)
+    → tokens_in (suc (length bytes)) total place bytes ≡ add total place bytes p rest
+found_step total place bytes rest p e = tokens_step total place bytes ∙ ap (λ (found : Found). add total place bytes found.0 found.1) e
 
 pub moved_line : (p : Piece) (n : ℕ) (place : Position) → (p ≡ piece.Newline → 0 < n) → (moved p n place).line ≤ place.line + n
 moved_line piece.Newline n place h = omega (arith, h refl)
@@ -171,21 +175,24 @@ pub newline_some : (bytes rest : List ℕ) (p : Piece) → piece_at bytes ≡ (p
 newline_some bytes rest p e n = omega (arith, found_less bytes rest p e (ap ends n))
 
 -- after a piece that does not end the text, the tokens are those of the rest, and its place has as much room
-pub record GoesOn (new all : List Token) (next : Position) (rest : List ℕ) (room : ℕ) : Type 0 where
-  pub read : new ++ tokens_in (suc (length rest)) next rest ≡ all
-  pub line : next.line + length rest ≤ room
-  pub col : next.col + length rest ≤ room
+pub record GoesOn (new all : List Token) (total : ℕ) (next : Position) (rest : List ℕ) : Type 0 where
+  pub read : new ++ tokens_in (suc (length rest)) total next rest ≡ all
+  pub within : length rest ≤ total
+  pub line : next.line + length rest ≤ total + 1
+  pub col : next.col + length rest ≤ total + 1
 
-pub goes_on : (old new all : List Token) (last : Bool) (bytes rest : List ℕ) (p : Piece) (place next : Position) (room : ℕ) → piece_at bytes ≡ (p, rest)
-    → next ≡ moved p (length bytes - length rest) place → last ≡ false → ((behind : List Token) → old ++ put p place behind ≡ new ++ unless_last last behind)
-    → GoesOn old all place bytes room → GoesOn new all next rest room
-goes_on old new all last bytes rest p place next room e m l h was = record {
+pub goes_on : (old new all : List Token) (last : Bool) (bytes rest : List ℕ) (p : Piece) (total : ℕ) (place next : Position) → piece_at bytes ≡ (p, rest)
+    → next ≡ moved p (length bytes - length rest) place → last ≡ false
+    → ((behind : List Token) → old ++ put p place (total - length bytes) (total - length rest) behind ≡ new ++ unless_last last behind)
+    → GoesOn old all total place bytes → GoesOn new all total next rest
+goes_on old new all last bytes rest p total place next e m l h was = record {
   read =
-      ap (λ last. new ++ unless_last last (tokens_in (suc (length rest)) next rest)) (sym l)
-      ∙ sym (h (tokens_in (suc (length rest)) next rest))
-      ∙ ap (λ next. old ++ put p place (tokens_in (suc (length rest)) next rest)) m
-      ∙ ap (λ ts. old ++ ts) (sym (found_step place bytes rest p e))
+      ap (λ last. new ++ unless_last last (tokens_in (suc (length rest)) total next rest)) (sym l)
+      ∙ sym (h (tokens_in (suc (length rest)) total next rest))
+      ∙ ap (λ next. old ++ put p place (total - length bytes) (total - length rest) (tokens_in (suc (length rest)) total next rest)) m
+      ∙ ap (λ ts. old ++ ts) (sym (found_step total place bytes rest p e))
       ∙ was.read;
+  within = omega (arith, found_most bytes rest p e, was.within);
   line = omega (arith, ap (λ (x : Position). x.line) m, moved_line p (length bytes - length rest) place (newline_some bytes rest p e), found_most bytes rest p e, was.line);
   col = omega (arith, ap (λ (x : Position). x.col) m, moved_col p (length bytes - length rest) place (newline_some bytes rest p e), found_most bytes rest p e, was.col);
 }

@@ -33,7 +33,7 @@ use Rattle.proc_parse.proofs.ViableForms.{whole_one, whole_expect, whole_behind,
 -- ---- tokens
 
 abbrev pub token : Lexeme → Token
-token l = record { lexeme = l; line = 0; col = 0 }
+token l = record { lexeme = l; line = 0; col = 0; start = 0; end = 0 }
 
 abbrev word_token : Word → Token
 word_token w = token (lexeme.Word w)

@@ -1,8 +1,6 @@
--- The tokens of a text by their places, by the same pieces as the lexemes.
-use Rattle.std.specs.Prelude.{◌≡◌, ◌<◌, ◌≤◌, ℕ, zero, suc, ◌-◌, List, [], ◌∷◌, ◌++◌, length, Bool, true, false, Result, Ok, Err}
-use Rattle.proc_parse.specs.Tokens.{moved, piece_at, start}
-use Rattle.proc_parse.specs.declared.lexer.Piece.{Piece}
-use Rattle.proc_parse.specs.declared.lexer.Piece.TheVariants as piece
+-- The tokens of a text by their places: those of the lexer, each by its form.
+use Rattle.std.specs.Prelude.{◌≡◌, ◌<◌, ◌≤◌, ℕ, List, [], ◌∷◌, ◌++◌, Bool, true, false, Result, Ok, Err}
+use Rattle.proc_parse.specs.Tokens.{tokens_of}
 use Rattle.proc_parse.specs.declared.lexer.Position.{Position}
 use Rattle.proc_parse.specs.declared.spans.Step.{Step}
 use Rattle.proc_parse.specs.declared.spans.Step.TheVariants as step
@@ -12,22 +10,18 @@ use Rattle.proc_parse.specs.declared.spans.TokenFault.TheVariants as fault
 use Rattle.proc_parse.specs.declared.spans.TokenKind.TheVariants as kind
 use Rattle.proc_parse.specs.declared.token.Lexeme.{Lexeme}
 use Rattle.proc_parse.specs.declared.token.Lexeme.TheVariants as lexeme
+use Rattle.proc_parse.specs.declared.token.Token.{Token as Lexed}
 
-abbrev pub kind_of : Lexeme → Step
-kind_of (lexeme.Word w) = step.Token kind.Word
-kind_of (lexeme.Name n) = step.Token kind.Name
-kind_of (lexeme.Int n) = step.Token kind.Int
-kind_of (lexeme.Text t) = step.Token kind.Text
-kind_of (lexeme.Bytes b) = step.Token kind.Bytes
-kind_of (lexeme.Sign s) = step.Token kind.Sign
-kind_of lexeme.Bad = step.Bad
-kind_of lexeme.End = step.End
-
--- what a piece adds to the tokens
-abbrev pub step_of : Piece → Step
-step_of piece.Newline = step.Nothing
-step_of piece.Blank = step.Nothing
-step_of (piece.Token l) = kind_of l
+-- what a lexeme adds to the tokens
+abbrev pub step_of : Lexeme → Step
+step_of (lexeme.Word w) = step.Token kind.Word
+step_of (lexeme.Name n) = step.Token kind.Name
+step_of (lexeme.Int n) = step.Token kind.Int
+step_of (lexeme.Text t) = step.Token kind.Text
+step_of (lexeme.Bytes b) = step.Token kind.Bytes
+step_of (lexeme.Sign s) = step.Token kind.Sign
+step_of lexeme.Bad = step.Bad
+step_of lexeme.End = step.End
 
 -- tokens, or the place of bytes that are none
 abbrev pub Spanned : Type 0
@@ -38,27 +32,18 @@ abbrev pub before : List Token → Spanned → Spanned
 before tokens (Ok more) = Ok (tokens ++ more)
 before tokens (Err place) = Err place
 
-abbrev pub put_step : Step → Position → (from to : ℕ) → Spanned → Spanned
-put_step step.Nothing place from to after = after
-put_step (step.Token kind) place from to after = before (record { kind = kind; line = place.line; col = place.col; start = from; end = to } ∷ []) after
-put_step step.End place from to after = Ok []
-put_step step.Bad place from to after = Err place
+abbrev pub put_step : Step → Lexed → Spanned → Spanned
+put_step (step.Token kind) t after = before (record { kind = kind; line = t.line; col = t.col; start = t.start; end = t.end } ∷ []) after
+put_step step.End t after = Ok []
+put_step step.Bad t after = Err (record { line = t.line; col = t.col })
 
--- nothing is read after the end of the text, nor after bytes that are no token
-abbrev pub is_last : Step → Bool
-is_last step.End = true
-is_last step.Bad = true
-is_last _ = false
-
--- the tokens of the last bytes of a text of so many; each piece takes a byte at least, so one step more than there are bytes is enough
-abbrev pub spans_in : ℕ → (total : ℕ) → Position → List ℕ → Spanned
-spans_in zero total place bytes = Ok []
-spans_in (suc steps) total place bytes =
-    put_step (step_of (piece_at bytes).0) place (total - length bytes) (total - length (piece_at bytes).1)
-    (spans_in steps total (moved (piece_at bytes).0 (length bytes - length (piece_at bytes).1) place) (piece_at bytes).1)
+-- those of the lexer, up to the end of the text or to bytes that are no token
+abbrev pub spans_among : List Lexed → Spanned
+spans_among [] = Ok []
+spans_among (t ∷ ts) = put_step (step_of t.lexeme) t (spans_among ts)
 
 abbrev pub spans_of : List ℕ → Spanned
-spans_of text = spans_in (suc (length text)) (length text) start text
+spans_of text = spans_among (tokens_of text)
 
 -- What a function answers is what is meant, unless memory ran out.
 abbrev pub Spans : Result (List Token) TokenFault → Spanned → Type 0
@@ -72,8 +57,8 @@ AreApart from [] = Unit {0}
 AreApart from (t ∷ ts) = (from ≤ t.start) × (t.start < t.end) × AreApart t.end ts
 
 -- tokens and what a step adds are new tokens and what follows, or those that end the text, or its fault
-abbrev pub Puts : Result Bool TokenFault → Step → Position → (from to : ℕ) → (old new : List Token) → Type 0
-Puts (Ok false) step place from to old new = (after : Spanned) → before old (put_step step place from to after) ≡ before new after
-Puts (Ok true) step place from to old new = (after : Spanned) → before old (put_step step place from to after) ≡ Ok new
-Puts (Err fault.NoMemory) step place from to old new = Unit {0}
-Puts (Err (fault.Bad line col)) step place from to old new = (after : Spanned) → before old (put_step step place from to after) ≡ Err (record { line = line; col = col })
+abbrev pub Puts : Result Bool TokenFault → Step → Lexed → (old new : List Token) → Type 0
+Puts (Ok false) step t old new = (after : Spanned) → before old (put_step step t after) ≡ before new after
+Puts (Ok true) step t old new = (after : Spanned) → before old (put_step step t after) ≡ Ok new
+Puts (Err fault.NoMemory) step t old new = Unit {0}
+Puts (Err (fault.Bad line col)) step t old new = (after : Spanned) → before old (put_step step t after) ≡ Err (record { line = line; col = col })

@@ -126,22 +126,24 @@ ends (piece.Token l) = is_last l
 ends _ = false
 
 -- a token before those after it
-abbrev pub put : Piece → Position → List Token → List Token
-put piece.Newline place behind = behind
-put piece.Blank place behind = behind
-put (piece.Token l) place behind = record { lexeme = l; line = place.line; col = place.col } ∷ cond (is_last l) [] behind
+abbrev pub put : Piece → Position → (from to : ℕ) → List Token → List Token
+put piece.Newline place from to behind = behind
+put piece.Blank place from to behind = behind
+put (piece.Token l) place from to behind = record { lexeme = l; line = place.line; col = place.col; start = from; end = to } ∷ cond (is_last l) [] behind
 
--- the tokens from a place on; each piece takes a byte at least, so one step more than there are bytes is enough
-abbrev pub tokens_in : ℕ → Position → List ℕ → List Token
-tokens_in zero place bytes = []
-tokens_in (suc steps) place bytes = put (piece_at bytes).0 place (tokens_in steps (moved (piece_at bytes).0 (length bytes - length (piece_at bytes).1) place) (piece_at bytes).1)
+-- the tokens of the last bytes of a text of so many; each piece takes a byte at least, so one step more than there are bytes is enough
+abbrev pub tokens_in : ℕ → (total : ℕ) → Position → List ℕ → List Token
+tokens_in zero total place bytes = []
+tokens_in (suc steps) total place bytes =
+    put (piece_at bytes).0 place (total - length bytes) (total - length (piece_at bytes).1)
+    (tokens_in steps total (moved (piece_at bytes).0 (length bytes - length (piece_at bytes).1) place) (piece_at bytes).1)
 
 abbrev pub start : Position
 start = record { line = 1; col = 1 }
 
 -- the tokens of a text, of which the last is the end or the first that is bad
 abbrev pub tokens_of : List ℕ → List Token
-tokens_of text = tokens_in (suc (length text)) start text
+tokens_of text = tokens_in (suc (length text)) (length text) start text
 
 -- What a function answers is what is found, unless memory ran out.
 abbrev pub Finds : Result (Piece × Bor (List ℕ)) NoMemory → Found → Type 0

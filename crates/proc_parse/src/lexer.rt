@@ -164,7 +164,7 @@ fn after_comment(bytes: &[u8]) -> &[u8]
 }
 
 /// What stands at the start of some bytes, and the bytes after it.
-pub(crate) fn next_piece(alloc: Global, bytes: &[u8]) -> Result<(Piece, &[u8]), NoMemory>
+fn next_piece(alloc: Global, bytes: &[u8]) -> Result<(Piece, &[u8]), NoMemory>
     ensures { Finds result (piece_at bytes.now) }
 {
     match bytes {
@@ -180,7 +180,7 @@ pub(crate) fn next_piece(alloc: Global, bytes: &[u8]) -> Result<(Piece, &[u8]), 
 }
 
 /// The place after a piece of so many bytes.
-pub(crate) fn moved(piece: &Piece, len: usize, place: Position) -> Position
+fn moved(piece: &Piece, len: usize, place: Position) -> Position
     requires line { place.line + len < 2 ^ 32 }
     requires col { place.col + len < 2 ^ 32 }
     requires newline { piece.now ≡ Piece.Newline → 0 < len }
@@ -206,8 +206,14 @@ fn is_last(lexeme: &Lexeme) -> bool
 }
 
 /// Puts the token of a piece at the end, and answers whether it is the last one.
-fn put(tokens: &mut List<Token>, piece: Piece, place: Position) -> Result<bool, NoMemory>
-    ensures tokens { IfOk result (λ last. (behind : List Token) → tokens.old ++ put piece place behind ≡ tokens.new ++ unless_last last behind) }
+fn put(
+    tokens: &mut List<Token>,
+    piece: Piece,
+    place: Position,
+    start: u32,
+    end: u32,
+) -> Result<bool, NoMemory>
+    ensures tokens { IfOk result (λ last. (behind : List Token) → tokens.old ++ put piece place start end behind ≡ tokens.new ++ unless_last last behind) }
     ensures last { IfOk result (λ last. last ≡ ends piece) }
 {
     match piece {
@@ -218,6 +224,8 @@ fn put(tokens: &mut List<Token>, piece: Piece, place: Position) -> Result<bool, 
                 lexeme,
                 line: place.line,
                 col: place.col,
+                start,
+                end,
             })?;
             Ok(last)
         }
@@ -235,8 +243,10 @@ pub fn tokens(alloc: Global, text: &[u8]) -> Result<List<Token>, NoMemory>
     let mut place = Position { line: 1, col: 1 };
     loop {
         let (piece, after) = next_piece(alloc, rest)?;
+        let start = (text.len() - rest.len()) as u32;
+        let end = (text.len() - after.len()) as u32;
         let next = moved(&piece, rest.len() - after.len(), place);
-        if put(&mut tokens, piece, place)? {
+        if put(&mut tokens, piece, place, start, end)? {
             return Ok(tokens);
         }
         rest = after;

@@ -1,11 +1,10 @@
 //! The tokens of a text by their places, for readers of other languages over the same tokens.
 
-ghost use Rattle.std.specs.Prelude.{◌≡◌, ◌≤◌, ◌<◌, ◌-◌, ◌+◌, IfOk, length};
-ghost use Rattle.proc_parse.specs.Tokens.{ends};
-ghost use Rattle.proc_parse.specs.Spans.{AreApart, Puts, Spans, is_last, kind_of, spans_of, step_of};
+ghost use Rattle.std.specs.Prelude.{◌≡◌, ◌≤◌, IfOk, length};
+ghost use Rattle.proc_parse.specs.Spans.{AreApart, Puts, Spans, spans_among, spans_of, step_of};
 
-use crate::lexer::{Piece, Position, moved, next_piece};
-use crate::token::Lexeme;
+use crate::lexer;
+use crate::token::{Lexeme, Token as Lexed};
 use rel_base::{List, NoMemory};
 use std::alloc::Global;
 
@@ -51,18 +50,17 @@ impl From<NoMemory> for TokenFault {
     }
 }
 
-/// What a piece of a text adds to its tokens.
+/// What a token of the lexer adds to the tokens.
 #[derive(Clone, Copy)]
 pub enum Step {
-    Nothing,
     Token(TokenKind),
     End,
     Bad,
 }
 
 /// What a lexeme adds.
-fn kind_of(lexeme: &Lexeme) -> Step
-    ensures { result ≡ kind_of lexeme.now }
+fn step_of(lexeme: &Lexeme) -> Step
+    ensures { result ≡ step_of lexeme.now }
 {
     match lexeme {
         Lexeme::Word(_) => Step::Token(TokenKind::Word),
@@ -76,82 +74,51 @@ fn kind_of(lexeme: &Lexeme) -> Step
     }
 }
 
-/// What a piece adds.
-fn step_of(piece: &Piece) -> Step
-    ensures { result ≡ step_of piece.now }
+/// Puts what a token of the lexer adds at the end, and answers whether it is the last one.
+fn add(tokens: &mut List<Token>, lexed: &Lexed) -> Result<bool, TokenFault>
+    ensures { Puts result (step_of lexed.now.lexeme) lexed.now tokens.old tokens.new }
 {
-    match piece {
-        Piece::Blank | Piece::Newline => Step::Nothing,
-        Piece::Token(lexeme) => kind_of(lexeme),
-    }
-}
-
-/// Puts what a step adds at the end, and answers whether it is the last one.
-fn add(
-    tokens: &mut List<Token>,
-    step: Step,
-    place: Position,
-    start: u32,
-    end: u32,
-) -> Result<bool, TokenFault>
-    ensures puts { Puts result step place start end tokens.old tokens.new }
-    ensures last { IfOk result (λ last. last ≡ is_last step) }
-{
-    match step {
-        Step::Nothing => Ok(false),
+    match step_of(&lexed.lexeme) {
         Step::Token(kind) => {
             tokens.push(Token {
                 kind,
-                line: place.line,
-                col: place.col,
-                start,
-                end,
+                line: lexed.line,
+                col: lexed.col,
+                start: lexed.start,
+                end: lexed.end,
             })?;
             Ok(false)
         }
         Step::End => Ok(true),
         Step::Bad => Err(TokenFault::Bad {
-            line: place.line,
-            col: place.col,
+            line: lexed.line,
+            col: lexed.col,
         }),
     }
 }
 
-/// Puts what a piece adds at the end, and answers whether it is the last one. It takes the piece, so that a caller does not drop it.
-#[tactic(auto, using(crate::proofs::Spanned::last_is))]
-fn put(
-    tokens: &mut List<Token>,
-    piece: Piece,
-    place: Position,
-    start: u32,
-    end: u32,
-) -> Result<bool, TokenFault>
-    ensures puts { Puts result (step_of piece) place start end tokens.old tokens.new }
-    ensures last { IfOk result (λ last. last ≡ ends piece) }
+/// The tokens of the lexer by their places, or where the first bytes stand that are none.
+fn spans_among(alloc: Global, lexed: &[Lexed]) -> Result<List<Token>, TokenFault>
+    ensures { Spans result (spans_among lexed.now) }
 {
-    let step = step_of(&piece);
-    add(tokens, step, place, start, end)
+    let mut tokens = List::new(alloc);
+    for token in lexed {
+        if add(&mut tokens, token)? {
+            return Ok(tokens);
+        }
+    }
+    Ok(tokens)
 }
 
 /// The tokens of a text, in order, each with its form, its line and column and its span, or where the first bytes stand that are none.
+#[tactic(auto, using(crate::proofs::Spanned::apart_of))]
 pub fn tokens(alloc: Global, text: &[u8]) -> Result<List<Token>, TokenFault>
     requires { length text.now ≤ 1048576 }
     ensures meant { Spans result (spans_of text.now) }
     // Each token takes bytes, and each begins at the end of the one before or later.
     ensures apart { IfOk result (AreApart 0) }
 {
-    let mut tokens = List::new(alloc);
-    let mut rest = text;
-    let mut place = Position { line: 1, col: 1 };
-    loop {
-        let (piece, after) = next_piece(alloc, rest)?;
-        let start = (text.len() - rest.len()) as u32;
-        let end = (text.len() - after.len()) as u32;
-        let next = moved(&piece, rest.len() - after.len(), place);
-        if put(&mut tokens, piece, place, start, end)? {
-            return Ok(tokens);
-        }
-        rest = after;
-        place = next;
-    }
+    let lexed = lexer::tokens(alloc, text)?;
+    let spans = spans_among(alloc, lexed.as_slice())?;
+    Ok(spans)
 }

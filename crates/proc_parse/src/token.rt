@@ -140,12 +140,15 @@ pub enum Lexeme {
     End,
 }
 
-/// A token, and where it stands: line and column count from 1, columns in bytes.
+/// A token, and where it stands: line and column count from 1, columns in bytes, and the places from 0 of its first byte and of the byte
+/// after its last one.
 #[derive(Drop)]
 pub struct Token {
     pub lexeme: Lexeme,
     pub line: u32,
     pub col: u32,
+    pub start: u32,
+    pub end: u32,
 }
 
 impl Word {

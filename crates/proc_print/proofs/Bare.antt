@@ -16,7 +16,7 @@ use Rattle.proc_print.specs.Unlined.{unlined_expr}
 use Rattle.proc_print.proofs.UnlinedTrees.{unlined_two}
 
 abbrev pub bare : Token → Token
-bare t = record { lexeme = t.lexeme; line = 0; col = 0 }
+bare t = record { lexeme = t.lexeme; line = 0; col = 0; start = 0; end = 0 }
 
 abbrev pub bared : List Token → List Token
 bared ts = map bare ts

@@ -33,19 +33,20 @@ lexemes_cond : (b : Bool) (ts : List Token) → lexemes (cond b [] ts) ≡ cond 
 lexemes_cond true ts = refl
 lexemes_cond false ts = refl
 
-lexemes_put : (p : Piece) (place : Position) (behind : List Token) → lexemes (put p place behind) ≡ plain p (lexemes behind)
-lexemes_put piece.Newline place behind = refl
-lexemes_put piece.Blank place behind = refl
-lexemes_put (piece.Token l) place behind = ap (λ ls. l ∷ ls) (lexemes_cond (is_last l) behind)
+lexemes_put : (p : Piece) (place : Position) (from to : ℕ) (behind : List Token) → lexemes (put p place from to behind) ≡ plain p (lexemes behind)
+lexemes_put piece.Newline place from to behind = refl
+lexemes_put piece.Blank place from to behind = refl
+lexemes_put (piece.Token l) place from to behind = ap (λ ls. l ∷ ls) (lexemes_cond (is_last l) behind)
 
-lexed : (steps : ℕ) (place : Position) (bytes : List ℕ) → lexemes (tokens_in steps place bytes) ≡ lex_in steps bytes
-lexed zero place bytes = refl
-lexed (suc steps) place bytes =
-    lexemes_put (piece_at bytes).0 place (tokens_in steps (moved (piece_at bytes).0 (length bytes - length (piece_at bytes).1) place) (piece_at bytes).1)
-    ∙ ap (plain (piece_at bytes).0) (lexed steps (moved (piece_at bytes).0 (length bytes - length (piece_at bytes).1) place) (piece_at bytes).1)
+lexed : (steps total : ℕ) (place : Position) (bytes : List ℕ) → lexemes (tokens_in steps total place bytes) ≡ lex_in steps bytes
+lexed zero total place bytes = refl
+lexed (suc steps) total place bytes =
+    lexemes_put (piece_at bytes).0 place (total - length bytes) (total - length (piece_at bytes).1)
+    (tokens_in steps total (moved (piece_at bytes).0 (length bytes - length (piece_at bytes).1) place) (piece_at bytes).1)
+    ∙ ap (plain (piece_at bytes).0) (lexed steps total (moved (piece_at bytes).0 (length bytes - length (piece_at bytes).1) place) (piece_at bytes).1)
 
 pub lexemes_of : (text : List ℕ) → lexemes (tokens_of text) ≡ lex text
-lexemes_of text = lexed (suc (length text)) start text
+lexemes_of text = lexed (suc (length text)) (length text) start text
 
 lex_enough : (n m : ℕ) (bytes : List ℕ) → length bytes < n → length bytes < m → lex_in n bytes ≡ lex_in m bytes
 lex_enough zero m bytes h k = absurd (omega (arith, h))

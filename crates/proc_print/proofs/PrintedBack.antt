@@ -57,7 +57,7 @@ same_tokens text app found =
 -- ---- without places
 
 abbrev unplaced : Lexeme → Token
-unplaced l = record { lexeme = l; line = 0; col = 0 }
+unplaced l = record { lexeme = l; line = 0; col = 0; start = 0; end = 0 }
 
 bared_lexemes : (ts : List Token) → bared ts ≡ map unplaced (lexemes ts)
 bared_lexemes [] = refl

@@ -17,26 +17,26 @@ use Rattle.query_text.specs.declared.tree.SourceText.{SourceText}
 use Rattle.query_text.proofs.Steady.{IsSteady, steady_before, steady_behind, steady_done, steady_first, steady_keyword, steady_one, steady_sign, steady_then, steady_upto, steady_word}
 
 steady_named : IsSteady named
-steady_named = steady_one _ (λ line col. refl) (λ line col. refl)
+steady_named = steady_one _ (λ t. refl) (λ t. refl)
 
 steady_source : IsSteady source
 steady_source = steady_then named _ steady_named (λ table. steady_keyword keyword.As _ (steady_then named _ steady_named (λ name. steady_done _)))
 
 steady_field : IsSteady field
-steady_field = steady_one _ (λ line col. refl) (λ line col. refl)
+steady_field = steady_one _ (λ t. refl) (λ t. refl)
 
 steady_col : IsSteady col
 steady_col = steady_then named _ steady_named (λ source. steady_sign sign.Dot _ (steady_then field _ steady_field (λ field. steady_done _)))
 
 steady_relation : IsSteady relation
-steady_relation = steady_one _ (λ line col. refl) (λ line col. refl)
+steady_relation = steady_one _ (λ t. refl) (λ t. refl)
 
 steady_minus : IsSteady minus_side
-steady_minus = steady_then minus _ (steady_one _ (λ line col. refl) (λ line col. refl)) (λ at. steady_one _ (λ line col. refl) (λ line col. refl))
+steady_minus = steady_then minus _ (steady_one _ (λ t. refl) (λ t. refl)) (λ at. steady_one _ (λ t. refl) (λ t. refl))
 
 steady_side : IsSteady side
 steady_side = steady_before is_name _ _ (steady_then col _ steady_col (λ col. steady_done _))
-    (steady_before (is_sign sign.Minus) minus_side literal_side steady_minus (steady_one _ (λ line col. refl) (λ line col. refl)))
+    (steady_before (is_sign sign.Minus) minus_side literal_side steady_minus (steady_one _ (λ t. refl) (λ t. refl)))
 
 steady_comparison : IsSteady comparison
 steady_comparison = steady_then col _ steady_col (λ left. steady_then relation _ steady_relation (λ r. steady_then side _ steady_side (λ right. steady_done _)))
@@ -55,7 +55,7 @@ steady_item : IsSteady item
 steady_item = steady_first head_of item_by (λ t xs ys. refl) steady_by
 
 steady_number : IsSteady number
-steady_number = steady_one _ (λ line col. refl) (λ line col. refl)
+steady_number = steady_one _ (λ t. refl) (λ t. refl)
 
 steady_conditions : (most : ℕ) → IsSteady (conditions most)
 steady_conditions most = steady_behind (is_keyword keyword.Where) refl refl _ _ (steady_upto separator.And comparison steady_comparison most) (steady_done [])

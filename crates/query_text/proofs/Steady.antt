@@ -42,8 +42,8 @@ steady_first head go same sg = record { local = local_first head go same (λ h. 
 pub steady_expect : (test : Lexeme → Bool) → test lexeme.End ≡ false → test lexeme.Bad ≡ false → IsSteady (expect test)
 steady_expect test e b = record { local = local_expect test; halts = halts_expect test e b }
 
-pub steady_one : {A : Type 0} → (meaning : Token → Option A) → ((line col : ℕ) → meaning (record { lexeme = lexeme.End; line = line; col = col }) ≡ None)
-    → ((line col : ℕ) → meaning (record { lexeme = lexeme.Bad; line = line; col = col }) ≡ None) → IsSteady (one meaning)
+pub steady_one : {A : Type 0} → (meaning : Token → Option A) → ((t : Token) → meaning (record t { lexeme = lexeme.End }) ≡ None)
+    → ((t : Token) → meaning (record t { lexeme = lexeme.Bad }) ≡ None) → IsSteady (one meaning)
 steady_one meaning e b = record { local = local_one meaning; halts = halts_one meaning e b }
 
 pub steady_word : {A : Type 0} → (w : Word) (next : Reader A) → IsSteady next → IsSteady (the_word w >> next)

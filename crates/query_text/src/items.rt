@@ -106,6 +106,7 @@ impl Phrase for NumberText {
                     lexeme: Lexeme::Int(number),
                     line,
                     col,
+                    ..
                 },
                 rest @ ..,
             ] => Ok((

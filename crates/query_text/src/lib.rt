@@ -1,9 +1,9 @@
 //! The texts of queries: their grammar, and the walk that resolves the names in them.
 #![tactic(auto)]
 
-mod answer;
 mod columns;
 mod comparisons;
+mod fault_names;
 mod items;
 mod keyword;
 mod lists;
@@ -15,5 +15,5 @@ mod selected;
 mod tree;
 mod walk;
 
-pub use answer::{answer_query, fault_name};
+pub use fault_names::fault_name;
 pub use parse::parse_select;

@@ -15,5 +15,5 @@ use Rattle.edge_traits.specs.Shelf.{Files}
 pub returns-in-Ok-clause-means : goal.returns-in-Ok-clause-means
 returns-in-Ok-clause-means c =
     subst (λ (read : Result Folded BadSource). IfOk c.query_folded-reply.result (λ reply. (asked : Sources) (files : Files) → asked.nodes ≡ 0 → asked.schedule ≡ None
-    → AreFolded all_blocks read asked files → Means (over_query c.args.query.now (accepted (files asked.app)) (files asked.blocks)) reply))
-    (sym c.in-Ok.is) (query_means c.args.query.now c.in-Ok.folded c.query_folded-reply.result c.query_folded-reply.ensures.means)
+    → AreFolded all_blocks read asked files → Means (over_query c.args.text.now (accepted (files asked.app)) (files asked.blocks)) reply))
+    (sym c.in-Ok.is) (query_means c.args.text.now c.in-Ok.folded c.query_folded-reply.result c.query_folded-reply.ensures.means)

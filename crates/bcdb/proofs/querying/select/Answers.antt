@@ -6,12 +6,12 @@ use Rattle.bcdb.specs.Folds.{app_of}
 use Rattle.provenance.specs.Versions.{AreTold, history_of}
 use Rattle.version_index.specs.declared.store.IndexVersions.{IndexVersions}
 
-pub answer-list-requires-clause-history : goal.answer-list-requires-clause-history
-answer-list-requires-clause-history c =
+pub answer-requires-clause-history : goal.answer-requires-clause-history
+answer-requires-clause-history c =
     ap (λ (versions : IndexVersions). versions.1.0) c.versions.ensures
-    ∙ told_history (app_of c.args.folded.now) c.requires.0 _ _ _ (folds_held c.requires.0 c.args.folded.now c.requires.1)
+    ∙ told_history (app_of c.args.folded.now) c.requires.folds.0 _ _ _ (folds_held c.requires.folds.0 c.args.folded.now c.requires.folds.1)
     ∙ ap history_of (sym c.blocks-2.ensures)
 
-pub answer-list-requires-clause-told : goal.answer-list-requires-clause-told
-answer-list-requires-clause-told c =
-    subst AreTold (sym c.blocks-2.ensures) (told_places (app_of c.args.folded.now) c.requires.0 _ _ _ c.requires.1.numbered (folds_held c.requires.0 c.args.folded.now c.requires.1))
+pub answer-requires-clause-told : goal.answer-requires-clause-told
+answer-requires-clause-told c =
+    subst AreTold (sym c.blocks-2.ensures) (told_places (app_of c.args.folded.now) c.requires.folds.0 _ _ _ c.requires.folds.1.numbered (folds_held c.requires.folds.0 c.args.folded.now c.requires.folds.1))

@@ -1,6 +1,10 @@
-use Rattle.std.proofs.Common.{sym, ◌∙◌}
+use Rattle.std.proofs.Common.{arith, sym, ◌∙◌}
 use Rattle.proc_parse.proofs.Pieces.{found_most, found_less, newline_some, goes_on}
 use Rattle.proc_parse.proofs.lexer.tokens.Goals as goal
+
+pub overflow_sub-end : goal.overflow_sub-end
+overflow_sub-end c =
+    omega (arith, found_most c.loop-tokens.rest.now c.in_ok-piece.after.now c.in_ok-piece.piece c.in_ok-piece.ensures, c.loop-tokens.invariant.within)
 
 pub overflow_sub-rest : goal.overflow_sub-rest
 overflow_sub-rest c = found_most _ _ _ c.in_ok-piece.ensures

@@ -2,11 +2,12 @@ use Rattle.std.proofs.Common.{IfSome, None, Option, Some, [], ap, length, rules,
 use Rattle.std.specs.Option.{is_some, option_map}
 use Rattle.std.specs.Prelude.{vec_capacity, vec_len}
 use Rattle.block_work.specs.Ids.{place_of_id}
-use Rattle.node_core.proofs.Answering.{read_gone, read_held, read_kept, read_order, read_steps}
+use Rattle.node_core.proofs.Answering.{read_answered, read_gone, read_held, read_kept, read_order, read_steps}
 use Rattle.node_core.proofs.Settled.{settled_is}
 use Rattle.node_core.specs.Answers.{got_as, got_of}
 use Rattle.node_core.specs.Core.{Core, IsHeld, Steps}
-use Rattle.node_core.specs.InHand.{IsNextRead, with_read}
+use Rattle.node_core.specs.Hands.{IsAnswered}
+use Rattle.node_core.specs.InHand.{InHand, IsNextRead, with_read}
 use Rattle.node_core.specs.Kept.{up_to}
 use Rattle.node_core.specs.Rows.{count_held}
 use Rattle.node_model.specs.Events.{settled_in}
@@ -91,3 +92,12 @@ returns-clause-held g c =
     let cuts : c.is_some.result ≡ is_some c.find_hit-hit.result = search rules in
     read_held _ c.self.invariant.0 c.args.work.now held c.in-Some-wanted.read.now next whole live c.find_hit-hit.result c.height-height.result at hits c.push_reserved.new.self.items noted
     c.answer.new.self c.in_ok-rows-in-Some-wanted.rows rows (answered ∙ ap (with_read c.args.work.now c.in-Some-wanted.read.now c.in_ok-rows-in-Some-wanted.rows) cuts)
+
+pub returns-clause-answered : goal.returns-clause-answered
+returns-clause-answered g c =
+    let asks : c.args.work.now.told.asks ≡ Some c.in-Some-wanted.read.now = search rules in
+    let answered : c.answer.new.self ≡ with_read c.args.work.now c.in-Some-wanted.read.now c.in_ok-rows-in-Some-wanted.rows c.is_some.result =
+    subst (λ (o : Option Read). IfSome o (λ read. c.answer.new.self ≡ with_read c.args.work.now read c.in_ok-rows-in-Some-wanted.rows c.is_some.result)) asks c.answer.ensures in
+    subst (λ got. IsAnswered got c.args.work.now c.answer.new.self) (sym c.got_of.ensures)
+    (subst (λ (work : InHand). IsAnswered (got_of c.find_hit-hit.result) c.args.work.now work) (sym answered)
+    (read_answered c.args.work.now c.in-Some-wanted.read.now c.in_ok-rows-in-Some-wanted.rows c.is_some.result c.find_hit-hit.result c.requires.wants))

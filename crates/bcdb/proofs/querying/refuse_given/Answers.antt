@@ -1,0 +1,18 @@
+use Rattle.std.proofs.Common.{IfOk, None, subst, sym, ◌≡◌}
+use Rattle.std.specs.Prelude.{Result}
+use Rattle.bcdb.proofs.Queries.{text_means}
+use Rattle.bcdb.proofs.querying.refuse_given.Goals as goal
+use Rattle.bcdb.specs.Accepted.{accepted}
+use Rattle.bcdb.specs.Given.{AreFolded}
+use Rattle.bcdb.specs.Reply.{Means}
+use Rattle.bcdb.specs.VersionsAnswer.{over_query}
+use Rattle.bcdb.specs.declared.folding.Folded.{Folded}
+use Rattle.bcdb.specs.declared.given.BadSource.{BadSource}
+use Rattle.bcdb.specs.declared.sources.Sources.{Sources}
+use Rattle.edge_traits.specs.Shelf.{Files}
+
+pub returns-in-Ok-clause-means : goal.returns-in-Ok-clause-means
+returns-in-Ok-clause-means c =
+    subst (λ (read : Result Folded BadSource). IfOk c.refuse_fault.result (λ reply. (asked : Sources) (files : Files) → asked.nodes ≡ 0 → asked.schedule ≡ None
+    → AreFolded 0 read asked files → Means (over_query c.args.text.now (accepted (files asked.app)) (files asked.blocks)) reply))
+    (sym c.in-Ok.is) (text_means c.args.text.now c.in-Ok.folded c.refuse_fault.result c.refuse_fault.ensures.means)

@@ -1,0 +1,7 @@
+use Rattle.bcdb.proofs.Queries.{means_told}
+use Rattle.bcdb.proofs.querying.refuse_text.Goals as goal
+
+pub returns-clause-told : goal.returns-clause-told
+returns-clause-told g c =
+    means_told (g.S.Shelf.told c.args.shelf.now) c.args.text.now 0 c.args.asked.now c.in_ok-read.read c.in_ok-reply.reply c.requires.none c.requires.unscheduled
+    c.in_ok-reply.ensures.means c.in_ok-read.ensures.told
