@@ -8,7 +8,7 @@ or a name that is no function, hides what becomes of the others, which are tried
 proved, or is refused only since its proof names what the edit took away, a limit that the prover meets, and a text that does not stand in its file exactly
 once.
 What was refused is kept on this machine, under a sum of all that the check read, and is not tried again; `--anew` tries all.
-Where no crates are named, the checker itself is tried first, on a crate of two functions. The last line is `edits: N refused, M not`, and M has to be 0.
+Where no crates are named, the checker itself is tried first, on a crate of three functions. The last line is `edits: N refused, M not`, and M has to be 0.
 Usage: check_edits.py [--anew] [--jobs N] [CRATE..]
 """
 import argparse
@@ -36,8 +36,9 @@ PARTS = ("src", "specs", "proofs")
 REFUSED, HIDDEN, KILLED = "refused", "what it calls is refused, and not the function itself", "its check was killed"
 
 
-# What the prover says of a name that it does not find.
-NAMES = re.compile(r"has no (field )?`|has no [a-z]+ `|is not in scope|is no name|was not admitted")
+# What the prover says of a name that it does not find, and of a declaration that it leaves unchecked since that names a refused one. That a variable is not
+# in scope at a hole is said beside goals, and takes no name away.
+NAMES = re.compile(r"has no ([a-z]+ )*`|no [a-z, ]+ `[^`]+` is in scope|is not in scope(?! at this hole)|is no name|was (not admitted|rejected)")
 
 
 class Crate:
@@ -123,14 +124,19 @@ class Said:
             return self.own_error(edit.function)
         return REFUSED if re.match("no proof: expected answers in .*; `search` did not prove", verdict) else verdict
 
+    def errors(self):
+        """The errors in proofs, each on one line with the lines that follow it, which are indented."""
+        told = re.split(r"\n(?! )", "\n".join(self.lines))
+        joined = [re.sub(r"\n +", " ", message).removeprefix("./") for message in told]
+        return [message for message in joined if re.match(r"proofs/\S*: error: ", message)]
+
     def own_error(self, function):
         """Whether a goal of the function itself fails, as an error in its own proof says that speaks of more than names."""
         folder = "proofs/" + function.replace("::", "/") + "/"
-        errors = [line.removeprefix("./") for line in self.lines if re.match(r"(\./)?proofs/.*: error: ", line)]
-        own = [line for line in errors if line.startswith(folder) or "/+" in line.partition(":")[0]]
+        own = [error for error in self.errors() if error.startswith(folder) or "/+" in error.partition(":")[0]]
         if not own:
             return f"nothing says which goal of {function} fails"
-        return REFUSED if any(not NAMES.search(line) for line in own) else f"its proof only names what the edit took away: {own[0][:200]}"
+        return REFUSED if any(not NAMES.search(error) for error in own) else f"its proof only names what the edit took away: {own[0][:200]}"
 
 
 class Trial:
@@ -346,6 +352,20 @@ pub fn through(left: usize, right: usize) -> usize
 {
     first(left, right)
 }
+
+pub fn proved(left: usize, _right: usize) -> usize
+    ensures { result ≡ left }
+{
+    first(left, left)
+}
+"""
+PROOF = """use Rattle.tiny.proofs.proved.Goals as goal
+
+by_first : goal.returns
+by_first c = c.first.ensures
+
+pub returns : goal.returns
+returns = by_first
 """
 BROKEN = ("first", "    let taken = left;", "    let taken = _right;")
 PLANTED = {
@@ -356,15 +376,18 @@ PLANTED = {
     "names_the_caller": ("through", BROKEN[1], BROKEN[2], HIDDEN),
     "stands_twice": ("first", "left", "_right", "its text "),
     "names_nothing": ("", BROKEN[1], BROKEN[2], "its first line "),
+    "refused_by_its_proof": ("proved", "    first(left, left)", "    first(_right, left)", REFUSED),
+    "takes_a_name_of_its_proof": ("proved", "    first(left, left)", "    left", "its proof only names "),
 }
 
 
 def plant(root):
     """A checkout of one crate, with the planted edits."""
     folder = os.path.join(root, "crates", "tiny")
-    for part in ("src", "refused"):
-        os.makedirs(os.path.join(folder, part))
-    files = {os.path.join(root, "crates.txt"): "tiny:\n", os.path.join(folder, "src", "lib.rt"): TINY}
+    proof = os.path.join(folder, "proofs", "proved")
+    for made in (os.path.join(folder, "src"), os.path.join(folder, "refused"), proof):
+        os.makedirs(made)
+    files = {os.path.join(root, "crates.txt"): "tiny:\n", os.path.join(folder, "src", "lib.rt"): TINY, os.path.join(proof, "Answers.antt"): PROOF}
     for name, (function, old, new, _) in PLANTED.items():
         files[os.path.join(folder, "refused", name + ".edit")] = f"function: {function}\nfile: src/lib.rt\nold: {old}\nnew: {new}\n"
     for path, text in files.items():
