@@ -8,10 +8,12 @@ example. The code of a result in docs/CODES.md has the digest that a case shows.
 Outcomes: each row of the table of docs/ABORTS.md has the report's words, what to do now, a case whose report has the words, and a definition,
 a function and a clause that stand in the files to which they are linked.
 Crates: crates.txt has each crate under the comment of its level, docs/DESIGN.md has a row for each crate in the order of levels,
-docs/PROVED.md has one too, and docs/crates.svg is what docs/draw_crates.py draws.
+docs/crates.svg is what docs/draw_crates.py draws, and docs/PROVED.md has the table that docs/proved_crates.py writes: the head of each crate's
+lib.rt, which has one to four sentences beside what it says is only tested.
 Edits: each edit that docs/PLANTED.md names as a wrong body stands in the must-fail/ of its crate, and no other one does; a crate has at most eight in
 refused/, and one without edits is named in docs/OPEN.md.
-Names: each name in code in a row of docs/PROVED.md stands in that row's crate, and in the argument of that page in some crate.
+Names: each name in code in a row of docs/PROVED.md stands in that row's crate, and in the argument of that page in some crate. In
+docs/DECISIONS.md each one stands in some crate, or is a file, a case or a command of the kit.
 Let through: the table of docs/PROVED.md names exactly the functions that answer something and have no clause, crate by crate.
 Links: each file that a page links to is there, and each heading.
 Statuses: the table of docs/FORMATS.md has the numbers of crates/bcdb/src/status.rt and specs/Numbers.antt, and no more.
@@ -34,6 +36,7 @@ sys.path.insert(0, os.path.join(ROOT, "docs"))
 
 import claim_page
 import draw_crates
+import proved_crates
 import prose
 
 WITH_EXAMPLES = ["README.md", "docs/GUIDE.md", "docs/ABORTS.md", "docs/FORMATS.md", "docs/CODES.md"]
@@ -191,12 +194,12 @@ def check_crates(tally):
         tally.note(listed.get(name) == levels[name], f"docs/DESIGN.md: {name} is of level {levels[name]}, and its row has {listed.get(name)}")
     in_order = all(before <= after for (_, before), (_, after) in zip(rows, rows[1:]))
     tally.note(in_order and len(rows) == len(crates), "docs/DESIGN.md: the table of crates is not in the order of levels, or has other rows")
-    proved = re.findall(r"`(\w+)`", " ".join(row[0] for row in rows_of("docs/PROVED.md", "## Crate by crate")))
-    for name in crates:
-        tally.note(name in proved, f"docs/PROVED.md: no row for {name}")
-    for name in proved:
-        tally.note(name in crates, f"docs/PROVED.md: a row for {name}, which is no crate")
     tally.note(read("docs/crates.svg") == draw_crates.picture(crates), "docs/crates.svg is not what docs/draw_crates.py draws")
+    tally.note(read("docs/PROVED.md") == proved_crates.page(), "docs/PROVED.md is not what docs/proved_crates.py writes")
+    for name in crates:
+        said = proved_crates.head_of(name)[0]
+        sentences = len(prose.END.split(said)) if said else 0
+        tally.note(1 <= sentences <= 4, f"crates/{name}: the head of its lib.rt has {sentences} sentences, where one to four are wanted")
 
 
 def heads_of(text):
@@ -272,6 +275,9 @@ def check_names(tally):
     known = crates.union(*(words_of(crate) for crate in crates))
     for name in re.findall(r"`([^`]+)`", section_of("docs/PROVED.md", "## How the claim reaches real files")):
         tally.note(known.issuperset(re.findall(r"\w+", name)), f"docs/PROVED.md: {name} stands in no crate")
+    for name in re.findall(r"`([^`]+)`", read("docs/DECISIONS.md")):
+        is_there = os.path.exists(os.path.join(ROOT, name)) or os.path.isdir(os.path.join(CASES, name)) or name.startswith("rt ")
+        tally.note(is_there or known.issuperset(re.findall(r"\w+", name)), f"docs/DECISIONS.md: {name} stands in no crate")
 
 
 def pages():

@@ -1,6 +1,9 @@
-//! A permissioned blockchain database: runs a file of blocks on an application, on one node or several whose executors run what arrives
-//! meanwhile, or as a schedule says, and prints outcomes and tables, or the versions that a query selects; or writes the blocks as a chain.
-//! It also runs blocks that are generated from a number, and puts what clients submit at once into blocks.
+//! The program. `bcdb` answers the words of a command line from a shelf of files into a sink of bytes, and its contract is the claim.
+//! `reply_to` does what each command asks for. It reads the files of the command in the order of one plan, each once the one before it has
+//! no fault.
+//!
+//! Only tested: `main`, `answer`, `answer_words`, `collect_words` and `collect`, which pass the words of the process on; all that is tried
+//! on the built program.
 #![tactic(auto)]
 
 pub mod application;

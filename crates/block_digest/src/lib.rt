@@ -1,4 +1,9 @@
-//! The result of a block as bytes, and the digest by which nodes compare a whole chain of results.
+//! The result of a block as bytes, and the digest by which nodes compare a whole chain of results. `encode` and `digest_of` give the code
+//! and the digest of the definition, and `digest_of_lent` the digest of a result whose writes stand with their transactions. `decode` gives
+//! the block whose code is the whole of the bytes, `Bad` exactly where there is none. Codes are one to one, and none begins another
+//! (`laws.rt`).
+//!
+//! Only tested: that calls succeed with memory enough.
 #![tactic(auto)]
 
 pub mod digest;

@@ -1,5 +1,9 @@
-//! What both nodes stand on: the chain of decided blocks, the ids that stand in it, and the block in work, whose transactions are judged by
-//! their runs.
+//! What both kinds of node stand on: the chain of decided blocks, the ids that stand in it, and the block in work, whose transactions are
+//! judged by their runs. `early_cause` gives the outcome that is known without a run, and `Chain::judge` that of a finished run, each as
+//! the definition has it. Once `reserve` of `BlockInWork` took the room, `abort` and `commit` can not fail. `Chain::seal` adds the result
+//! of the block, with its order and digest, to the chain and its writes to the store, or all is as before and the block comes back.
+//!
+//! Only tested: that calls succeed with memory enough.
 #![tactic(auto)]
 
 pub mod block;

@@ -1,7 +1,9 @@
-//! One code in bytes for each value, row and write, so that nodes can compare what they hold by digests.
+//! One code in bytes for each value, row and write, so that nodes can compare what they hold by digests. Each `put_` call writes the code
+//! of a thing at the end of some bytes. Each `read_` call reads the thing whose code stands at the start of some bytes and answers what
+//! follows, a `get_` call answers the length of the code instead, and both answer `Bad` exactly where no code stands there. Codes are one
+//! to one, and none begins another (`laws.rt`).
 //!
-//! Each `put_` call writes the code of a thing at the end of some bytes. Each `read_` call reads the thing whose code stands at
-//! the start of some bytes, and answers what follows; a `get_` call answers the length of the code instead.
+//! Only tested: that calls succeed with memory enough.
 #![tactic(auto)]
 
 pub mod laws;

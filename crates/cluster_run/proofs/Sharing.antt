@@ -27,6 +27,7 @@ use Rattle.proc_syntax.specs.contracts.tree.App as App
 use Rattle.rel_base.proofs.key.Key.TheSendSync as table_key
 use Rattle.rel_base.proofs.list.List.TheSendSync as list
 use Rattle.rel_base.proofs.row.Row.TheSendSync as table_row
+use Rattle.rel_base.specs.contracts.told.ToldRows as ToldRows
 use Rattle.row_sets.specs.declared.versions.Versions.{Ghosts}
 use Rattle.turn_lock.proofs.lock.TurnLock.TheSendSync as lock
 use Rattle.turn_lock.proofs.pass.Pass.TheSendSync as pass
@@ -38,8 +39,12 @@ ids_send = search (sends, maps.crosses, crosses, sendable) depth 60 fits 20000
 index_send : IsSend JobIndex.the_field.row
 index_send = search (sends, maps.crosses, crosses, sendable) depth 60 fits 20000
 
+-- rows that contracts alone see have no bytes, and own nothing
+told_rows_send : IsSend ToldRows.the_row
+told_rows_send = record { owned = λ d vs. ((λ vss. (tt, tt)), tt); leaving = λ k f vs. tt }
+
 row_field_send : IsSend JobRow.the_field.row
-row_field_send = search (sends, table_row.the_send, table_key.the_send, tx.the_send, tx.the_sync, crosses, sendable) depth 60 fits 20000
+row_field_send = search (sends, table_row.the_send, table_key.the_send, told_rows_send, tx.the_send, tx.the_sync, crosses, sendable) depth 60 fits 20000
 
 row_send : IsSend JobRow.the_row
 row_send = search (row_field_send, sendable) depth 60 fits 20000
@@ -48,7 +53,7 @@ jobs_send : IsSend Jobs.the_field.row
 jobs_send = search (row_send, index_send, crosses, sendable) depth 60 fits 20000
 
 done_send : IsSend BlockInWork.the_field.row
-done_send = search (sends, table_row.the_send, table_key.the_send, crosses, sendable) depth 60 fits 20000
+done_send = search (sends, table_row.the_send, table_key.the_send, told_rows_send, crosses, sendable) depth 60 fits 20000
 
 delivered_field_send : IsSend DeliveredBlock.the_field.row
 delivered_field_send = search (done_send, indexed.the_send, crosses, sendable) depth 60 fits 20000

@@ -1,6 +1,7 @@
-//! The causes of aborts that lie between transactions: late reads, and writes of one key in one block. And a directory of what the committed
-//! transactions of a block read and wrote: the write conflict of a transaction, and its edges, are looked for among those alone that its own
-//! keys name.
+//! The causes of aborts that lie between transactions: late reads, and writes of one key in one block. A directory of what the committed
+//! transactions of a block read and wrote finds the write conflict and the edges of a transaction. `late`, `write_conflict` and the
+//! directory's `conflict` and `edges` equal their definitions over the committed transactions. `add` makes a `Directory` that of one
+//! transaction more, and takes no memory after `reserve`.
 #![tactic(auto)]
 
 pub mod clash;

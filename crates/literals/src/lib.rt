@@ -1,4 +1,5 @@
-//! How values are spelled: numbers, texts and byte strings, read from the start of some bytes and written at their end.
+//! How values are spelled: numbers, texts and byte strings, read from the start of some bytes and written at their end. Readers and
+//! printers equal the grammar. What is printed is read back, and what is read has one spelling (`laws.rt`).
 #![tactic(auto)]
 
 pub mod bytes;

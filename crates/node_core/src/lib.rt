@@ -1,4 +1,10 @@
-//! The node as a value: jobs that run before their block is known, and blocks whose transactions are decided in order.
+//! The node as a value: jobs that run before their block is known, and blocks whose transactions are decided in order. Each call that
+//! changes a `NodeCore` is the step of the transition system in the state that its journal comes to (`step`), and one that ran out of
+//! memory leaves it as before (`err`). The journal is always one that steps can make, and the reads of a claimed job, a `HeldJob`, are
+//! those of its run. After a seal, as at the close, the results have for each block an order in which its committed transactions run again
+//! one by one (`replays`).
+//!
+//! Only tested: that calls succeed with memory enough.
 #![tactic(auto)]
 
 pub mod answers;

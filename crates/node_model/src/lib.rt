@@ -1,4 +1,7 @@
-//! What the chain of blocks means: the outcome of each transaction, and the fold of the blocks to their results.
+//! What the chain of blocks means: the outcome of each transaction, and the fold of the blocks to their results. Definitions: that fold,
+//! the node as a transition system, edges, dangers and the serial order, the code and the digest of a block's result. The code has the
+//! types of outcomes, results and journals, and the words and bytes of kinds of outcomes. What a node keeps of a block (`KeptResult`) is
+//! its result, whose writes contracts alone see.
 #![tactic(auto)]
 
 pub mod danger;

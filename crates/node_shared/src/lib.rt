@@ -1,7 +1,7 @@
-//! A node that threads share: a node core behind a turn lock, where every call is one turn.
-//!
-//! Each caller has a pass, whose number is its actor. Pass 0 is the processor's: it alone delivers, commits and seals. Whatever the others
-//! do between two turns of a pass, it finds the jobs that it holds as it left them (`laws`).
+//! A node that threads share: a node core behind a turn lock, where every call is one turn. The answer of a call and its entry are those of
+//! the core's step in the journal that it finds, which begins with what the pass had seen (`turn`, `later`). Each caller has a pass, whose
+//! number is its actor; pass 0 is the processor's, and it alone delivers, commits and seals. Whatever the others do between two turns of a
+//! pass, it finds the jobs that it holds as it left them (`turns_find_own`).
 #![tactic(auto)]
 
 pub mod arriving;

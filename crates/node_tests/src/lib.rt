@@ -1,4 +1,7 @@
-//! Tests of the node that threads share: worked runs whole, some of them in orders that a gate holds.
+//! Tests of the node that threads share. An insert step by step with two passes of a shared node over a plain list of versions, with its
+//! journal; a look at what a claimed job reads; two payments whose reads a gate makes alternate, in the threads of two executors, with the
+//! arrivals and reads in the journal. Sixteen executors of which each holds a job at once; a job that its executor gives up, since a block
+//! settles its id meanwhile.
 #![tactic(auto)]
 
 #[cfg(test)]

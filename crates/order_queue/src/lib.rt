@@ -1,8 +1,9 @@
-//! An ordering service: clients submit their transactions at once, and these are put into blocks.
+//! An ordering service: clients submit their transactions at once, each in a thread of its own, into one bounded queue, and these are put
+//! into blocks. The transactions of the blocks are a merge of the clients' lists, each of them once and those of one client in its order
+//! (`order_all`). That holds for every order of the threads' steps, and also where threads can't be started, whose work the caller then
+//! does. `ordered_draft` gives the draft of such blocks, which is read back as these with no fault.
 //!
-//! Each client puts a ticket for each of its transactions into one bounded queue, in a thread of its own. The caller takes the tickets,
-//! and their order is the order of the transactions. No transaction crosses a thread. The rule of the queue (`specs/Rule.antt`) says
-//! that the caller gets of each client the tickets that it put, each once and in their order, whatever the schedule.
+//! Only tested: that clients do submit at once (`order_tests`). That who sleeps is woken is said by no contract.
 #![tactic(auto)]
 
 mod bins;

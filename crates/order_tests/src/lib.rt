@@ -1,4 +1,5 @@
-//! Tests of the ordering service: worked drafts, and clients in threads that really submit at once.
+//! Tests of the ordering service: worked drafts; two clients that do put at once, each of whose puts a pace holds until the other is there;
+//! more tickets than the queue holds.
 #![tactic(auto)]
 
 #[cfg(test)]

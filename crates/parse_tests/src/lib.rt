@@ -1,5 +1,5 @@
-//! Tests of the parsers and of the printer: the places at which texts are refused, how the sources of queries are read, where tokens stand, and how a
-//! print is laid out.
+//! Tests of the parsers and of the printer: 121 queries and 20 applications with the line and the column of their faults; the accesses of
+//! 22 queries; where tokens stand; the layout of a print.
 #![tactic(auto)]
 
 #[cfg(test)]

@@ -18,8 +18,8 @@ ghost use Rattle.proc_syntax.specs.Limits.{most_transactions};
 
 use crate::moment::Moment;
 use block_work::{BlockInWork, Chain, Verdict, early_cause};
+use direct_run::run_directly;
 use node_model::Outcome;
-use proc_run::run_on;
 use proc_syntax::Tx;
 use proc_syntax::run::Ran;
 use rel_base::{Id, NoMemory};
@@ -48,7 +48,7 @@ fn run_at_time<V: Versions>(
         versions: &chain.versions,
         height: tx.height,
     };
-    run_on(alloc, &chain.app, tx, time, &moment)
+    run_directly(alloc, &chain.app, tx, time, &moment)
 }
 
 // The run of a transaction, at the time of the block of its height.

@@ -2,8 +2,8 @@
 
 ghost use Rattle.rel_base.specs.Tables.{tables_at};
 
-use proc_run::Snapshot;
-use rel_base::{List, NoMemory, Read, Seen};
+use direct_run::Snapshot;
+use rel_base::{Key, List, NoMemory, Read, Row, Seen};
 use row_sets::Versions;
 use std::alloc::Global;
 
@@ -21,5 +21,15 @@ impl<V: Versions> Snapshot for Moment<'_, V> {
 
     fn rows(&self, _alloc: Global, read: &Read) -> Result<List<Seen>, NoMemory> {
         self.versions.visible(self.height, read)
+    }
+
+    #[inline(always)]
+    fn row_at(&self, table: u32, key: &Key) -> Option<&Row> {
+        let seen = self.versions.row_at(self.height, table, key)?;
+        Some(seen.row)
+    }
+
+    fn rows_lent(&self, read: &Read) -> Result<Vec<&Row>, NoMemory> {
+        self.versions.rows_lent(self.height, read)
     }
 }

@@ -1,3 +1,4 @@
+pub mod Called
 pub mod Coded_runs
 pub mod Following
 pub mod Numbered

@@ -1,7 +1,9 @@
-//! Procedures with their names resolved once, so that a run meets the numbers of variables, tables and columns, and looks nothing up
-//! by a name.
+//! Procedures with their names resolved once, so that a run meets the numbers of variables, tables and columns, and looks nothing up by a
+//! name. `resolve` gives the code of an application. A run of the code is the run of the application (`code_runs_are_runs`), for every
+//! application, well typed or not.
 #![tactic(auto)]
 
+pub mod calls;
 pub mod gather;
 pub mod laws;
 pub mod numbering;

@@ -7,7 +7,7 @@ ghost use Rattle.proc_syntax.specs.Values.{apply};
 ghost use Rattle.proc_code.specs.Coded.{worth_of};
 ghost use Rattle.proc_code.specs.Weighed.{applied};
 
-use crate::slots::{Environment, field_in, plain_in};
+use crate::slots::Variables;
 use crate::tree::Term;
 use proc_syntax::Op;
 use rel_base::{List, Value};
@@ -25,7 +25,7 @@ fn number_in(value: Option<&Value>) -> Option<i64>
 
 /// Whether an operator may give a number of two numbers, so that it is worth looking for them.
 #[inline(always)]
-fn is_counting(op: Op) -> bool {
+pub fn is_counting(op: Op) -> bool {
     match op {
         Op::Add | Op::Sub | Op::Mul => true,
         _ => false,
@@ -34,7 +34,7 @@ fn is_counting(op: Op) -> bool {
 
 /// The number that an operator gives of two numbers, where it gives one.
 #[inline(always)]
-fn number_by(op: Op, left: i64, right: i64) -> Option<i64>
+pub fn number_by(op: Op, left: i64, right: i64) -> Option<i64>
     ensures { IfSome result (λ n. apply op (Int left) (Ok (Int right)) ≡ Ok (Int n)) }
 {
     match op {
@@ -47,32 +47,31 @@ fn number_by(op: Op, left: i64, right: i64) -> Option<i64>
 
 /// The number that a leaf is, where it stands in the code, in a variable or in a row.
 #[inline(always)]
-pub fn leaf_number(
+pub fn leaf_number<E: Variables>(
     columns: &List<List<Option<usize>>>,
-    environment: &Environment,
+    environment: &E,
     term: &Term,
 ) -> Option<i64>
-    ensures { IfSome result (λ n. worth_of columns.now term.now environment.now ≡ Ok (Int n)) }
+    ensures { IfSome result (λ n. worth_of columns.now term.now (E.environment environment.now) ≡ Ok (Int n)) }
 {
-    let slots = environment.slots.as_slice();
     match term {
         Term::Value(value) => number_in(Some(value)),
-        Term::Var(slot) => number_in(plain_in(slots, *slot)),
-        Term::Field { slot, column } => number_in(field_in(columns, slots, *slot, *column)),
+        Term::Var(slot) => number_in(environment.plain(*slot)),
+        Term::Field { slot, column } => number_in(environment.field(columns, *slot, *column)),
         _ => None,
     }
 }
 
 /// The number that an operator gives of two leaves, where they are numbers and it gives one.
 #[inline(always)]
-fn number_of_leaves(
+fn number_of_leaves<E: Variables>(
     columns: &List<List<Option<usize>>>,
-    environment: &Environment,
+    environment: &E,
     op: Op,
     left: &Term,
     right: &Term,
 ) -> Option<i64>
-    ensures { IfSome result (λ n. applied op (worth_of columns.now left.now environment.now) (worth_of columns.now right.now environment.now) ≡ Ok (Int n)) }
+    ensures { IfSome result (λ n. applied op (worth_of columns.now left.now (E.environment environment.now)) (worth_of columns.now right.now (E.environment environment.now)) ≡ Ok (Int n)) }
 {
     if !is_counting(op) {
         return None;
@@ -85,12 +84,12 @@ fn number_of_leaves(
 /// The number that an expression is, where it is a leaf or an operator between two. Most expressions are, so this stands in its callers:
 /// it calls nothing, and no value is moved.
 #[inline(always)]
-pub fn quick_number(
+pub fn quick_number<E: Variables>(
     columns: &List<List<Option<usize>>>,
-    environment: &Environment,
+    environment: &E,
     term: &Term,
 ) -> Option<i64>
-    ensures { IfSome result (λ n. worth_of columns.now term.now environment.now ≡ Ok (Int n)) }
+    ensures { IfSome result (λ n. worth_of columns.now term.now (E.environment environment.now) ≡ Ok (Int n)) }
 {
     match term {
         Term::Two { op, left, right } => {
@@ -102,14 +101,14 @@ pub fn quick_number(
 
 /// The number that an operator gives of a number and of that of an expression, where it gives one.
 #[cycle(deep_number)]
-fn deep_right(
+fn deep_right<E: Variables>(
     columns: &List<List<Option<usize>>>,
-    environment: &Environment,
+    environment: &E,
     op: Op,
     left: i64,
     right: &Term,
 ) -> Option<i64>
-    ensures { IfSome result (λ n. apply op (Int left) (worth_of columns.now right.now environment.now) ≡ Ok (Int n)) }
+    ensures { IfSome result (λ n. apply op (Int left) (worth_of columns.now right.now (E.environment environment.now)) ≡ Ok (Int n)) }
 {
     let right = deep_number(columns, environment, right)?;
     number_by(op, left, right)
@@ -117,15 +116,15 @@ fn deep_right(
 
 /// The number that an expression is, where it is one that is found with no value on the way.
 #[cycle(deep_number)]
-pub fn deep_number(
+pub fn deep_number<E: Variables>(
     columns: &List<List<Option<usize>>>,
-    environment: &Environment,
+    environment: &E,
     term: &Term,
 ) -> Option<i64>
-    ensures { IfSome result (λ n. worth_of columns.now term.now environment.now ≡ Ok (Int n)) }
+    ensures { IfSome result (λ n. worth_of columns.now term.now (E.environment environment.now) ≡ Ok (Int n)) }
 {
     match term {
-        Term::Now => Some(environment.time),
+        Term::Now => Some(environment.time()),
         Term::Two { op, left, right } => {
             if !is_counting(*op) {
                 return None;
@@ -165,14 +164,14 @@ fn test_by(op: Op, left: i64, right: i64) -> Option<bool>
 
 /// What a comparison of two leaves gives, where they are numbers.
 #[inline(always)]
-fn test_of_leaves(
+fn test_of_leaves<E: Variables>(
     columns: &List<List<Option<usize>>>,
-    environment: &Environment,
+    environment: &E,
     op: Op,
     left: &Term,
     right: &Term,
 ) -> Option<bool>
-    ensures { IfSome result (λ b. applied op (worth_of columns.now left.now environment.now) (worth_of columns.now right.now environment.now) ≡ Ok (Bool b)) }
+    ensures { IfSome result (λ b. applied op (worth_of columns.now left.now (E.environment environment.now)) (worth_of columns.now right.now (E.environment environment.now)) ≡ Ok (Bool b)) }
 {
     if !is_comparison(op) {
         return None;
@@ -184,12 +183,12 @@ fn test_of_leaves(
 
 /// The truth value that an expression is, where it compares two leaves that are numbers.
 #[inline(always)]
-pub fn quick_test(
+pub fn quick_test<E: Variables>(
     columns: &List<List<Option<usize>>>,
-    environment: &Environment,
+    environment: &E,
     term: &Term,
 ) -> Option<bool>
-    ensures { IfSome result (λ b. worth_of columns.now term.now environment.now ≡ Ok (Bool b)) }
+    ensures { IfSome result (λ b. worth_of columns.now term.now (E.environment environment.now) ≡ Ok (Bool b)) }
 {
     match term {
         Term::Two { op, left, right } => {
@@ -200,14 +199,14 @@ pub fn quick_test(
 }
 
 /// What a comparison of two expressions gives, where they are numbers that are found with no value on the way.
-fn test_of_two(
+fn test_of_two<E: Variables>(
     columns: &List<List<Option<usize>>>,
-    environment: &Environment,
+    environment: &E,
     op: Op,
     left: &Term,
     right: &Term,
 ) -> Option<bool>
-    ensures { IfSome result (λ b. applied op (worth_of columns.now left.now environment.now) (worth_of columns.now right.now environment.now) ≡ Ok (Bool b)) }
+    ensures { IfSome result (λ b. applied op (worth_of columns.now left.now (E.environment environment.now)) (worth_of columns.now right.now (E.environment environment.now)) ≡ Ok (Bool b)) }
 {
     if !is_comparison(op) {
         return None;
@@ -218,12 +217,12 @@ fn test_of_two(
 }
 
 /// The truth value that an expression is, where it compares two numbers that are found with no value on the way.
-pub fn deep_test(
+pub fn deep_test<E: Variables>(
     columns: &List<List<Option<usize>>>,
-    environment: &Environment,
+    environment: &E,
     term: &Term,
 ) -> Option<bool>
-    ensures { IfSome result (λ b. worth_of columns.now term.now environment.now ≡ Ok (Bool b)) }
+    ensures { IfSome result (λ b. worth_of columns.now term.now (E.environment environment.now) ≡ Ok (Bool b)) }
 {
     match term {
         Term::Two { op, left, right } => {

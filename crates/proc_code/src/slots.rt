@@ -3,11 +3,10 @@
 ghost use Rattle.std.specs.Prelude.{◌≡◌};
 ghost use Rattle.std.specs.Option.{option_and_then, option_copied};
 ghost use Rattle.proc_syntax.specs.Scope.{plain_of};
-ghost use Rattle.proc_syntax.specs.Values.{found};
 ghost use Rattle.proc_code.specs.Coded.{in_slot, column_at, cell_of};
-ghost use Rattle.proc_code.specs.Weighed.{lent};
+ghost use Rattle.proc_code.specs.declared.slots.Environment.{Environment as Surroundings};
 
-use proc_syntax::{Binding, Stop};
+use proc_syntax::Binding;
 use rel_base::{List, Value};
 
 /// What the expressions of a run are evaluated in: what each variable stands for, by its number, and the time of the run in seconds.
@@ -83,21 +82,43 @@ pub fn field_in<'a>(
     }
 }
 
-/// The value of what a variable stands for.
-pub fn plain_value<'a>(slots: &'a [Option<Binding>], slot: usize) -> Result<&'a Value, Stop>
-    ensures { lent result ≡ found (option_and_then plain_of (in_slot slots.now slot)) }
-{
-    plain_in(slots, slot).ok_or(Stop::IllTyped)
+/// What expressions are evaluated in, however its variables are kept. Contracts see it as an environment.
+pub trait Variables {
+    ghost environment: { Self → Surroundings };
+
+    /// The value of what a variable stands for, where it stands for one.
+    fn plain(&self, slot: usize) -> Option<&Value>
+        ensures { option_copied result ≡ option_and_then plain_of (in_slot (environment self.now).slots slot) };
+
+    /// The value of the row that a variable holds, in the column of a name, where there is one.
+    fn field(&self, columns: &List<List<Option<usize>>>, slot: usize, name: usize) -> Option<&Value>
+        ensures { option_copied result ≡ option_and_then (cell_of columns.now name) (in_slot (environment self.now).slots slot) };
+
+    /// The time of the run in seconds.
+    fn time(&self) -> i64
+        ensures { result ≡ (environment self.now).time };
 }
 
-/// The value of the row that a variable holds, in the column of a name.
-pub fn field_value<'a>(
-    columns: &List<List<Option<usize>>>,
-    slots: &'a [Option<Binding>],
-    slot: usize,
-    name: usize,
-) -> Result<&'a Value, Stop>
-    ensures { lent result ≡ found (option_and_then (cell_of columns.now name) (in_slot slots.now slot)) }
-{
-    field_in(columns, slots, slot, name).ok_or(Stop::IllTyped)
+impl Variables for Environment {
+    ghost environment = { λ environment. environment };
+
+    #[inline(always)]
+    fn plain(&self, slot: usize) -> Option<&Value> {
+        plain_in(self.slots.as_slice(), slot)
+    }
+
+    #[inline(always)]
+    fn field(
+        &self,
+        columns: &List<List<Option<usize>>>,
+        slot: usize,
+        name: usize,
+    ) -> Option<&Value> {
+        field_in(columns, self.slots.as_slice(), slot, name)
+    }
+
+    #[inline(always)]
+    fn time(&self) -> i64 {
+        self.time
+    }
 }

@@ -5,7 +5,7 @@ ghost use Rattle.proc_syntax.specs.Meaning.{row_under, set_columns};
 ghost use Rattle.proc_syntax.specs.Values.{found};
 ghost use Rattle.proc_eval.specs.Gives.{Gives};
 
-use crate::fit::{is_under, with_columns};
+use crate::fit::is_under;
 use crate::halt::Halt;
 use proc_syntax::Stop;
 use rel_base::{Key, Row, TableDef, Value};
@@ -21,7 +21,7 @@ pub fn changed(
 ) -> Result<Row, Halt>
     ensures { Gives result (found (row_under def.now key.now (set_columns old.now changes.now))) }
 {
-    let row = with_columns(alloc, old, changes)?;
+    let row = old.with_set(alloc, changes)?;
     if is_under(def, key, &row) {
         Ok(row)
     } else {

@@ -1,14 +1,17 @@
 //! Values, reads and rows that fit their table.
 
-ghost use Rattle.std.specs.Prelude.{◌≡◌, ◌==◌, ◌&&◌, cond, IfOk, OnOk, map, take, Some, None, slice_set};
+ghost use Rattle.std.specs.Prelude.{◌≡◌, ◌==◌, ◌&&◌, cond, IfOk, map, take, Some, None};
 ghost use Rattle.std.specs.List.{list_any};
 ghost use Rattle.rel_base.specs.Schema.{kind_at, key_of_row, span_columns};
 ghost use Rattle.rel_base.specs.Row.{value_at};
 ghost use Rattle.rel_base.specs.Value.{key_eq, value_eq};
-ghost use Rattle.proc_syntax.specs.Values.{has_kind, have_kinds};
-ghost use Rattle.proc_syntax.specs.Meaning.{end_has, span_on, row_fits, key_for, set_columns};
+ghost use Rattle.proc_syntax.specs.Values.{found, has_kind, have_kinds};
+ghost use Rattle.proc_syntax.specs.Meaning.{end_has, span_of, span_on, row_fits, key_for};
+ghost use Rattle.proc_eval.specs.Gives.{Gives};
 
-use rel_base::{Column, Key, Kind, List, NoMemory, Read, Row, TableDef, Twin, Value, key_of};
+use crate::halt::Halt;
+use proc_syntax::Stop;
+use rel_base::{Column, Key, Kind, NoMemory, Read, Row, TableDef, Value, key_of};
 use std::alloc::Global;
 
 /// Whether a value has a kind.
@@ -137,6 +140,25 @@ pub fn span_on(
     }
 }
 
+/// The span read on a column that a span may name, between ends of its kind.
+pub fn span_read(
+    def: &TableDef,
+    table: u32,
+    column: Option<usize>,
+    low: Option<Value>,
+    high: Option<Value>,
+) -> Result<Read, Stop>
+    ensures { result ≡ found (span_of def.now table column low high) }
+{
+    match column {
+        None => Err(Stop::IllTyped),
+        Some(column) => match span_on(def, table, column, low, high) {
+            None => Err(Stop::IllTyped),
+            Some(read) => Ok(read),
+        },
+    }
+}
+
 /// The key of a row, where the row fits.
 pub fn key_for(alloc: Global, def: &TableDef, row: &Row) -> Result<Option<Key>, NoMemory>
     ensures { IfOk result (λ key. key ≡ key_for def.now row.now) }
@@ -146,6 +168,16 @@ pub fn key_for(alloc: Global, def: &TableDef, row: &Row) -> Result<Option<Key>, 
         Ok(Some(key))
     } else {
         Ok(None)
+    }
+}
+
+/// The key of a row that fits.
+pub fn key_of_fit(alloc: Global, def: &TableDef, row: &Row) -> Result<Key, Halt>
+    ensures { Gives result (found (key_for def.now row.now)) }
+{
+    match key_for(alloc, def, row)? {
+        Some(key) => Ok(key),
+        None => Err(Halt::Stop(Stop::IllTyped)),
     }
 }
 
@@ -177,38 +209,4 @@ pub fn is_under(def: &TableDef, key: &Key, row: &Row) -> bool
     ensures { result ≡ (row_fits def.now row.now && key_eq (key_of_row def.now row.now) key.now) }
 {
     fits_table(def, row) && has_values(row, def.key.as_slice(), key.as_slice())
-}
-
-/// Sets a column among the values of a row that has it.
-fn set_column(row: &mut List<Value>, column: usize, value: Value)
-    ensures { row.new ≡ slice_set row.old column value }
-{
-    if column < row.len() {
-        let _ = row.replace(column, value);
-    }
-}
-
-/// Sets columns among the values of a row, one after the other.
-fn set_columns(
-    alloc: Global,
-    row: &mut List<Value>,
-    changes: &[(usize, Value)],
-) -> Result<(), NoMemory>
-    ensures { OnOk result (row.new ≡ set_columns row.old changes.now) }
-{
-    for change in changes {
-        let value = change.1.copy(alloc)?;
-        set_column(row, change.0, value);
-    }
-    Ok(())
-}
-
-/// A row with columns set, one after the other. The row itself stays as it is.
-pub fn with_columns(alloc: Global, old: &Row, changes: &[(usize, Value)]) -> Result<Row, NoMemory>
-    ensures { IfOk result (λ row. row ≡ set_columns old.now changes.now) }
-{
-    let mut values = old.to_list(alloc)?;
-    set_columns(alloc, &mut values, changes)?;
-    let row = Row::new(values)?;
-    Ok(row)
 }

@@ -1,4 +1,8 @@
-//! The parser of applications.
+//! The parser of applications. `parse` gives the tree that the grammar reads in a text, and `Syntax` only where it reads none, at the place
+//! where it stops. A token stands there at which it stops whatever follows (`refused`). What stands before it goes on to an application, of
+//! which blocks may be one deeper (`viable`), so it is the first token that nothing allows.
+//!
+//! Only tested: 440 texts with the first token that nothing allows (`tests/cases/faults-of-applications`).
 #![tactic(auto)]
 
 mod declarations;

@@ -1,4 +1,5 @@
-//! The printer of applications.
+//! The printer of applications, which the program does not use. `print` gives the bytes of a tree's text. An application that was read from
+//! a text is read back from them in all but line numbers (`back`), and has the same print (`laws.rt`).
 #![tactic(auto)]
 
 pub mod laws;

@@ -1,7 +1,6 @@
 -- One more spot is one more frame.
 use Rattle.std.proofs.Common.{◌≡◌, ℕ, ◌+◌, ◌<◌, ◌≤◌, refl, sym, ap, ◌∙◌, List, [], ◌∷◌, ◌++◌, length, drop, add-one, true, false, Bool, cond, Ok, Err, Option, Some, None}
 use Rattle.std.specs.Prelude.{◌==◌, slice_get}
-use Rattle.std.specs.List.{find}
 use Rattle.std.proofs.lemmas.Bool.{lt-ltb, le-ltb, eqb-true}
 use Rattle.std.proofs.lemmas.List.{drop_all}
 use Rattle.rel_base.specs.declared.schema.TableDef.{TableDef}
@@ -222,8 +221,3 @@ module _ (declared : List TableDef) (columns : List (List (Option ℕ))) (S : Ta
     -- where it has one
     pub enters_first : (row : List Value) → slice_get seen 0 ≡ Some row → runs (frames_of root (ss ++ spot.Block at First 0 ∷ [])) (hold slot table row st) ≡ then_do held (runs (frames_of root ss))
     enters_first row h = path_push root ss (spot.Block at First 0) (hold slot table row st) ∙ ap (λ o. then_do o (runs (frames_of root ss))) (held_some row h)
-
--- the first of what is left, where it is the one that is looked for
-pub found_here : {X : Type 0} (p : X → Bool) (xs : List X) (i : ℕ) (x : X) → find p (drop i xs) ≡ find p xs → slice_get xs i ≡ Some x → p x ≡ true → slice_get xs i ≡ find p xs
-found_here p xs i x same here hit =
-    here ∙ ap (λ b. cond b (Some x) (find p (drop (i + 1) xs))) (sym hit) ∙ ap (find p) (sym (one_left xs i x here)) ∙ same

@@ -4,12 +4,13 @@ ghost use Rattle.std.specs.Prelude.{◌≡◌, ◌+◌, ◌≤◌, ◌<◌, true
 ghost use Rattle.proc_run.specs.Remains.{state, IsSameRest, IsAssigned};
 ghost use Rattle.proc_syntax.specs.Limits.{most_steps};
 
-use crate::state::{MOST_RUN_STEPS, Run};
+use crate::state::Run;
 use crate::variables::{put, put_number};
 use proc_code::quick::quick_number;
 use proc_code::values::eval;
 use proc_code::{Action, Term};
 use proc_syntax::Binding;
+use proc_syntax::run::MOST_RUN_STEPS;
 use rel_base::List;
 use std::alloc::Global;
 

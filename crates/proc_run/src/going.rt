@@ -6,7 +6,7 @@ ghost use Rattle.rel_base.specs.declared.schema.TableDef.{TableDef as Def};
 ghost use Rattle.row_sets.specs.Overlay.{AreFound, own_of};
 ghost use Rattle.proc_syntax.specs.declared.call.Tx.{Tx as Call};
 ghost use Rattle.proc_syntax.specs.Declaring.{tables_of};
-ghost use Rattle.proc_syntax.specs.Run.{ran, ending_of};
+ghost use Rattle.proc_syntax.specs.Run.{ran};
 ghost use Rattle.proc_code.specs.declared.slots.Environment.{Environment};
 ghost use Rattle.proc_code.specs.declared.tree.Action.{Action as Act};
 ghost use Rattle.proc_run.specs.declared.path.Spot.{Spot as PathStep};
@@ -20,7 +20,7 @@ use crate::state::{Phase, Run, Want};
 use crate::turn::advance;
 use proc_check::Checked;
 use proc_eval::Halt;
-use proc_syntax::{Ending, Ran, Stop};
+use proc_syntax::{Ending, Ran};
 use rel_base::{List, Made, NoMemory, TableDef, Twin};
 use row_sets::Overlay;
 use std::alloc::Global;
@@ -185,16 +185,6 @@ pub fn wanted(alloc: Global, phase: &Phase) -> Result<Want, NoMemory>
     }
 }
 
-/// How a run ends that stopped.
-fn ending_of(stop: Stop) -> Ending
-    ensures { result ≡ ending_of stop }
-{
-    match stop {
-        Stop::Fault(fault) => Ending::Faulted(fault),
-        Stop::IllTyped => Ending::IllTyped,
-    }
-}
-
 /// What a run gave that is at its end.
 pub fn gives(alloc: Global, phase: Phase, own: Overlay, made: Vec<Made>) -> Ran
     requires ended { waits phase ≡ true }
@@ -211,7 +201,7 @@ pub fn gives(alloc: Global, phase: Phase, own: Overlay, made: Vec<Made>) -> Ran
         Phase::Stopped(stop) => Ran {
             reads: List::from_vec(made),
             writes: List::new(alloc),
-            ending: ending_of(stop),
+            ending: Ending::of(stop),
         },
         _ => unreachable!(),
     }

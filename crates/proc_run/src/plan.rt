@@ -2,7 +2,7 @@
 
 ghost use Rattle.std.specs.Prelude.{◌≡◌, Ok, IfOk, IfErr, Some, None, slice_get};
 ghost use Rattle.proc_syntax.specs.declared.run.Stop.TheVariants as stop;
-ghost use Rattle.proc_syntax.specs.Steps.{point_of, span_of, key_for};
+ghost use Rattle.proc_syntax.specs.Steps.{point_of};
 ghost use Rattle.proc_syntax.specs.Values.{found};
 ghost use Rattle.proc_eval.specs.Gives.{Gives};
 ghost use Rattle.proc_eval.specs.declared.halt.Halt.TheVariants as halt;
@@ -15,7 +15,7 @@ use proc_code::values::{eval, eval_end, eval_key, eval_row, eval_settings};
 use proc_code::{Action, Setting, Term};
 use proc_eval::Halt;
 use proc_eval::compare::flag;
-use proc_eval::fit::{fits_key, key_for, span_on};
+use proc_eval::fit::{fits_key, key_of_fit, span_read};
 use proc_syntax::{Fault, Stop};
 use rel_base::{Key, List, Read, Row, TableDef, Twin, Value};
 use std::alloc::Global;
@@ -66,35 +66,6 @@ fn point_read(def: &TableDef, table: u32, key: Key) -> Result<Read, Stop>
         Ok(Read::Point { table, key })
     } else {
         Err(Stop::IllTyped)
-    }
-}
-
-/// The span read on a column that a span may name, between ends of its kind.
-fn span_read(
-    def: &TableDef,
-    table: u32,
-    column: Option<usize>,
-    low: Option<Value>,
-    high: Option<Value>,
-) -> Result<Read, Stop>
-    ensures { result ≡ found (span_of def.now table column low high) }
-{
-    match column {
-        None => Err(Stop::IllTyped),
-        Some(column) => match span_on(def, table, column, low, high) {
-            None => Err(Stop::IllTyped),
-            Some(read) => Ok(read),
-        },
-    }
-}
-
-/// The key of a row that fits.
-fn key_of_fit(alloc: Global, def: &TableDef, row: &Row) -> Result<Key, Halt>
-    ensures { Gives result (found (key_for def.now row.now)) }
-{
-    match key_for(alloc, def, row)? {
-        Some(key) => Ok(key),
-        None => Err(Halt::Stop(Stop::IllTyped)),
     }
 }
 

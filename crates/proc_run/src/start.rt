@@ -16,9 +16,9 @@ ghost use Rattle.proc_run.specs.MachineView.{IsBegun};
 
 use crate::state::{Phase, Run};
 use crate::variables::put;
+use proc_code::calls::{accepts, number_of};
 use proc_code::slots::Environment;
 use proc_code::{AppCode, Param, ProcCode};
-use proc_eval::fit::has_kind;
 use proc_syntax::{Binding, Stop, Tx};
 use rel_base::{List, Name, NoMemory, Twin, Value};
 use row_sets::Overlay;
@@ -33,30 +33,6 @@ pub struct BegunCall {
     pub number: usize,
     pub phase: Phase,
     pub run: Run,
-}
-
-/// The number of the first procedure of a name.
-fn number_of(procs: &[ProcCode], name: &Name) -> Option<usize>
-    ensures { option_and_then (slice_get procs.now) result ≡ find (λ procedure. bytes_eq procedure.name name.now) procs.now }
-{
-    for (i, procedure) in procs.iter().enumerate() {
-        if procedure.name.as_str() == name.as_str() {
-            return Some(i);
-        }
-    }
-    None
-}
-
-/// Whether there is one argument of its kind for each parameter.
-fn accepts(params: &[Param], values: &[Value]) -> bool
-    ensures { result ≡ have_kinds (map (λ param. param.kind) params.now) values.now }
-{
-    match (params.split_first(), values.split_first()) {
-        (None, None) => true,
-        (Some((param, params)), Some((value, values))) => has_kind(param.kind, value)
-            && accepts(params, values),
-        _ => false,
-    }
 }
 
 /// Variables that stand for nothing yet.

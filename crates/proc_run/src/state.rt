@@ -6,9 +6,6 @@ use proc_syntax::Stop;
 use rel_base::{List, Made, Read};
 use row_sets::Overlay;
 
-/// The number of steps that a run may take.
-pub const MOST_RUN_STEPS: u32 = 100_000;
-
 /// What a run has on its way: what its expressions are evaluated in, what it wrote, the reads that it made, and the count of its steps.
 #[derive(Drop)]
 pub struct Run {

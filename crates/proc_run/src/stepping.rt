@@ -14,11 +14,12 @@ ghost use Rattle.proc_syntax.specs.Limits.{most_steps};
 
 use crate::path::{Branch, Cursor, Holder, Program, Spot, part};
 use crate::plan::{Plan, plan_action};
-use crate::state::{MOST_RUN_STEPS, Phase, Run};
+use crate::state::{Phase, Run};
 use crate::turn::{push_block, push_rest, push_rows};
 use crate::variables::{hold, put};
 use proc_code::Action;
 use proc_eval::Halt;
+use proc_syntax::run::MOST_RUN_STEPS;
 use proc_syntax::{Binding, Fault, Stop};
 use rel_base::{List, NoMemory, Row, Twin};
 use std::alloc::Global;

@@ -6,11 +6,12 @@ ghost use Rattle.proc_syntax.specs.Limits.{most_steps};
 
 use crate::assigning::assign_all;
 use crate::path::Holder;
-use crate::state::{MOST_RUN_STEPS, Run};
+use crate::state::Run;
 use crate::stepping::row_at;
 use crate::variables::{exchange, hold};
 use proc_code::Action;
 use proc_syntax::Binding;
+use proc_syntax::run::MOST_RUN_STEPS;
 use rel_base::{List, Row};
 use std::alloc::Global;
 

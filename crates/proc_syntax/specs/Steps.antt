@@ -1,5 +1,5 @@
 -- What a run does step by step, whatever its expressions are evaluated in: with variables by names, or by numbers.
-use Rattle.std.specs.Prelude.{ℕ, ◌+◌, Bool, true, cond, ◌&&◌, ◌==◌, List, [], ◌∷◌, ◌++◌, map, Option, Some, None, Result, Ok, Err, nat_lt, slice_set}
+use Rattle.std.specs.Prelude.{ℕ, ◌+◌, Bool, true, cond, ◌&&◌, ◌==◌, List, [], ◌∷◌, ◌++◌, map, Option, Some, None, Result, Ok, Err, nat_lt}
 use Rattle.std.specs.FinMap as finite
 use Rattle.std.specs.List.{list_any}
 use Rattle.rel_base.specs.declared.access.Made.{Made}
@@ -10,6 +10,7 @@ use Rattle.rel_base.specs.declared.schema.TableDef.{TableDef}
 use Rattle.rel_base.specs.declared.value.Kind.{Kind}
 use Rattle.rel_base.specs.declared.value.Value.{Value}
 use Rattle.rel_base.specs.OwnWrites.{Own, merged}
+pub use Rattle.rel_base.specs.Row.{set_columns}
 use Rattle.rel_base.specs.Schema.{kind_at, key_of_row, span_columns}
 use Rattle.rel_base.specs.Tables.{Tables, rows}
 use Rattle.rel_base.specs.Value.{key_eq}
@@ -89,11 +90,6 @@ key_for def row = cond (row_fits def row) (Some (key_of_row def row)) None
 -- a row that fits and has a key
 abbrev pub row_under : TableDef → List Value → List Value → Option (List Value)
 row_under def key row = cond (row_fits def row && key_eq (key_of_row def row) key) (Some row) None
-
--- a row with columns set
-abbrev pub set_columns : List Value → List (ℕ × Value) → List Value
-set_columns row [] = row
-set_columns row (change ∷ changes) = set_columns (slice_set row change.0 change.1) changes
 
 -- ---- what is done with the rows of a read
 

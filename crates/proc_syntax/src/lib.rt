@@ -1,4 +1,7 @@
-//! The trees of applications, the calls that transactions make, and what a run of a call means.
+//! The trees of applications, the calls that transactions make, and what a run of a call means, for the whole procedure language. That
+//! meaning is a definition, of which `laws.rt` has laws. A run is the same on all tables on which its reads have the same rows
+//! (`equal_rows_give_equal_runs`). Reads and writes of a run fit the declarations and have their bounds, and a run sees its own writes
+//! (`reads_fit`, `writes_fit`, `few_reads`, `few_writes`, `sees_its_writes`).
 #![tactic(auto)]
 
 pub mod call;

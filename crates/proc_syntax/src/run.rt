@@ -1,8 +1,14 @@
 //! What a run of a call has on its way, and what it gives at its end.
 
+ghost use Rattle.std.specs.Prelude.{◌≡◌};
+ghost use Rattle.proc_syntax.specs.Run.{ending_of};
+
 use crate::fault::Fault;
 use rel_base::{List, Made, Name, NoMemory, Row, Twin, Value, Write};
 use std::alloc::Global;
+
+/// The number of steps that a run may take.
+pub const MOST_RUN_STEPS: u32 = 100_000;
 
 /// What a name stands for in a run: a value, or a row of a table, by the table's number.
 #[derive(Drop)]
@@ -36,6 +42,18 @@ pub enum Ending {
     Faulted(Fault),
     /// Without writes, since the procedure or the call is not well typed.
     IllTyped,
+}
+
+impl Ending {
+    /// How a run ends that stopped.
+    pub fn of(stop: Stop) -> Ending
+        ensures { result ≡ ending_of stop }
+    {
+        match stop {
+            Stop::Fault(fault) => Ending::Faulted(fault),
+            Stop::IllTyped => Ending::IllTyped,
+        }
+    }
 }
 
 /// What a run gives: its reads in the order in which they were made, each with its rows, its net writes in the order of their

@@ -1,4 +1,9 @@
-//! Provenance: queries that ask who made the versions of rows and who ended them, and their answers from the results of blocks.
+//! Provenance: queries that ask who made the versions of rows and who ended them. `parse_query` gives the query of a text of any length,
+//! `BadQuery` exactly outside the grammar. `answer` gives, over any store of versions and the results of its blocks, exactly the versions
+//! that the query selects, in their order, and each refusal exactly. Each write stands at the place of a transaction where numbers and
+//! positions are in order, as in the results of a fold (`laws.rt`).
+//!
+//! Only tested: that calls succeed with memory enough.
 #![tactic(auto)]
 
 pub mod author;

@@ -1,4 +1,8 @@
-//! Reports: what the nodes committed and what their tables hold, as lines of text or as JSON.
+//! Reports: what the nodes committed and what their tables hold, as lines of text or as JSON. `report` gives the bytes of a report, which
+//! names where the block file stopped, and of the journals after it. The JSON is the compact text of the value `report_json`, in the words
+//! of `serde_json`. `versions` gives the lines of versions, `answers` those of rows, and `summary` how many outcomes are of each kind.
+//!
+//! Only tested: journals, versions and reports, also as JSON, in print: the cases of `tests/`.
 #![tactic(auto)]
 
 mod answer;

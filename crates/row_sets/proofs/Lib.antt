@@ -9,3 +9,4 @@ pub mod Histories
 pub mod Laid
 pub mod Nets
 pub mod Owns
+pub mod PointRows

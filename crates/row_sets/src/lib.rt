@@ -1,4 +1,10 @@
-//! Sets of rows that grow by writes: what stores of committed versions promise, the log that they keep, and a transaction's own writes.
+//! Sets of rows that grow by writes: the trait `Versions` of stores of committed versions, the log that they keep, and a transaction's own
+//! writes. Of a store `visible` are the rows of a read at a height, and `row_at` and `rows_lent` lend them; `late_hit` is the least write
+//! that hits a read; after `reserve`, `apply` takes no memory. `chain_of` and `all_of` are the versions of a key and of a table, and
+//! `block_from` gives the writes of a block from a number on. Of an `Overlay` `look` and `merge` are the rows that a transaction sees, and
+//! `net` its net writes.
+//!
+//! Only tested: that calls succeed with memory enough.
 #![tactic(auto)]
 
 pub mod block_writes;

@@ -1,6 +1,6 @@
 //! A transaction's own writes.
 
-ghost use Rattle.std.specs.Prelude.{◌≡◌, ◌+◌, ◌≤◌, ◌++◌, IfOk, OnErr, OnOk, List, T, length, not};
+ghost use Rattle.std.specs.Prelude.{◌≡◌, ◌+◌, ◌≤◌, ◌++◌, IfOk, OnErr, OnOk, List, Option as Maybe, T, false, length, not, ℕ};
 ghost use Rattle.std.specs.BTreeMap.{IsOrdered};
 ghost use Rattle.std.specs.FinMap as map;
 ghost use Rattle.std.specs.FinMap.Entries.{is_sorted};
@@ -11,7 +11,11 @@ ghost use Rattle.rel_base.specs.NetWrites.{net, row_in};
 ghost use Rattle.rel_base.specs.OwnWrites.{keyed, merged, own_or};
 ghost use Rattle.rel_base.specs.Tables.{Tables, ref_cmp};
 ghost use Rattle.rel_base.specs.Value.{key_cmp};
+ghost use Rattle.rel_base.specs.declared.access.Read.TheVariants.{Span};
+ghost use Rattle.rel_base.specs.declared.access.Seen.{Seen as SeenRow};
 ghost use Rattle.rel_base.specs.declared.schema.TableDef.{TableDef as Def};
+ghost use Rattle.rel_base.specs.declared.value.Value.{Value as Cell};
+ghost use Rattle.rel_base.specs.Lent.{rows_of};
 ghost use Rattle.row_sets.specs.Overlay.{AreFound, flat, net_writes, own_of, put_own};
 
 use crate::merge::{first_of, merge_table, one_or_none, rows_seen};
@@ -128,6 +132,26 @@ impl Overlay {
         match self.tables.get(&table) {
             None => base,
             Some(writes) => writes.look(key, base),
+        }
+    }
+
+    /// The row that the transaction left at a key, or none where it deleted it, where it wrote the key. Takes no memory.
+    pub fn left_at(&self, table: u32, key: &Key) -> Option<&Option<Row>>
+        ensures { option_copied result ≡ map.get (own_of self.now) (table, key.now) }
+    {
+        match self.tables.get(&table) {
+            None => None,
+            Some(writes) => writes.left_at(key),
+        }
+    }
+
+    /// Whether the transaction wrote a key of a table. Where it wrote none, it sees the rows that a span gets of the tables.
+    pub fn has_written(&self, table: u32) -> bool
+        ensures { result ≡ false → (def : Def) (column : ℕ) (low high : Maybe Cell) (seens : List SeenRow) → merged def (Span table column low high) (own_of self.now) seens ≡ rows_of seens }
+    {
+        match self.tables.get(&table) {
+            None => false,
+            Some(_) => true,
         }
     }
 

@@ -83,6 +83,16 @@ impl TableWrites {
         }
     }
 
+    /// The row that was left at a key, or none, where the key was written.
+    pub fn left_at(&self, key: &Key) -> Option<&Option<Row>>
+        ensures { option_copied result ≡ option_map (λ own. own.after) (map.get self.now key.now) }
+    {
+        match find_in_order(self.few.as_slice(), key) {
+            None => left_in(&self.many, key),
+            Some(own) => Some(&own.after),
+        }
+    }
+
     /// A row is left at a key, or none: whether the key was not written before.
     pub fn put(
         &mut self,
@@ -139,6 +149,16 @@ fn look_many<'a>(
     match many.get(key) {
         None => base,
         Some(own) => row_of(&own.after),
+    }
+}
+
+/// The row that was left at a key, or none, where the key was written.
+fn left_in<'a>(many: &'a BTreeMap<Key, OwnWrite>, key: &Key) -> Option<&'a Option<Row>>
+    ensures { option_copied result ≡ option_map (λ own. own.after) (find key_cmp key.now many.now.entries) }
+{
+    match many.get(key) {
+        None => None,
+        Some(own) => Some(&own.after),
     }
 }
 

@@ -1,4 +1,9 @@
-//! Schedules: what the actors of a node do, step by step; and a node that does it.
+//! Schedules: what the actors of a node do, step by step; and a node that does it. `ScheduleReader` gives, over any pieces, the steps of a
+//! schedule, or exactly its first bad line, and a schedule has one text. `simulate` gives what the definition of the schedule comes to,
+//! with its journal, and `Short` exactly where not all blocks are sealed. The results are the fold of the blocks whatever the schedule, and
+//! the journal is legal and delivers the blocks (`folds`, `legal`, `delivers`).
+//!
+//! Only tested: that calls succeed with memory enough.
 #![tactic(auto)]
 
 mod hands;

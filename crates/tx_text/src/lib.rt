@@ -1,4 +1,6 @@
-//! Values and transactions as lines of text, read and written.
+//! Values and transactions as lines of text, read and written. `read_tx` and `read_value` are exact to the grammar, and what is written is
+//! read back. `ArrivalReader` gives, over any pieces, the transactions of an arrival file, or its first line with a fault, which stays.
+//! After a call that ran out of memory it is as before.
 #![tactic(auto)]
 
 pub mod arrival_reader;

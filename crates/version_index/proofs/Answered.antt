@@ -1,25 +1,20 @@
 -- The answers to reads are those of the definitions.
-use Rattle.std.proofs.Common.{◌≡◌, ◌∙◌, ℕ, List, [], ◌∷◌, ◌++◌, ◌||◌, ◌&&◌, ◌==◌, append-nil, option_to_list, true, false, cond, Option, Some, None, All, refl, ap, append_assoc, sym, subst, slice_get, slice_index_or, nat_lt, nat_le}
+use Rattle.std.proofs.Common.{◌≡◌, ◌∙◌, ℕ, List, ◌∷◌, ◌++◌, ◌&&◌, option_to_list, true, Option, Some, None, refl, ap, append_assoc, sym, subst, slice_get, slice_index_or, nat_lt, nat_le}
 use Rattle.std.specs.Borrow.{Bor}
 use Rattle.std.specs.List.Sorted.{IsStrictlySortedBy}
-use Rattle.std.specs.Ordering.{eq_by_cmp, is_eq}
-use Rattle.std.specs.Cmp.{tied_itself}
-use Rattle.std.specs.FinMap.{entries, get, get-entries}
-use Rattle.std.specs.Option.{option_map}
-use Rattle.std.proofs.lemmas.Bool.Decides.{Decides-eqb}
+use Rattle.std.specs.FinMap.{get}
+use Rattle.std.specs.Option.{IsSomeAnd, option_map}
 use Rattle.rel_base.specs.declared.access.Read.{Read}
 use Rattle.rel_base.specs.declared.access.Read.TheVariants.{Point, Span}
 use Rattle.rel_base.specs.declared.access.Seen.{Seen}
 use Rattle.rel_base.specs.declared.schema.TableDef.{TableDef}
 use Rattle.rel_base.specs.declared.value.Value.{Value}
-use Rattle.rel_base.specs.Access.{covers_row, covers_some, hits_write, read_table}
+use Rattle.rel_base.specs.Access.{ReadFits, covers_some, hits_write, read_table}
 use Rattle.rel_base.specs.Among.{rows_by, rows_in}
 use Rattle.rel_base.specs.Late.{where_declared, hits_in, least_hit}
-use Rattle.rel_base.specs.Schema.{key_of_row}
-use Rattle.rel_base.specs.Tables.{Tables, Stamped, ref_cmp, ref_cmp-total, ref_cmp-exact, rows, tables_at, writes_between}
-use Rattle.rel_base.specs.Value.{key_cmp, key_cmp-exact, key_cmp-total, key_eq}
-use Rattle.rel_base.proofs.Bits.{first_true, second_true, is_Equal}
-use Rattle.rel_base.proofs.KeyOrder.{Stands, all_stand}
+use Rattle.rel_base.specs.Tables.{Tables, Stamped, rows, tables_at, writes_between}
+use Rattle.rel_base.specs.Value.{key_cmp}
+use Rattle.row_sets.proofs.PointRows.{point_got}
 use Rattle.row_sets.specs.Versions.{Hit, hit_by}
 use Rattle.row_sets.specs.Watched.{is_hit_between}
 use Rattle.row_sets.specs.declared.hits.Watch.{Watch}
@@ -32,7 +27,7 @@ use Rattle.version_index.specs.Span.{IsWantedBy, keys_in}
 use Rattle.version_index.specs.View.{IsAsked, history_in, hit_told}
 use Rattle.version_index.specs.declared.view.TableView.{TableView}
 use Rattle.version_index.proofs.Distinct.{found_among}
-use Rattle.version_index.proofs.KeyRows.{AllAmong, All-found, among_keys, rows_of_all}
+use Rattle.version_index.proofs.KeyRows.{AllAmong, among_keys, rows_of_all}
 use Rattle.version_index.proofs.LeastHits.{first_agrees, least_from_first}
 use Rattle.version_index.proofs.Wanted.{wanted}
 
@@ -42,48 +37,14 @@ rows_declared defs def read tables declared = ap (λ found. rows_by found read t
 
 -- ---- a point
 
--- each row that a point gets is at its key
-point_among : (def : TableDef) (table : ℕ) (key : List Value) (tables : Tables) → All (Stands def table) (entries tables) → AllAmong def (Point table key) tables (key ∷ [])
-point_among def table key tables stand q seen there read_it =
-    let in_table : q.0 ≡ table = sym ((Decides-eqb table q.0).0 (first_true (table == q.0) _ read_it)) in
-    let found = sym (get-entries tables q) ∙ there in
-    let stands = All-found ref_cmp ref_cmp-exact (Stands def table) q (entries tables) seen stand found in
-    let own : key_of_row def seen.row ≡ q.1 = (stands in_table).1 in
-    let same_key : key_of_row def seen.row ≡ key = key_cmp-exact (key_of_row def seen.row) key (is_Equal (key_cmp (key_of_row def seen.row) key) (second_true (table == q.0) _ read_it)) in
-    let tied : eq_by_cmp ref_cmp q (table, key) ≡ true = ap is_eq ((λ i. ref_cmp (in_table i, (sym own ∙ same_key) i) (table, key)) ∙ tied_itself ref_cmp-total (table, key)) in
-    ap (λ b. b || false) tied
-
--- one key is in order
-one_key : (key : List Value) → IsStrictlySortedBy key_cmp (key ∷ [])
-unfolding IsStrictlySortedBy
-one_key key = (tt, tt)
-
--- the row at the key of a point is what it gets
-point_rows : (def : TableDef) (view : TableView) (key : List Value) (height : ℕ) (read : Read) → read ≡ Point view.table key → IsAsked def read view
-    → rows_of_keys def read (tables_at height (history_in view)) view.table (key ∷ []) ≡ rows def read (tables_at height (history_in view))
-point_rows def view key height read is asked =
-    let tables = tables_at height (history_in view) in
-    subst (λ r. rows_of_keys def r tables view.table (key ∷ []) ≡ rows def r tables) (sym is)
-    (rows_of_all def (Point view.table key) tables (key ∷ []) (one_key key) (point_among def view.table key tables (all_stand def view.table asked.defs asked.declared height (history_in view) asked.history)))
-
--- a point covers the row at its key
-point_covered : (def : TableDef) (table : ℕ) (key : List Value) (tables : Tables) → All (Stands def table) (entries tables) → (found : Option Seen) → get tables (table, key) ≡ found
-    → covered_row def (Point table key) found ≡ option_to_list found
-point_covered def table key tables stand None is = refl
-point_covered def table key tables stand (Some seen) is =
-    let own : key_of_row def seen.row ≡ key = (All-found ref_cmp ref_cmp-exact (Stands def table) (table, key) (entries tables) seen stand (sym (get-entries tables (table, key)) ∙ is) refl).1 in
-    let covers : covers_row def (Point table key) seen.row ≡ true = ap (λ k. key_eq k key) own ∙ ap is_eq (tied_itself key_cmp-total key) in
-    ap (λ b. cond b (seen ∷ []) []) covers
-
--- so the row at the key of a point, where there is one, is all that it gets
+-- the row at the key of a point, where there is one, is all that it gets
 pub point_row : (def : TableDef) (view : TableView) (key : List Value) (height : ℕ) (read : Read) → read ≡ Point view.table key → IsAsked def read view
     → option_to_list (get (tables_at height (history_in view)) (view.table, key)) ≡ rows def read (tables_at height (history_in view))
 point_row def view key height read is asked =
+    let point = Point view.table key in
     let tables = tables_at height (history_in view) in
-    let found = get tables (view.table, key) in
-    sym (point_covered def view.table key tables (all_stand def view.table asked.defs asked.declared height (history_in view) asked.history) found refl)
-    ∙ sym (append-nil (covered_row def (Point view.table key) found))
-    ∙ ap (λ r. rows_of_keys def r tables view.table (key ∷ [])) (sym is) ∙ point_rows def view key height read is asked
+    let fits = subst (λ found. IsSomeAnd found (λ d. ReadFits d point)) (sym asked.declared) (subst (ReadFits def) is asked.fits) in
+    point_got asked.defs view.table key height (history_in view) asked.history fits ∙ rows_declared asked.defs def point tables asked.declared ∙ ap (λ r. rows def r tables) (sym is)
 
 -- ---- a span
 

@@ -1,5 +1,5 @@
 -- What the index of a table keeps.
-use Rattle.std.specs.Prelude.{◌≡◌, ◌==◌, ◌++◌, ℕ, All, List, [], ◌∷◌, Option, Some, None, cond, length, map, slice_get, take}
+use Rattle.std.specs.Prelude.{◌≡◌, ◌==◌, ◌++◌, ℕ, All, List, [], Option, Some, None, cond, length, map, slice_get, take}
 use Rattle.std.specs.Option.{IsSomeAnd, option_and_then}
 use Rattle.rel_base.specs.Tables.{Stamped}
 use Rattle.rel_base.specs.declared.schema.TableDef.{TableDef}

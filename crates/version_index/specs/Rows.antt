@@ -8,7 +8,6 @@ use Rattle.rel_base.specs.declared.access.Seen.{Seen}
 use Rattle.rel_base.specs.declared.schema.TableDef.{TableDef}
 use Rattle.rel_base.specs.declared.value.Value.{Value}
 use Rattle.rel_base.specs.Access.{covers_row}
-use Rattle.rel_base.specs.declared.access.Place.{Place}
 use Rattle.rel_base.specs.Tables.{Tables, Stamped, seen_at}
 use Rattle.version_index.specs.Candidates.{only_value}
 use Rattle.version_index.specs.Chain.{is_on}
@@ -17,10 +16,6 @@ use Rattle.version_index.specs.Heads.{head_of}
 -- the row that a committed write leaves, with its place
 abbrev pub seen_of : Stamped → Option Seen
 seen_of stamped = seen_at stamped.0 stamped.1.pos stamped.1.write.after
-
--- a row with a place
-abbrev pub seen_row : Place → List Value → Option Seen
-seen_row place row = Some (record { row = row; place = place })
 
 -- a row that may be there, where a read covers it
 abbrev pub covered_row : TableDef → Read → Option Seen → List Seen

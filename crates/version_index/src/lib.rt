@@ -1,5 +1,10 @@
-//! A store of committed versions with indexes: the writes in one log, and for each table the writes on each key and the keys that
-//! have each value of a column.
+//! A store of committed versions with indexes: the writes in one log, and for each table the writes on each key and the keys that have each
+//! value of a column. It meets the contract of `Versions`. `find` of a store's look-up gives the version of a key that is visible at a
+//! height. It takes `k` steps with 2^k <= 4n + 2 where `n` writes are on the table and all are noted; each write that is not yet noted, of
+//! any table, may cost one step more.
+//!
+//! Only tested: speed, but for the steps of `find`; what the standard library's maps cost where they look up a key; how often a guess at
+//! the slot of a key (`guesses.rt`) or at the place of a value (`touched.rt`) is right, where a wrong one costs time alone.
 #![tactic(auto)]
 
 pub mod ahead;

@@ -1,9 +1,10 @@
 //! Answers to reads.
 
-ghost use Rattle.std.specs.Prelude.{◌≡◌, IfOk, Some, option_to_list};
+ghost use Rattle.std.specs.Prelude.{◌≡◌, IfOk, Some};
 ghost use Rattle.std.specs.FinMap.{get};
 ghost use Rattle.std.specs.Option.{option_map};
 ghost use Rattle.rel_base.specs.Access.{ReadFits, WriteFits};
+ghost use Rattle.rel_base.specs.Lent.{lent_rows, rows_of, seen_lent};
 ghost use Rattle.rel_base.specs.Tables.{rows, tables_at};
 ghost use Rattle.rel_base.specs.declared.access.Read.TheVariants as read;
 ghost use Rattle.row_sets.specs.Versions.{hit_of};
@@ -17,29 +18,24 @@ use crate::guessing::slot_near;
 use crate::hits::first_by_column;
 use crate::key_spans::first_by_key;
 use crate::keyed::{first_late, last_up_to};
-use crate::rows::row_left;
-use crate::span::{column_of, rows_of_span};
+use crate::rows::{one_copy, one_row, row_left};
+use crate::span::{column_of, rows_of_span, span_lent};
 use crate::view::{ReadAtHeight, TableView};
-use rel_base::{Key, List, NoMemory, Read, Seen, TableDef, Value};
+use rel_base::{Key, List, NoMemory, Read, Row, Seen, SeenRef, TableDef, Value};
 use row_sets::HitRef;
 use row_sets::entry::{LogEntry, entry_at, place_at};
 use row_sets::hits::{Watch, covers_part};
 use std::alloc::Global;
 
-/// The row of a key after the block of a height, as a list of none or one.
-fn row_of_key(
-    alloc: Global,
-    view: &TableView<'_>,
-    key: &Key,
-    height: u64,
-) -> Result<List<Seen>, NoMemory>
+/// The row of a key after the block of a height, lent by the log.
+pub fn row_lent<'a>(view: &TableView<'a>, key: &Key, height: u64) -> Option<SeenRef<'a>>
     requires { IsView view.now }
-    ensures { IfOk result (λ seen. seen ≡ option_to_list (get (tables_at height (history_in view.now)) (view.now.table, key.now))) }
+    ensures { option_map seen_lent result ≡ get (tables_at height (history_in view.now)) (view.now.table, key.now) }
 {
     let slot = slot_near(view, key);
     match last_up_to(view, key, slot, height) {
-        None => Ok(List::new(alloc)),
-        Some(number) => row_left(alloc, entry_at(view.entries, number)),
+        None => None,
+        Some(number) => row_left(entry_at(view.entries, number)),
     }
 }
 
@@ -55,13 +51,34 @@ pub fn rows_at(
 {
     match look.read {
         // The row at a point's key has that key, so it needs no second look.
-        Read::Point { key, .. } => row_of_key(alloc, view, key, look.height),
+        Read::Point { key, .. } => one_copy(alloc, row_lent(view, key, look.height)),
         Read::Span {
             column,
             low,
             high,
             ..
         } => rows_of_span(alloc, view, look, *column, low, high),
+    }
+}
+
+/// The rows that a read gets of the tables after the block of a height, lent by the log.
+pub fn rows_lent<'a>(
+    alloc: Global,
+    view: &TableView<'a>,
+    look: &ReadAtHeight<'_>,
+) -> Result<Vec<&'a Row>, NoMemory>
+    requires view { IsView view.now }
+    requires look { IsAsked look.now.def.now look.now.read.now view.now }
+    ensures { IfOk result (λ lent. lent_rows lent.items ≡ rows_of (rows look.now.def.now look.now.read.now (tables_at look.now.height (history_in view.now)))) }
+{
+    match look.read {
+        Read::Point { key, .. } => one_row(alloc, row_lent(view, key, look.height)),
+        Read::Span {
+            column,
+            low,
+            high,
+            ..
+        } => span_lent(alloc, view, look, *column, low, high),
     }
 }
 

@@ -3,6 +3,7 @@
 ghost use Rattle.std.specs.Prelude.{◌≡◌, ◌≤◌, All, Contains, IfOk, IfSome, List, None, OnOk, length, take, true};
 ghost use Rattle.std.specs.List.Sorted.{IsStrictlySortedBy};
 ghost use Rattle.std.specs.Option.{option_copied};
+ghost use Rattle.rel_base.specs.Lent.{lent_rows, rows_of};
 ghost use Rattle.rel_base.specs.Tables.{rows, tables_at};
 ghost use Rattle.rel_base.specs.Value.{key_cmp};
 ghost use Rattle.rel_base.specs.declared.access.Read.TheVariants as read;
@@ -20,9 +21,9 @@ use crate::candidates::{Candidate, add_from, add_listed, add_living, end, is_in_
 use crate::column::ColumnIndex;
 use crate::index::TableIndex;
 use crate::key_spans::add_by_key;
-use crate::rows::add_key_with;
+use crate::rows::{add_copy, add_lent, covered_of_key};
 use crate::view::{ReadAtHeight, TableView};
-use rel_base::{Key, List, NoMemory, Seen, Value};
+use rel_base::{Key, List, NoMemory, Row, Seen, Value};
 use row_sets::entry::{LogEntry, entry_at};
 use std::alloc::Global;
 
@@ -249,7 +250,11 @@ fn rows_of_found(
 {
     let mut rows = List::from_vec(Vec::with_capacity(alloc, found.len())?);
     for (key, slot) in found {
-        add_key_with(alloc, &mut rows, view, look, value, (*key, *slot))?;
+        add_copy(
+            alloc,
+            &mut rows,
+            covered_of_key(view, look, value, (*key, *slot)),
+        )?;
     }
     Ok(rows)
 }
@@ -314,4 +319,45 @@ pub fn rows_of_span(
 {
     let found = keys_of_span(alloc, view, column, Ends { low, high }, look.height)?;
     rows_of_found(alloc, view, look, one_value(low, high), found.as_slice())
+}
+
+/// The rows of keys after the block of a height that a read covers, in the order of the keys, lent by the log. The one value of the read
+/// may be given.
+fn found_lent<'a>(
+    alloc: Global,
+    view: &TableView<'a>,
+    look: &ReadAtHeight<'_>,
+    value: Option<&Value>,
+    found: &[Candidate<'_>],
+) -> Result<Vec<&'a Row>, NoMemory>
+    requires view { IsView view.now }
+    requires look { IsAsked look.now.def.now look.now.read.now view.now }
+    requires value { IsValueOf look.now.read.now (option_copied value) }
+    requires found { All (IsCandidate view.now.index.now.chains) found.now }
+    ensures { IfOk result (λ lent. lent_rows lent.items ≡ rows_of (rows_of_keys look.now.def.now look.now.read.now (tables_at look.now.height (history_in view.now)) view.now.table (keys_in found.now))) }
+{
+    let mut rows = Vec::with_capacity(alloc, found.len())?;
+    for (key, slot) in found {
+        add_lent(&mut rows, covered_of_key(view, look, value, (*key, *slot)))?;
+    }
+    Ok(rows)
+}
+
+/// The rows after the block of a height whose value in a column lies between the ends of a span, in the order of their keys, lent by the
+/// log.
+pub fn span_lent<'a>(
+    alloc: Global,
+    view: &TableView<'a>,
+    look: &ReadAtHeight<'_>,
+    column: u32,
+    low: &Option<Value>,
+    high: &Option<Value>,
+) -> Result<Vec<&'a Row>, NoMemory>
+    requires view { IsView view.now }
+    requires look { IsAsked look.now.def.now look.now.read.now view.now }
+    requires span { look.now.read.now ≡ read.Span view.now.table column low.now high.now }
+    ensures { IfOk result (λ lent. lent_rows lent.items ≡ rows_of (rows look.now.def.now look.now.read.now (tables_at look.now.height (history_in view.now)))) }
+{
+    let found = keys_of_span(alloc, view, column, Ends { low, high }, look.height)?;
+    found_lent(alloc, view, look, one_value(low, high), found.as_slice())
 }

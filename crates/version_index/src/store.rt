@@ -13,9 +13,9 @@ use crate::growth::{hold_log, note_tail};
 use crate::index::TableIndex;
 use crate::lifespans::{all_back, chain_back, oldest_first};
 use crate::look_up::LookUp;
-use crate::reading::{late_at, rows_at};
+use crate::reading::{late_at, row_lent, rows_at, rows_lent};
 use crate::view::{ReadAtHeight, TableView};
-use rel_base::{Key, List, NoMemory, Place, Read, Seen, TableDef, Twin, Write};
+use rel_base::{Key, List, NoMemory, Place, Read, Row, Seen, SeenRef, TableDef, Twin, Write};
 use row_sets::entry::{LogEntry, push_all, write_at};
 use row_sets::hits::{Watch, def_of};
 use row_sets::{HitRef, Lifespan, Versions, WriteRef};
@@ -169,6 +169,27 @@ impl Versions for IndexVersions {
             read.table(),
         );
         rows_at(self.alloc, &view, &ReadAtHeight { def, read, height })
+    }
+
+    fn row_at(&self, height: u64, table: u32, key: &Key) -> Option<SeenRef<'_>> {
+        let view = view_of(
+            self.log.as_slice(),
+            self.indexes.as_slice(),
+            self.noted,
+            table,
+        );
+        row_lent(&view, key, height)
+    }
+
+    fn rows_lent(&self, height: u64, read: &Read) -> Result<Vec<&Row>, NoMemory> {
+        let def = def_of(self.tables.as_slice(), read);
+        let view = view_of(
+            self.log.as_slice(),
+            self.indexes.as_slice(),
+            self.noted,
+            read.table(),
+        );
+        rows_lent(self.alloc, &view, &ReadAtHeight { def, read, height })
     }
 
     fn look_ahead(&self, table: u32, keys: &[Key]) -> usize {

@@ -2,7 +2,10 @@
 use Rattle.std.proofs.Common.{◌≡◌, ◌∙◌, ℕ, List, [], ◌∷◌, Bool, true, false, ◌&&◌, ◌==◌, cond, Option, Some, None, Result, Ok, Err, IfOk, map, refl, ap, sym, subst, slice_get, nat_le, ◌<◌, ◌≤◌, arith}
 use Rattle.std.specs.List.{filter}
 use Rattle.std.specs.List.Sorted.{IsStrictlySortedBy}
-use Rattle.std.specs.Map.{keys_of}
+use Rattle.std.specs.Map.{keys_of, lookup}
+use Rattle.std.specs.Option.{option_map}
+use Rattle.std.specs.declared.alloc.Global.{Global}
+use Rattle.std.specs.declared.vec.Vec.{Vec}
 use Rattle.std.specs.BTreeMap.{is_at}
 use Rattle.std.specs.Ordering.{eq_by_cmp, is_eq, nat_cmp}
 use Rattle.std.specs.Cmp.{eq_by_cmp_equiv, nat_cmp_total, tied_itself}
@@ -12,14 +15,17 @@ use Rattle.std.proofs.lemmas.Bool.Decides.{Decides-eqb, nat_tests}
 use Rattle.std.proofs.lemmas.List.{append-nil}
 use Rattle.rel_base.specs.declared.access.Read.{Read}
 use Rattle.rel_base.specs.declared.access.Seen.{Seen}
+use Rattle.rel_base.specs.declared.access.SeenRef.{SeenRef}
 use Rattle.rel_base.specs.declared.schema.TableDef.{TableDef}
 use Rattle.rel_base.specs.declared.value.Value.{Value}
 use Rattle.rel_base.specs.Access.{covers_row, read_table}
 use Rattle.rel_base.specs.Among.{rows_by, rows_in}
+use Rattle.rel_base.specs.Lent.{seen_lent}
 use Rattle.rel_base.specs.Tables.{Tables, Stamped, ref_cmp, ref_cmp-total, ref_cmp-exact, is_read, no_tables, rows, seen_at, set_stamped, set_write, write_ref, writes_up_to}
 use Rattle.rel_base.specs.Value.{key_cmp, key_cmp-total, key_cmp-exact}
-use Rattle.rel_base.proofs.Bits.{is_Equal, no_both, not_true}
+use Rattle.rel_base.proofs.Bits.{first_true, is_Equal, no_both, not_true, second_true}
 use Rattle.rel_base.proofs.Commutes.{get-set_entry, is_sorted-filter}
+use Rattle.row_sets.specs.Lifespans.{is_of_key}
 use Rattle.row_sets.specs.Overlay.{flat, in_table}
 use Rattle.row_sets.proofs.Entries.{entries_by_key, find-filter, get_is_lookup, kept_if}
 use Rattle.row_sets.proofs.Flat.{find_flat, get_in, sorted_flat}
@@ -32,7 +38,7 @@ module _ (def : TableDef) (read : Read) where
   rows_of_none key = ap (covered_seen def read) (sym (get-empty ref_cmp (read_table read, key)))
 
   -- a write of the table, whose row takes the place of the one at its key
-  pub rows_set : (tables : Tables) (old new : List (List Value × Seen)) (s : Stamped) → s.1.write.table ≡ read_table read → AreRows def read tables old
+  pub rows_set : (tables : Tables) (old new : List (List Value × SeenRef)) (s : Stamped) → s.1.write.table ≡ read_table read → AreRows def read tables old
       → ((q : List Value) → row_at new q ≡ cond (eq_by_cmp key_cmp s.1.write.key q) (covered_seen def read (seen_at s.0 s.1.pos s.1.write.after)) (row_at old q))
       → AreRows def read (set_write s.0 s.1.pos tables s.1.write) new
   rows_set tables old new s same are sets q =
@@ -50,7 +56,7 @@ module _ (def : TableDef) (read : Read) where
       covered_cond false a c = refl
 
   -- a write of another table
-  pub rows_other : (tables : Tables) (old : List (List Value × Seen)) (s : Stamped) → (s.1.write.table ≡ read_table read → ⊥) → AreRows def read tables old → AreRows def read (set_write s.0 s.1.pos tables s.1.write) old
+  pub rows_other : (tables : Tables) (old : List (List Value × SeenRef)) (s : Stamped) → (s.1.write.table ≡ read_table read → ⊥) → AreRows def read tables old → AreRows def read (set_write s.0 s.1.pos tables s.1.write) old
   rows_other tables old s other are q =
       let apart : eq_by_cmp ref_cmp (read_table read, q) (write_ref s.1.write) ≡ false =
       same_parts (read_table read) s.1.write.table (key_cmp q s.1.write.key)
@@ -59,17 +65,17 @@ module _ (def : TableDef) (read : Read) where
       ∙ ap (λ b. cond b (seen_at s.0 s.1.pos s.1.write.after) (get tables (read_table read, q))) apart))
 
   -- the same, of a write in any block, where those up to a height count
-  pub rows_other_step : (height : ℕ) (tables : Tables) (old : List (List Value × Seen)) (s : Stamped) → (s.1.write.table ≡ read_table read → ⊥) → AreRows def read tables old
+  pub rows_other_step : (height : ℕ) (tables : Tables) (old : List (List Value × SeenRef)) (s : Stamped) → (s.1.write.table ≡ read_table read → ⊥) → AreRows def read tables old
       → AreRows def read (set_stamped tables (writes_up_to height (s ∷ []))) old
   rows_other_step height tables old s other are =
       elim (nat_le s.0 height) as (λ b. AreRows def read (set_stamped tables (cond b (s ∷ []) [])) old) [ true ↦ rows_other tables old s other are | false ↦ are ]
 
-  pub rows_high_step : (height : ℕ) (tables : Tables) (old : List (List Value × Seen)) (s : Stamped) → height < s.0 → AreRows def read tables old → AreRows def read (set_stamped tables (writes_up_to height (s ∷ []))) old
+  pub rows_high_step : (height : ℕ) (tables : Tables) (old : List (List Value × SeenRef)) (s : Stamped) → height < s.0 → AreRows def read tables old → AreRows def read (set_stamped tables (writes_up_to height (s ∷ []))) old
   rows_high_step height tables old s high are =
       let fails : nat_le s.0 height ≡ false = grind (arith, nat_tests) in
       subst (λ b. AreRows def read (set_stamped tables (cond b (s ∷ []) [])) old) (sym fails) are
 
-  pub rows_set_step : (height : ℕ) (tables : Tables) (old new : List (List Value × Seen)) (s : Stamped) → s.0 ≤ height → s.1.write.table ≡ read_table read → AreRows def read tables old
+  pub rows_set_step : (height : ℕ) (tables : Tables) (old new : List (List Value × SeenRef)) (s : Stamped) → s.0 ≤ height → s.1.write.table ≡ read_table read → AreRows def read tables old
       → ((q : List Value) → row_at new q ≡ cond (eq_by_cmp key_cmp s.1.write.key q) (covered_seen def read (seen_at s.0 s.1.pos s.1.write.after)) (row_at old q))
       → AreRows def read (set_stamped tables (writes_up_to height (s ∷ []))) new
   rows_set_step height tables old new s low same are sets =
@@ -89,7 +95,8 @@ module _ (def : TableDef) (read : Read) where
       twice r false = refl
 
   -- the rows of a read are those of its keys, in order
-  pub rows_are : (tables : Tables) (es : List (List Value × Seen)) → IsStrictlySortedBy key_cmp (keys_of es) → AreRows def read tables es → map (λ e. e.1) es ≡ rows def read tables
+  pub rows_are : (tables : Tables) (es : List (List Value × Seen)) → IsStrictlySortedBy key_cmp (keys_of es) → ((key : List Value) → lookup (is_at (key_cmp key)) es ≡ covered_seen def read (get tables (read_table read, key)))
+      → map (λ e. e.1) es ≡ rows def read tables
   unfolding IsStrictlySortedBy
   rows_are tables es rise are =
       let own : FinMap key_cmp Seen = from_entries {R = key_cmp} es in
@@ -125,6 +132,29 @@ module _ (def : TableDef) (read : Read) where
                 no_both (is_at (nat_cmp q.0) (read_table read)) (ap (λ table. is_eq (nat_cmp q.0 table)) ((Decides-eqb (read_table read) q.0).0 one) ∙ ap is_eq (tied_itself nat_cmp_total q.0)) apart))
           ] refl
 
+-- rows that are lent by their keys, as they are seen
+abbrev pub seens_at : List (List Value × SeenRef) → List (List Value × Seen)
+seens_at es = map (λ e. (e.0, seen_lent e.1)) es
+
+-- the row at a key is the one that is lent there
+pub lookup_lent : (es : List (List Value × SeenRef)) (key : List Value) → lookup (is_at (key_cmp key)) (seens_at es) ≡ row_at es key
+lookup_lent [] key = refl
+lookup_lent (e ∷ es) key =
+    elim (is_at (key_cmp key) e.0) as (λ b. cond b (Some (seen_lent e.1)) (lookup (is_at (key_cmp key)) (seens_at es)) ≡ option_map seen_lent (cond b (Some e.1) (lookup (is_at (key_cmp key)) es))) [
+      | true ↦ refl
+      | false ↦ lookup_lent es key
+    ]
+
+-- the keys are the same
+pub keys_lent : (es : List (List Value × SeenRef)) → keys_of (seens_at es) ≡ keys_of es
+keys_lent [] = refl
+keys_lent (e ∷ es) = ap (λ keys. e.0 ∷ keys) (keys_lent es)
+
+-- and so are the rows
+pub values_lent : (es : List (List Value × SeenRef)) → map (λ e. e.1) (seens_at es) ≡ map seen_lent (map (λ e. e.1) es)
+values_lent [] = refl
+values_lent (e ∷ es) = ap (λ seens. seen_lent e.1 ∷ seens) (values_lent es)
+
 -- one write more, of those up to a height
 pub set_more : (tables : Tables) (height : ℕ) (s : Stamped) (rest : List Stamped)
     → set_stamped (set_stamped tables (writes_up_to height (s ∷ []))) (writes_up_to height rest) ≡ set_stamped tables (writes_up_to height (s ∷ rest))
@@ -132,7 +162,31 @@ set_more tables height s rest =
     elim (nat_le s.0 height) as (λ b. set_stamped (set_stamped tables (cond b (s ∷ []) [])) (writes_up_to height rest) ≡ set_stamped tables (cond b (s ∷ writes_up_to height rest) (writes_up_to height rest))) [ true ↦ refl | false ↦ refl ]
 
 -- the rows of a read of declared tables
-pub in_order_are : {E : Type 0} (defs : List TableDef) (def : TableDef) (read : Read) (tables : Tables) (es : List (List Value × Seen)) (result : Result (List Seen) E) → slice_get defs (read_table read) ≡ Some def
-    → AreRows def read tables es → IfOk result (λ list. list ≡ map (λ e. e.1) es) → IfOk result (λ list. IsStrictlySortedBy key_cmp (keys_of es)) → IfOk result (λ list. list ≡ rows_in defs read tables)
-in_order_are defs def read tables es (Ok list) declared are is rise = is ∙ rows_are def read tables es rise are ∙ sym (ap (λ found. rows_by found read tables) declared)
+pub in_order_are : {E : Type 0} (defs : List TableDef) (def : TableDef) (read : Read) (tables : Tables) (es : List (List Value × SeenRef)) (result : Result (Vec SeenRef Global) E) → slice_get defs (read_table read) ≡ Some def
+    → AreRows def read tables es → IfOk result (λ list. list.items ≡ map (λ e. e.1) es) → IfOk result (λ list. IsStrictlySortedBy key_cmp (keys_of es)) → IfOk result (λ list. map seen_lent list.items ≡ rows_in defs read tables)
+in_order_are defs def read tables es (Ok list) declared are is rise =
+    ap (map seen_lent) is ∙ sym (values_lent es)
+    ∙ rows_are def read tables (seens_at es) (subst (IsStrictlySortedBy key_cmp) (sym (keys_lent es)) rise) (λ key. lookup_lent es key ∙ are key)
+    ∙ sym (ap (λ found. rows_by found read tables) declared)
 in_order_are defs def read tables es (Err e) declared are is rise = tt
+
+-- ---- one key
+
+-- a write up to a height on another key leaves the row of the key
+pub row_after : (tables : Tables) (height : ℕ) (ref : ℕ × List Value) (s : Stamped) → (nat_le s.0 height && is_of_key ref.0 ref.1 s) ≡ true
+    → get (set_stamped tables (writes_up_to height (s ∷ []))) ref ≡ seen_at s.0 s.1.pos s.1.write.after
+row_after tables height ref s on =
+    let low : nat_le s.0 height ≡ true = first_true (nat_le s.0 height) (is_of_key ref.0 ref.1 s) on in
+    let own : is_of_key ref.0 ref.1 s ≡ true = second_true (nat_le s.0 height) (is_of_key ref.0 ref.1 s) on in
+    ap (λ b. get (set_stamped tables (cond b (s ∷ []) [])) ref) low
+    ∙ get-set_entry tables (write_ref s.1.write) (seen_at s.0 s.1.pos s.1.write.after) ref
+    ∙ ap (λ b. cond b (seen_at s.0 s.1.pos s.1.write.after) (get tables ref)) own
+
+-- a write above the height or on another key leaves the row of the key
+pub row_kept : (tables : Tables) (height : ℕ) (ref : ℕ × List Value) (s : Stamped) → (nat_le s.0 height && is_of_key ref.0 ref.1 s) ≡ false
+    → get (set_stamped tables (writes_up_to height (s ∷ []))) ref ≡ get tables ref
+row_kept tables height ref s off =
+    elim (nat_le s.0 height) as (λ b. (b && is_of_key ref.0 ref.1 s) ≡ false → get (set_stamped tables (cond b (s ∷ []) [])) ref ≡ get tables ref) [
+      | true ↦ λ other. get-set_entry tables (write_ref s.1.write) (seen_at s.0 s.1.pos s.1.write.after) ref ∙ ap (λ b. cond b (seen_at s.0 s.1.pos s.1.write.after) (get tables ref)) other
+      | false ↦ λ other. refl
+    ] off

@@ -4,8 +4,8 @@ ghost use Rattle.row_sets.specs.Log.{history_of, room_of};
 
 use crate::hits::late_at;
 use crate::lifespans::{of_key, of_table};
-use crate::rows::rows_at;
-use rel_base::{Key, List, NoMemory, Place, Read, Seen, TableDef, Twin, Write};
+use crate::rows::{row_of_key, rows_at, rows_lent};
+use rel_base::{Key, List, NoMemory, Place, Read, Row, Seen, SeenRef, TableDef, Twin, Write};
 use row_sets::entry::{LogEntry, push_all, write_at};
 use row_sets::{HitRef, Lifespan, Versions, WriteRef};
 use std::alloc::Global;
@@ -64,6 +64,20 @@ impl Versions for PlainVersions {
 
     fn visible(&self, height: u64, read: &Read) -> Result<List<Seen>, NoMemory> {
         rows_at(
+            self.alloc,
+            self.tables.as_slice(),
+            self.log.as_slice(),
+            read,
+            height,
+        )
+    }
+
+    fn row_at(&self, height: u64, table: u32, key: &Key) -> Option<SeenRef<'_>> {
+        row_of_key(self.log.as_slice(), table, key, height)
+    }
+
+    fn rows_lent(&self, height: u64, read: &Read) -> Result<Vec<&Row>, NoMemory> {
+        rows_lent(
             self.alloc,
             self.tables.as_slice(),
             self.log.as_slice(),

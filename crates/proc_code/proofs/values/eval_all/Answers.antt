@@ -7,13 +7,13 @@ use Rattle.proc_code.proofs.Walked.{gathered}
 use Rattle.proc_code.proofs.values.eval_all.Goals as goal
 
 pub loop-term-preserved : goal.loop-term-preserved
-loop-term-preserved c =
+loop-term-preserved g c =
     let within : c.loop-term.term-index < length c.args.terms.now = search rules in
     let here : slice_index_or c.args.terms.now c.loop-term.term-index c.term-item.result ≡ c.term-item.result = search rules in
     let columns = c.args.columns.now in
-    let environment = c.args.environment.now in
+    let environment = g.E.Variables.environment c.args.environment.now in
     gathered (λ x. worth_of columns x environment) (λ xs. worths_of columns xs environment) (λ x rest. refl) c.args.terms.now c.loop-term.term-index c.term-item.result c.loop-term.values c.push.new.self c.in_ok-value.value
     (worths_of columns c.args.terms.now environment) within here c.loop-term.invariant c.in_ok-push.ensures.ok c.in_ok-value.ensures
 
 pub returns : goal.returns
-returns c = grind (arith, common_steps)
+returns g c = grind (arith, common_steps)

@@ -1,4 +1,4 @@
-use Rattle.std.proofs.Common.{◌≡◌, ◌∙◌, IfOk, ap, subst, sym}
+use Rattle.std.proofs.Common.{◌≡◌, ◌∙◌, IfOk, ap, option_to_list, subst, sym}
 use Rattle.rel_base.specs.Access.{read_table}
 use Rattle.rel_base.specs.declared.access.Read.TheVariants.{Point}
 use Rattle.version_index.proofs.Answered.{point_row}
@@ -11,4 +11,5 @@ returns-in-Point c =
     let look = c.args.look.now in
     let asked = c.requires.look in
     let is = c.in-Point.is ∙ ap (λ t. Point t c.in-Point.key) (sym (asked.table ∙ ap read_table c.in-Point.is)) in
-    subst (λ rows. IfOk c.row_of_key.result (λ seen. seen ≡ rows)) (point_row look.def.now view c.in-Point.key look.height look.read.now is asked) c.row_of_key.ensures
+    subst (λ rows. IfOk c.one_copy.result (λ seen. seen ≡ rows))
+    (ap option_to_list c.row_lent.ensures ∙ point_row look.def.now view c.in-Point.key look.height look.read.now is asked) c.one_copy.ensures

@@ -1,0 +1,4 @@
+pub mod Scope
+pub mod Runs
+pub mod Steps
+pub mod Sums

@@ -1,0 +1,9 @@
+use Rattle.std.proofs.Common.{arith}
+use Rattle.std.proofs.lemmas.Grind.{common_steps}
+use Rattle.proc_code.proofs.calls.+accepts.Goals as goal
+
+pub returns-in-None-None : goal.returns-in-None-None
+returns-in-None-None c = grind (arith, common_steps)
+
+pub returns-in_default : goal.returns-in_default
+returns-in_default c = grind (arith, common_steps)

@@ -1,6 +1,0 @@
-use Rattle.std.proofs.Common.{length}
-use Rattle.proc_run.proofs.start.+accepts.Given as goal
-
--- each call takes one parameter
-abbrev pub decreases-accepts : goal.decreases-accepts
-decreases-accepts l = length l.params.now
