@@ -10,11 +10,10 @@ of one length by position; without it by the two forms of edges in a row. Each c
 import itertools
 import os
 import random
-import subprocess
 import sys
 import tempfile
 
-from patience import SECONDS
+import patience
 from run_cases import split_journals
 
 MOST = 10
@@ -122,10 +121,10 @@ def report_of(program, exact, draft, more):
         with open(os.path.join(folder, "b.draft"), "w", encoding="utf-8") as file:
             file.write(draft)
         words = ["run", "--app", "a.app", "--blocks", "b.draft", "--orders", *more]
-        done = subprocess.run([program, *words], cwd=folder, stdin=subprocess.DEVNULL, capture_output=True, timeout=SECONDS)
-    if done.returncode != 0:
-        raise SystemExit(f"status {done.returncode}: {done.stdout[:400]!r}")
-    report, journals = split_journals(done.stdout)
+        status, stdout = patience.run([program, *words], cwd=folder)
+    if status != 0:
+        raise SystemExit(f"status {status}: {stdout[:400]!r}")
+    report, journals = split_journals(stdout)
     if journals != len(more):
         raise SystemExit(f"{journals} journals and not {len(more)}")
     return report.decode().split("\n")

@@ -17,12 +17,11 @@ import collections
 import os
 import random
 import re
-import subprocess
 import sys
 import tempfile
 
+import patience
 from draw_schedules import CASES, HERE, arrivals_of, blocks_of, changed, read
-from patience import SECONDS
 
 EARLY = ("aborted duplicate-id", "aborted future-height", "aborted unknown-procedure", "aborted bad-arguments")
 MOST_READS = 100000
@@ -211,10 +210,9 @@ def expected(plain, nodes):
 
 
 def output(program, words):
-    done = subprocess.run([program, *words], stdout=subprocess.PIPE, text=True, timeout=SECONDS)
-    if done.returncode != 0:
-        raise Illegal(f"status {done.returncode}: {done.stdout[:80]}")
-    return done.stdout
+    status, stdout = patience.run([program, *words])
+    need(status == 0, f"status {status}: {stdout[:80]!r}")
+    return stdout.decode()
 
 
 def write(path, header, lines):
@@ -373,7 +371,7 @@ def main():
             except Illegal as fault:
                 failed += 1
                 print(f"seed {seed}, {name}: {fault}")
-            except subprocess.TimeoutExpired as fault:
+            except patience.Hangs as fault:
                 # each run more may take as long
                 sys.exit(f"seed {seed}, {name}: {fault}")
     for fault in missing(seen):

@@ -14,12 +14,11 @@ import itertools
 import json
 import os
 import re
-import subprocess
 import sys
 import tempfile
 
 import limits
-from patience import SECONDS
+import patience
 from run_cases import split_journals
 
 HERE = os.path.dirname(os.path.abspath(__file__))
@@ -135,8 +134,7 @@ def json_wanted(text):
 
 
 def run(program, folder, words):
-    done = subprocess.run([program, *words], cwd=folder, stdin=subprocess.DEVNULL, capture_output=True, timeout=SECONDS)
-    return done.returncode, done.stdout
+    return patience.run([program, *words], cwd=folder)
 
 
 class Tally:

@@ -11,7 +11,6 @@ import itertools
 import os
 import random
 import resource
-import subprocess
 import sys
 import tempfile
 
@@ -92,8 +91,8 @@ class Folder:
         def begin():
             resource.setrlimit(resource.RLIMIT_CPU, (seconds, seconds))
 
-        done = subprocess.run([self.program, *words], cwd=self.path, stdin=subprocess.DEVNULL, stdout=subprocess.PIPE, preexec_fn=begin, timeout=patience.SECONDS)
-        return done.returncode, done.stdout.decode()
+        status, stdout = patience.run([self.program, *words], cwd=self.path, preexec_fn=begin)
+        return status, stdout.decode()
 
     def over_blocks(self, command, *words, **limits):
         return self.run(command, "--app", "a.app", "--blocks", "b.draft", *words, **limits)
@@ -311,7 +310,7 @@ def main():
         with tempfile.TemporaryDirectory() as path:
             try:
                 check(Folder(program, path), random.Random(f"{seed} {check.__name__}"))
-            except (Wrong, subprocess.TimeoutExpired) as fault:
+            except (Wrong, patience.Hangs) as fault:
                 failed += 1
                 print(f"{check.__name__} of seed {seed}: {fault}")
     print(f"{len(CHECKS) - failed} passed, {failed} failed")

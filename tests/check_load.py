@@ -14,6 +14,7 @@ import tempfile
 
 sys.path.insert(0, os.path.join(os.path.dirname(os.path.dirname(os.path.abspath(__file__))), "bench"))
 
+import patience
 from accounts import APP
 
 # the longest line has an id, the name of a procedure that nobody declared, and texts of 255 bytes
@@ -22,6 +23,8 @@ TEXTS = b' "%s"' % (b"a" * 255) * 15
 BYTES_OF_A_BYTE, BYTES_BESIDE = 2, 64 * 1024 * 1024
 MIB = 1024 * 1024
 SPACES = (4096, 1024, 512, 128, 64, 32)
+# for the largest files, each of which takes minutes
+LARGEST = patience.Patience(processor=900)
 
 
 class Wrong(Exception):
@@ -42,9 +45,9 @@ def run(program, folder, words, space=None):
 
     with open(os.path.join(folder, "out"), "w+b") as out:
         child = subprocess.Popen([program, *words], cwd=folder, stdin=subprocess.DEVNULL, stdout=out, stderr=subprocess.DEVNULL, preexec_fn=begin)
-        _, status, used = os.wait4(child.pid, 0)
+        status, used = patience.wait(child, LARGEST)
         out.seek(0)
-        return os.waitstatus_to_exitcode(status), out.read(), used.ru_maxrss * 1024
+        return status, out.read(), used.ru_maxrss * 1024
 
 
 def write_app(folder):
@@ -164,7 +167,7 @@ def main():
             write_app(folder)
             try:
                 check(folder)
-            except Wrong as wrong:
+            except (Wrong, patience.Hangs) as wrong:
                 failed += 1
                 print(f"{name}: {wrong}")
     print(f"load: {len(checks) - failed} passed, {failed} failed")

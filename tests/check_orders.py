@@ -11,14 +11,13 @@ Usage: check_orders.py PROGRAM [COUNT] [SEED]
 import os
 import random
 import shutil
-import subprocess
 import sys
 import tempfile
 
+import patience
 from check_journals import Illegal, expected, need
 from check_refusals import APP, Refuser, Run, numbers_of
 from check_refused_starts import IS_ROOT, limited
-from patience import SECONDS
 
 CALLS = ["p", 'add {n} "ann" 50', "pay 1 2 {n}", 'note "a\\"b" x"00ff" true -{n}']
 BANKING = ['add {n} "ann" 50', "pay 1 {n} 5", 'sweep "ann"', "nope"]
@@ -50,8 +49,8 @@ def words_of(clients, most):
 
 
 def output(program, folder, words, begin=None):
-    done = subprocess.run([program, *words], cwd=folder, stdin=subprocess.DEVNULL, stdout=subprocess.PIPE, timeout=SECONDS, preexec_fn=begin)
-    return done.returncode, done.stdout.decode()
+    status, stdout = patience.run([program, *words], cwd=folder, preexec_fn=begin)
+    return status, stdout.decode()
 
 
 def blocks_of(draft):
@@ -170,7 +169,7 @@ def main():
             try:
                 check(program, folder, random.Random(f"{seed} {number}"))
                 passed += 1
-            except (Illegal, subprocess.TimeoutExpired) as why:
+            except (Illegal, patience.Hangs) as why:
                 failed += 1
                 print(f"order {number} of seed {seed}: {why}")
     print(f"{passed} passed, {failed} failed")

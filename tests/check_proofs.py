@@ -11,11 +11,10 @@ import hashlib
 import os
 import random
 import re
-import subprocess
 import sys
 import tempfile
 
-from patience import SECONDS
+import patience
 
 APP = """table acct (id int, owner text, bal int) key (id);
 proc add(i int, o text, b int) { insert acct (i, o, b); }
@@ -119,8 +118,8 @@ class Folder:
             file.write(content if isinstance(content, bytes) else content.encode())
 
     def run(self, *words):
-        done = subprocess.run([self.program, *words], cwd=self.path, stdin=subprocess.DEVNULL, stdout=subprocess.PIPE, timeout=SECONDS)
-        return done.returncode, done.stdout.decode()
+        status, stdout = patience.run([self.program, *words], cwd=self.path)
+        return status, stdout.decode()
 
     def over_blocks(self, *words):
         return self.run(words[0], "--app", "a.app", "--blocks", "b.draft", *words[1:])

@@ -21,8 +21,8 @@ import threading
 HERE = os.path.dirname(os.path.abspath(__file__))
 sys.path.insert(0, os.path.join(os.path.dirname(HERE), "bench"))
 
+import patience
 from accounts import APP
-from patience import SECONDS
 
 MOST_CHOSEN = 120
 # how a run may end in which a call of a kind was refused
@@ -121,10 +121,9 @@ class Refuser:
         given = {"LD_PRELOAD": self.library, "REFUSE_KIND": kind, "REFUSE_AT": str(number), "REFUSE_TOLD": told}
         if most is not None:
             given["REFUSE_MOST"] = str(most)
-        done = subprocess.run([self.program, *run.words], cwd=run.folder, env=given, stdin=subprocess.DEVNULL, stdout=subprocess.PIPE,
-                              stderr=subprocess.DEVNULL, timeout=SECONDS)
+        status, stdout = patience.run([self.program, *run.words], cwd=run.folder, env=given)
         with open(told, "rb") as count:
-            return done.returncode, done.stdout, struct.unpack("q", count.read(8))[0]
+            return status, stdout, struct.unpack("q", count.read(8))[0]
 
 
 def fault_of(run, kind, status, stdout):
@@ -164,8 +163,8 @@ def try_one(refuser, run, kind, number):
     what = f"{kind} {number} refused"
     try:
         status, stdout, count = refuser.run(run, kind, number)
-    except subprocess.TimeoutExpired:
-        return Tried(what, False, "hangs")
+    except patience.Hangs as fault:
+        return Tried(what, False, str(fault))
     return Tried(what, count >= number, fault_of(run, kind, status, stdout))
 
 
@@ -174,8 +173,8 @@ def try_front(refuser, run, number):
     what = f"write {number} of one byte refused"
     try:
         status, stdout, count = refuser.run(run, "write", number, most=1)
-    except subprocess.TimeoutExpired:
-        return Tried(what, False, "hangs")
+    except patience.Hangs as fault:
+        return Tried(what, False, str(fault))
     fault = fault_of(run, "write", status, stdout)
     if fault is None and status == 7 and stdout != run.stdout[:number - 1]:
         fault = f"{len(stdout)} bytes at status 7"

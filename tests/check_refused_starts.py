@@ -6,39 +6,59 @@ has to be that of one node without executors, byte for byte, once for each node,
 thread in all, the processor makes every entry. Where this script is not run by root, the user is its own, who may have no further thread at all.
 Usage: check_refused_starts.py PROGRAM
 """
+import functools
 import os
 import resource
 import shutil
-import subprocess
+import socket
 import sys
 import tempfile
 
+import patience
 from check_journals import Illegal, Procedures, check_journal, expected, need, outcomes_of, split_trace
 from draw_schedules import CASES, HERE, blocks_of, read
-from patience import SECONDS
 
 IS_ROOT = os.geteuid() == 0
 THREADS = [1, 2, 3, 6] if IS_ROOT else [1]
 CREWS = [(1, 1), (1, 4), (3, 2)]
-USER = 61000 + os.getpid() % 1000
+# numbers that the system gives to nobody
+USERS = range(60706, 61184)
+HELD = []
+
+
+@functools.cache
+def own_user():
+    """The number of a user that no other script of tests has at this time, since a limit counts all threads of a user. The name that says so is held until this
+    script ends."""
+    for number in USERS:
+        name = socket.socket(socket.AF_UNIX, socket.SOCK_DGRAM)
+        try:
+            name.bind(f"\0bcdb-tests-user-{number}")
+        except OSError:
+            name.close()
+            continue
+        HELD.append(name)
+        return number
+    raise SystemExit("other scripts have all users")
 
 
 def limited(threads):
     """What a child does first: it becomes the user, and takes the limit. Set in this order, since a user over the limit could start no program."""
+    user, most = (own_user(), threads) if IS_ROOT else (None, 0)
+
     def begin():
-        if IS_ROOT:
+        if user is not None:
             os.setgroups([])
-            os.setgid(USER)
-            os.setuid(USER)
-        most = threads if IS_ROOT else 0
+            os.setgid(user)
+            os.setuid(user)
         resource.setrlimit(resource.RLIMIT_NPROC, (most, most))
     return begin
 
 
 def output(program, folder, words, begin=None):
-    done = subprocess.run([program, *words], cwd=folder, stdout=subprocess.PIPE, text=True, timeout=SECONDS, preexec_fn=begin)
-    need(done.returncode == 0, f"status {done.returncode}: {done.stdout[:80]}")
-    return done.stdout
+    status, stdout = patience.run([program, *words], cwd=folder, preexec_fn=begin)
+    need(status == 0, f"status {status}: {stdout[:80]!r}")
+    return stdout.decode()
 
 
 def check_run(program, folder, plain, threads, nodes, executors):
@@ -79,7 +99,7 @@ def main():
                 try:
                     check_run(program, folder, plain, threads, nodes, executors)
                     passed += 1
-                except (Illegal, subprocess.TimeoutExpired) as fault:
+                except (Illegal, patience.Hangs) as fault:
                     failed += 1
                     print(f"{case}, {threads} threads, {nodes} nodes, {executors} executors: {fault}")
     print(f"{passed} passed, {failed} failed")

@@ -12,7 +12,6 @@ Usage: check_workloads.py PROGRAM [SEED] [ROUNDS]
 import os
 import random
 import re
-import subprocess
 import sys
 import tempfile
 
@@ -21,8 +20,8 @@ sys.dont_write_bytecode = True
 sys.path.insert(0, os.path.join(ROOT, "bench", "workloads"))
 
 import chains
+import patience
 from contracts import Contracts
-from patience import SECONDS
 from small_node import Fault, Node, report_lines, table_lines
 from smallbank import SmallBank
 from tpcc import Tpcc
@@ -95,9 +94,9 @@ class Instance:
 
     def report(self, blocks, *options):
         words = [self.program, "run", "--app", "app", "--blocks", blocks, "--orders", *options]
-        done = subprocess.run(words, cwd=self.folder, stdin=subprocess.DEVNULL, capture_output=True, timeout=SECONDS)
-        need(done.returncode == 0, f"status {done.returncode} of {words}")
-        lines = done.stdout.decode().split("\n")
+        status, stdout = patience.run(words, cwd=self.folder)
+        need(status == 0, f"status {status} of {words}")
+        lines = stdout.decode().split("\n")
         need(lines[-2:] == ["done", ""], "the report does not end with `done`")
         return lines[:-2]
 

@@ -7,11 +7,10 @@ are transactions of the blocks, some of them with another argument, another heig
 import concurrent.futures
 import os
 import random
-import subprocess
 import sys
 import tempfile
 
-from patience import SECONDS
+import patience
 
 HERE = os.path.dirname(os.path.abspath(__file__))
 # cases with contention, each an application and a file of blocks without a fault
@@ -89,8 +88,7 @@ def tail(blocks):
 
 
 def run(program, folder, words):
-    done = subprocess.run([program, *words], cwd=folder, stdin=subprocess.DEVNULL, capture_output=True, timeout=SECONDS)
-    return done.returncode, done.stdout
+    return patience.run([program, *words], cwd=folder)
 
 
 def write(folder, name, lines):

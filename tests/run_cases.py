@@ -18,21 +18,19 @@ count what `run` reports of them. Usage: run_cases.py PROGRAM
 import os
 import re
 import shutil
-import subprocess
 import sys
 import tempfile
 
 import limits
 import loads
-from patience import SECONDS
+import patience
 
 HERE = os.path.dirname(os.path.abspath(__file__))
 CASES = os.path.join(HERE, "cases")
 
 
 def run(program, folder, words):
-    done = subprocess.run([program, *words], cwd=folder, stdin=subprocess.DEVNULL, capture_output=True, timeout=SECONDS)
-    return done.returncode, done.stdout
+    return patience.run([program, *words], cwd=folder)
 
 
 def read(path):

@@ -1,6 +1,8 @@
 /* Loaded before the C library: counts the threads that sleep at each word of memory, and lets a thread that takes memory rest now and then, so that others
    wait for what it holds. PAUSE_EVERY is the number of growths from one rest to the next, PAUSE_MICROS how long it is, and PAUSE_TOLD the file of WORDS
-   records of four numbers each: how many sleep at the word now, how many did at once at the most, how many wakes of one and how many wakes of all it had. */
+   records of four numbers each: how many sleep at the word now, how many did at once at the most, how many wakes of one and how many wakes of all it had.
+   Wakes of one are lost where PAUSE_LOST is `one`, and those of all where it is `all`. With PAUSE_HASTY a thread that would let others run before it looks
+   again looks at once, so that it falls asleep before anything happens, also where it rarely gets a processor. */
 #define _GNU_SOURCE
 #include <dlfcn.h>
 #include <fcntl.h>
@@ -8,6 +10,7 @@
 #include <stdarg.h>
 #include <stdatomic.h>
 #include <stdlib.h>
+#include <string.h>
 #include <sys/mman.h>
 #include <sys/syscall.h>
 #include <time.h>
@@ -25,17 +28,21 @@ struct word {
 static struct word *words;
 static _Atomic long at[WORDS];
 static long every, micros;
+static int is_hasty, loses_ones, loses_alls;
 static _Atomic long growths;
 static long (*real_syscall)(long, ...);
 
 __attribute__((constructor)) static void begin(void) {
-    const char *told = getenv("PAUSE_TOLD"), *count = getenv("PAUSE_EVERY"), *rest = getenv("PAUSE_MICROS");
+    const char *told = getenv("PAUSE_TOLD"), *count = getenv("PAUSE_EVERY"), *rest = getenv("PAUSE_MICROS"), *lost = getenv("PAUSE_LOST");
     real_syscall = (long (*)(long, ...))dlsym(RTLD_NEXT, "syscall");
     int file = told ? open(told, O_RDWR) : -1;
     void *place = file < 0 ? MAP_FAILED : mmap(0, WORDS * sizeof(struct word), PROT_READ | PROT_WRITE, MAP_SHARED, file, 0);
     if (place == MAP_FAILED || !count || !rest) _exit(99);
     every = atol(count);
     micros = atol(rest);
+    is_hasty = getenv("PAUSE_HASTY") != 0;
+    loses_ones = lost && !strcmp(lost, "one");
+    loses_alls = lost && !strcmp(lost, "all");
     words = place;
 }
 
@@ -64,10 +71,18 @@ long syscall(long number, ...) {
     int is_wait = operation == FUTEX_WAIT || operation == FUTEX_WAIT_BITSET;
     struct word *word = operation < 0 ? 0 : word_of(given[0]);
     if (is_wait) raise_most(word, atomic_fetch_add(&word->now, 1) + 1);
-    if (operation == FUTEX_WAKE) atomic_fetch_add((int)given[2] == 1 ? &word->ones : &word->alls, 1);
+    if (operation == FUTEX_WAKE) {
+        int is_one = (int)given[2] == 1;
+        atomic_fetch_add(is_one ? &word->ones : &word->alls, 1);
+        if (is_one ? loses_ones : loses_alls) return 0;
+    }
     long answer = real_syscall(number, given[0], given[1], given[2], given[3], given[4], given[5]);
     if (is_wait) atomic_fetch_sub(&word->now, 1);
     return answer;
+}
+
+int sched_yield(void) {
+    return is_hasty ? 0 : (int)real_syscall(SYS_sched_yield);
 }
 
 static void rest_now_and_then(void) {
