@@ -1,5 +1,5 @@
 -- The two forms of danger, by the least positions.
-use Rattle.std.proofs.Common.{arith, ap, Bool, List, None, Some, true, false, ◌<◌, ◌∙◌, ◌≡◌, ◌≤◌, ◌&&◌, ℕ, ⊎_elim}
+use Rattle.std.proofs.Common.{arith, ap, sym, Bool, List, None, Some, true, false, ◌+◌, ◌<◌, ◌∙◌, ◌≡◌, ◌≤◌, ◌&&◌, ℕ, ⊎_elim}
 use Rattle.std.specs.Bool.{nat_le, nat_lt}
 use Rattle.std.specs.List.{list_any}
 use Rattle.std.specs.Option.{option_map}
@@ -7,7 +7,7 @@ use Rattle.std.specs.Prelude.{AllPairs, find}
 use Rattle.std.proofs.lemmas.Bool.{cases_lt, le-leb, le-ltb, lt-ltb}
 use Rattle.std.proofs.lemmas.Bool.Decides.{leb_tells}
 use Rattle.node_model.specs.Danger.{first_pair, is_form_one, is_form_two, with_partner}
-use Rattle.rw_graph.proofs.Found.{any_none, any_some, find_least, find_none}
+use Rattle.rw_graph.proofs.Found.{any_none, any_some, find_least, find_none, none_by_find, some_by_find}
 use Rattle.rw_graph.specs.Sets.{AreAmong, IsLeastFrom, is_among}
 use Rattle.rel_base.proofs.Bits.{and_false}
 
@@ -68,3 +68,31 @@ module _ (list : List ℕ) (rising : AllPairs (λ p q. p < q) list) (has : ℕ �
     two_with between is_out z least low =
         find_least (two y) list rising z (between z least.1) (ap (λ b. b && (has y z && nat_lt z y)) is_out ∙ ap (λ b. b && nat_lt z y) least.1 ∙ lt-ltb z y low)
         (λ other early. not_edge other (least.2 other (omega arith) early))
+
+  -- no position below another is the first of a pair of form two
+  abbrev pub NoneBelow : ℕ → Type 0
+  NoneBelow upto = (y : ℕ) → y < upto → find (two y) list ≡ None
+
+  -- position 0 has no edge to it, since positions count from 1
+  pub none_first : out 0 ≡ false → NoneBelow 1
+  none_first fails y low = let same : 0 ≡ y = omega (arith, low) in ap (λ p. find (two p) list) (sym same) ∙ two_without_y 0 fails
+
+  pub none_next : (from y : ℕ) → NoneBelow from → IsLeastFrom out from (Some y) → find (two y) list ≡ None → NoneBelow (y + 1)
+  none_next from y before least none other low = ⊎_elim
+      (λ early. before other early)
+      (λ late. ⊎_elim
+      (λ between. two_without_y other (least.2 other late between))
+      (λ high. let same : y ≡ other = omega (arith, low, high) in ap (λ p. find (two p) list) (sym same) ∙ none)
+      (cases_lt other y))
+      (cases_lt other from)
+
+  pub two_pair_at : (from y z : ℕ) → NoneBelow from → AreAmong list out → IsLeastFrom out from (Some y) → find (two y) list ≡ Some z → first_pair two list ≡ Some (y, z)
+  two_pair_at from y z before out_among least some =
+      ap (with_partner two list) (find_least (λ first. list_any (two first) list) list rising y (out_among y least.1) (some_by_find two list (two y) list z some)
+      (λ other early. none_by_find two list (two other) list (⊎_elim (λ below. before other below) (λ late. two_without_y other (least.2 other late early)) (cases_lt other from))))
+      ∙ ap (option_map (λ second. (y, second))) some
+
+  -- nothing from one on, and none below it
+  pub no_two_left : (from : ℕ) → NoneBelow from → IsLeastFrom out from None → first_pair two list ≡ None
+  no_two_left from before none = ap (with_partner two list) (find_none (λ first. list_any (two first) list) list (λ y among.
+      none_by_find two list (two y) list (⊎_elim (λ below. before y below) (λ late. two_without_y y (none y late)) (cases_lt y from))))

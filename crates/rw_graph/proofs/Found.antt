@@ -74,6 +74,12 @@ module _ {M : Type 0} (related : M → M → Bool) (members : List M) where
       by_test true passes rest = ap (λ b. b || list_any test xs) passes ∙ ap is_found (sym (ap (λ b. cond b (Some x) (find test xs)) passes) ∙ is)
       by_test false fails rest = ap (λ b. b || list_any test xs) fails ∙ rest found (sym (ap (λ b. cond b (Some x) (find test xs)) fails) ∙ is)
 
+  pub none_by_find : (test : M → Bool) (list : List M) → find test list ≡ None → list_any test list ≡ false
+  none_by_find test list none = any_by_find test list None none
+
+  pub some_by_find : (test : M → Bool) (list : List M) (x : M) → find test list ≡ Some x → list_any test list ≡ true
+  some_by_find test list x some = any_by_find test list (Some x) some
+
   -- a member with no partner is passed over, and the first with one is the answer
   pub partner_none : (first : M) (rest : List M) → find (related first) members ≡ None
       → with_partner related members (find (λ x. list_any (related x) members) (first ∷ rest)) ≡ with_partner related members (find (λ x. list_any (related x) members) rest)

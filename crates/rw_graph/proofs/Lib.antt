@@ -23,3 +23,4 @@ pub mod Lists
 pub mod Alike
 pub mod PathsAlike
 pub mod Shown
+pub mod Counted

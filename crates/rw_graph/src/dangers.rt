@@ -1,6 +1,6 @@
 //! The danger of a transaction, by its edges to those that committed before it in its block.
 
-ghost use Rattle.std.specs.Prelude.{ℕ, ◌≡◌, false, find, true};
+ghost use Rattle.std.specs.Prelude.{◌≡◌, find};
 ghost use Rattle.node_model.specs.Danger.{danger_among, first_pair, is_form_one, is_form_two};
 ghost use Rattle.rw_graph.specs.Graph.{has_edge, positions_of};
 ghost use Rattle.rw_graph.specs.Held.{holds};
@@ -32,25 +32,17 @@ fn before(set: &EdgeSet, edges: &Edges, y: u32) -> Option<u32>
     if z < y { Some(z) } else { None }
 }
 
-// Whether there is no edge to another position.
-fn has_no_out(edges: &Edges) -> bool
-    ensures { result ≡ true → (pos : ℕ) → holds edges.now.out pos ≡ false }
-{
-    edges.out.least_from(0).is_none()
-}
-
-// The positions Y and Z of form two.
+// The positions Y and Z of form two: each Y to which there is an edge is asked, from the least on.
 fn form_two(set: &EdgeSet, edges: &Edges) -> Option<(u32, u32)>
+    requires { AreAmong (positions_of set.now) (holds edges.now.out) }
     ensures { result ≡ first_pair (is_form_two (λ pos. pos) (has_edge set.now) (holds edges.now.out) (holds edges.now.into)) (positions_of set.now) }
 {
-    // without an edge to another position there is no Y, and the positions need not be looked through
-    if has_no_out(edges) {
-        return None;
-    }
-    for y in set.positions() {
-        if let Some(z) = before(set, edges, *y) {
-            return Some((*y, z));
+    let mut last = 0;
+    while let Some(y) = edges.out.least_above(last) {
+        if let Some(z) = before(set, edges, y) {
+            return Some((y, z));
         }
+        last = y;
     }
     None
 }

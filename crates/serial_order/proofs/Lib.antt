@@ -9,3 +9,4 @@ pub mod Picked
 pub mod Sources
 pub mod Placed
 pub mod Unreached
+pub mod Bare

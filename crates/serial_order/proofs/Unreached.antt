@@ -1,6 +1,8 @@
 -- How many edges come to a position, and positions without an edge.
-use Rattle.std.proofs.Common.{ap, arith, cond, map, refl, sym, Bool, List, false, [], ◌+◌, ◌-◌, ◌∙◌, ◌≡◌, ◌∷◌, ℕ}
+use Rattle.std.proofs.Common.{ap, arith, cond, map, refl, sym, Bool, List, true, false, [], ◌&&◌, ◌+◌, ◌-◌, ◌∙◌, ◌≡◌, ◌∷◌, ℕ}
 use Rattle.std.proofs.lemmas.List.Sums.{sum_by-cons}
+use Rattle.rel_base.proofs.Bits.{no_both, not_true, second_true}
+use Rattle.rw_graph.specs.Sets.{is_among}
 use Rattle.serial_order.specs.Counts.{predecessors, lowered}
 use Rattle.serial_order.specs.declared.left.Left.{Left}
 
@@ -19,6 +21,11 @@ module _ (has : ℕ → ℕ → Bool) where
   pub comers_none : (to : ℕ) (set : List ℕ) → ((from : ℕ) → has from to ≡ false) → predecessors has set to ≡ 0
   comers_none to [] none = refl
   comers_none to (from ∷ rest) none = comers-cons to from rest ∙ ap (λ b. cond b 1 0 + predecessors has rest to) (none from) ∙ plus (predecessors has rest to) ∙ comers_none to rest none
+
+  -- no edge comes to what is not among positions between which all edges are
+  pub unreached : (to : ℕ) (set : List ℕ) → ((from to : ℕ) → has from to ≡ true → (is_among set from && is_among set to) ≡ true) → is_among set to ≡ false → (from : ℕ) → has from to ≡ false
+  unreached to set between absent from =
+      not_true (has from to) (λ is. no_both (is_among set to) (second_true (is_among set from) (is_among set to) (between from to is)) absent)
 
   -- an entry keeps its count when one is placed from which no edge leads
   kept : (from : ℕ) (entry : Left) → ((to : ℕ) → has from to ≡ false) → lowered has from entry ≡ entry

@@ -18,37 +18,13 @@ fn is_left(set: &EdgeSet, from: u32) -> bool
     set.least_to(from).is_some()
 }
 
-// Whether an edge may come to a position: none comes where it answers no.
-fn is_reached(set: &EdgeSet, to: u32) -> bool
-    ensures { result ≡ false → (from : ℕ) → has_edge set.now from to ≡ false }
-{
-    match set.into_row(to) {
-        None => true,
-        Some(into) => into.least_from(0).is_some(),
-    }
-}
-
-// How many edges come to a position, of which there may be some.
-fn count_each(set: &EdgeSet, to: u32) -> usize
-    ensures { result ≡ predecessors (has_edge set.now) (positions_of set.now) to }
-{
-    let mut count = 0;
-    for from in set.positions() {
-        if set.has(*from, to) {
-            count += 1;
-        }
-    }
-    count
-}
-
-// How many edges come to a position. Most positions have none, which their row of bits tells at once.
+// How many edges come to a position.
 fn count_to(set: &EdgeSet, to: u32) -> usize
     ensures { result ≡ predecessors (has_edge set.now) (positions_of set.now) to }
 {
-    if is_reached(set, to) {
-        count_each(set, to)
-    } else {
-        0
+    match set.into_row(to) {
+        None => 0,
+        Some(into) => into.count(),
     }
 }
 
@@ -125,11 +101,9 @@ fn take_free(left: &mut Vec<Left>) -> Option<u32>
     }
 }
 
-/// The positions of a set in serial order: again and again the earliest to which no edge comes from one that is left. Where the
-/// edges have no cycle, each position is placed once, and no edge leads from a later one to an earlier one.
-pub fn order(alloc: Global, set: &EdgeSet) -> Result<List<u32>, NoMemory>
-    ensures order { IfOk result (λ list. list ≡ order (has_edge set.now) (positions_of set.now)) }
-    ensures serial { IfOk result (λ list. HasNoCycle (has_edge set.now) (positions_of set.now) → IsSerialOrder (has_edge set.now) (positions_of set.now) list) }
+// The positions in serial order, where there may be edges.
+fn placed(alloc: Global, set: &EdgeSet) -> Result<List<u32>, NoMemory>
+    ensures { IfOk result (λ list. list ≡ order (has_edge set.now) (positions_of set.now)) }
 {
     let mut left = counted(alloc, set)?;
     let mut list = List::new(alloc);
@@ -138,4 +112,26 @@ pub fn order(alloc: Global, set: &EdgeSet) -> Result<List<u32>, NoMemory>
         list.push(from)?;
     }
     Ok(list)
+}
+
+// The positions as they stand in the block.
+fn as_they_stand(alloc: Global, set: &EdgeSet) -> Result<List<u32>, NoMemory>
+    ensures { IfOk result (λ list. list ≡ positions_of set.now) }
+{
+    let positions = Vec::from_slice(alloc, set.positions())?;
+    Ok(List::from_vec(positions))
+}
+
+/// The positions of a set in serial order: again and again the earliest to which no edge comes from one that is left. Where the
+/// edges have no cycle, each position is placed once, and no edge leads from a later one to an earlier one.
+pub fn order(alloc: Global, set: &EdgeSet) -> Result<List<u32>, NoMemory>
+    ensures order { IfOk result (λ list. list ≡ order (has_edge set.now) (positions_of set.now)) }
+    ensures serial { IfOk result (λ list. HasNoCycle (has_edge set.now) (positions_of set.now) → IsSerialOrder (has_edge set.now) (positions_of set.now) list) }
+{
+    // without an edge each position may stand where it stands in the block
+    if set.is_bare() {
+        as_they_stand(alloc, set)
+    } else {
+        placed(alloc, set)
+    }
 }

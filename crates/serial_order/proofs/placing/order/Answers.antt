@@ -1,17 +1,13 @@
-use Rattle.std.proofs.Common.{refl, reverse, rules}
 use Rattle.rw_graph.specs.Graph.{has_edge, positions_of}
-use Rattle.serial_order.proofs.Placed.{serial_if}
-use Rattle.serial_order.proofs.Steps.{done_of, step_back}
+use Rattle.serial_order.proofs.Bare.{bare_order, order_serial}
 use Rattle.serial_order.proofs.placing.order.Goals as goal
 
-pub loop-from-preserved : goal.loop-from-preserved
-loop-from-preserved c =
-    rw (c.lower.ensures.items, c.in_ok-push.ensures.ok) (step_back (has_edge c.args.set.now) (positions_of c.args.set.now) c.loop-from.left.items c.take_free.new.left.items _ _ _ _ _ refl
-    c.take_free.ensures.taken c.in-Some.is c.loop-from.invariant)
+pub returns-then-is_bare-clause-order : goal.returns-then-is_bare-clause-order
+returns-then-is_bare-clause-order c =
+    bare_order (has_edge c.args.set.now) (c.is_bare.ensures c.if-is_bare.true) (positions_of c.args.set.now) c.as_they_stand.result c.as_they_stand.ensures
 
-pub returns-clause-order : goal.returns-clause-order
-returns-clause-order c =
-    done_of (has_edge c.args.set.now) (positions_of c.args.set.now) (reverse c.loop-from.left.items) (reverse c.take_free.new.left.items) _ _ _ _ refl c.take_free.ensures.taken (search rules) c.loop-from.invariant
+pub returns-then-is_bare-clause-serial : goal.returns-then-is_bare-clause-serial
+returns-then-is_bare-clause-serial c = order_serial (has_edge c.args.set.now) (positions_of c.args.set.now) c.as_they_stand.result (returns-then-is_bare-clause-order c)
 
-pub returns-clause-serial : goal.returns-clause-serial
-returns-clause-serial c = serial_if (has_edge c.args.set.now) (positions_of c.args.set.now) _ (returns-clause-order c)
+pub returns-else-is_bare-clause-serial : goal.returns-else-is_bare-clause-serial
+returns-else-is_bare-clause-serial c = order_serial (has_edge c.args.set.now) (positions_of c.args.set.now) c.placed.result c.placed.ensures

@@ -1,6 +1,6 @@
 use Rattle.std.proofs.Common.{reverse, vec_len}
 use Rattle.rw_graph.specs.Graph.{has_edge, positions_of}
-use Rattle.serial_order.proofs.placing.order.Given as goal
+use Rattle.serial_order.proofs.placing.placed.Given as goal
 use Rattle.serial_order.specs.Counts.{IsLeft}
 
 abbrev pub invariant-loop-from : goal.invariant-loop-from
