@@ -30,8 +30,8 @@ ENDS = {"growth": (8, 3, 7), "read": (3,), "write": (7,), "start": ()}
 # How many threads a run starts, beside the first one: where one node may gain by executors, as by calls with a loop, two of these, and where something arrives,
 # be it one call alone, one more; of two nodes two at each, and one of the nodes; of an order its two clients; of a load three nodes, of which one runs on the first thread, and at
 # each of them four executors and one that makes the arrivals. One node runs by itself where nothing arrives and no call has a loop. All others start none.
-STARTS = {"one-insert": 0, "phantom-sweep": 2, "two-nodes": 1 + 2 * 2, "side-by-side": 2 + 1, "one-arrival": 2 + 1, "order-one-of-two": 2,
-          "load": 2 + 3 * (4 + 1)}
+STARTS = {"one-insert": 0, "nine-own-writes": 2, "phantom-sweep": 2, "two-nodes": 1 + 2 * 2, "side-by-side": 2 + 1, "one-arrival": 2 + 1,
+          "order-one-of-two": 2, "load": 2 + 3 * (4 + 1)}
 # how many bytes a read asks for at most, and the options that name files
 PIECE = 65536
 FILES = ("--app", "--blocks", "--arrivals", "--schedule", "--clients", "--files", "--proof")
@@ -98,9 +98,9 @@ def sizes(run):
 
 
 def runs(folder):
-    names = ["one-insert", "phantom-sweep", "first-hit-wins", "provenance-of-pay", "first-hit-wins-claimed-early", "guide-bank-seal", "json-of-one-insert",
-             "guide-bank-changed", "order-one-of-two", "order-bad-client", "guide-heads", "guide-compare", "compare-an-empty-file", "guide-prove", "guide-verify",
-             "verify-33-steps"]
+    names = ["one-insert", "nine-own-writes", "phantom-sweep", "first-hit-wins", "provenance-of-pay", "first-hit-wins-claimed-early", "guide-bank-seal",
+             "json-of-one-insert", "guide-bank-changed", "order-one-of-two", "order-bad-client", "guide-heads", "guide-compare", "compare-an-empty-file",
+             "guide-prove", "guide-verify", "verify-33-steps"]
     made = [Run("two-nodes", *two_nodes()), side_by_side(folder, "side-by-side", 2), side_by_side(folder, "one-arrival", 1), *all_stopped(folder),
             Run("load", folder, ["load", "--number", "1"])]
     return [Run(name, *case(name)) for name in names] + made

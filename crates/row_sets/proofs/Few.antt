@@ -1,10 +1,11 @@
 -- A few own writes in the order of their keys, and others of greater keys.
-use Rattle.std.proofs.Common.{◌≡◌, ◌∙◌, ◌≤◌, ◌<◌, ◌+◌, ◌-◌, ℕ, zero, suc, List, [], ◌∷◌, ◌++◌, Option, Some, None, Ok, Err, arith, refl, cond, true, false, ap, sym, subst, length, T, append-nil}
-use Rattle.std.specs.Prelude.{slice_get, slice_index_or, slice_set}
-use Rattle.std.specs.List.{insert, AllByRecursion}
+use Rattle.std.proofs.Common.{◌≡◌, ◌∙◌, ◌+◌, ◌-◌, ℕ, zero, suc, List, [], ◌∷◌, ◌++◌, Option, Some, None, Ok, Err, arith, refl, cond, true, false, ap, sym, subst, length, T, append-nil}
+use Rattle.std.specs.Prelude.{slice_get}
+use Rattle.std.specs.List.{AllByRecursion}
 use Rattle.std.specs.BTreeMap.{insert_entry}
 use Rattle.std.specs.declared.cmp.Ordering.{Ordering}
 use Rattle.std.specs.declared.cmp.Ordering.TheVariants.{Less, Equal, Greater}
+use Rattle.std.specs.Cmp.{IsTotalOrder}
 use Rattle.std.specs.Ordering.{is_eq, is_gt, is_lt, eq_by_cmp, ordering_reverse}
 use Rattle.std.specs.FinMap as finite
 use Rattle.std.specs.FinMap.{from_entries, get-from_entries, get-insert, same_map}
@@ -19,97 +20,17 @@ use Rattle.rel_base.proofs.Frames.{put_front}
 use Rattle.row_sets.specs.Few.{place_from, put_over}
 use Rattle.row_sets.specs.Overlay.{lay_keys, put_own}
 use Rattle.row_sets.specs.declared.table_writes.OwnWrite.{OwnWrite}
-use Rattle.row_sets.proofs.Entries.{insert_is_put, not_found}
+use Rattle.row_sets.proofs.Entries.{insert_is_put}
+use Rattle.row_sets.proofs.Places as places
+use Rattle.row_sets.proofs.Places.{BelongsAt, StandsAt}
 
 -- ---- the place of a key
 
--- a key stands at a place
-pub record StandsAt {X : Type 0} (key : List Value) (es : List (List Value × X)) (place : ℕ) : Type 0 where
-  pub within : place < length es
-  pub found : (d : List Value × X) → find key_cmp key es ≡ Some (slice_index_or es place d).1
-  pub puts : (d : List Value × X) (v : X) → put key_cmp key v es ≡ slice_set es place ((slice_index_or es place d).0, v)
+pub found_at : {X : Type 0} (key : List Value) (es : List (List Value × X)) (place : ℕ) → place_from 0 key es ≡ Ok place → StandsAt key_cmp key es place
+found_at key es place is = places.found_at key_cmp key_cmp-total key es place is
 
--- a key does not stand there, and its place in the order is this one
-pub record BelongsAt {X : Type 0} (key : List Value) (es : List (List Value × X)) (place : ℕ) : Type 0 where
-  pub within : place ≤ length es
-  pub missing : find key_cmp key es ≡ None
-  pub puts : (v : X) → put key_cmp key v es ≡ insert es place (key, v)
-
-below_less : {X : Type 0} (k l : List Value) (es : List (List Value × X)) → key_cmp k l ≡ Less → T (below_all key_cmp l es) → T (below_all key_cmp k es)
-below_less k l [] less below = tt
-below_less k l (e ∷ es) less below =
-    both _ _ (subst (λ o. T (is_lt o)) (sym (key_cmp-total.trans k l e.0 less (is_Less _ (first _ _ below)))) tt) (below_less k l es less (second (is_lt (key_cmp l e.0)) _ below))
-
-module _ {X : Type 0} (key : List Value) where
-  found_from : (at : ℕ) (es : List (List Value × X)) (place : ℕ) → place_from at key es ≡ Ok place → (i : ℕ) × (place ≡ at + i) × StandsAt key es i
-  found_from at [] place is = cc
-  found_from at (e ∷ es) place is =
-      elim (key_cmp key e.0) as (λ o. key_cmp key e.0 ≡ o → by_order o (Err at) (Ok at) (place_from (at + 1) key es) ≡ Ok place → (i : ℕ) × (place ≡ at + i) × StandsAt key (e ∷ es) i) [
-        | Less ↦ λ less is. cc
-        | Equal ↦ λ equal is.
-            let same : at ≡ place = cc in (
-              0,
-              omega (arith, same),
-              record {
-                within = omega arith;
-                found = λ d. ap (λ o. cond (is_eq o) (Some e.1) (find key_cmp key es)) equal;
-                puts = λ d v. ap (λ o. by_order o ((key, v) ∷ e ∷ es) ((e.0, v) ∷ es) (e ∷ put key_cmp key v es)) equal;
-              },
-            )
-        | Greater ↦ λ greater is.
-            let rest = found_from (at + 1) es place is in
-            let there = rest.2 in
-            let low = there.within in (
-              suc rest.0,
-              omega (arith, rest.1),
-              record {
-                within = omega (arith, low);
-                found = λ d. ap (λ o. cond (is_eq o) (Some e.1) (find key_cmp key es)) greater ∙ there.found d;
-                puts = λ d v. ap (λ o. by_order o ((key, v) ∷ e ∷ es) ((e.0, v) ∷ es) (e ∷ put key_cmp key v es)) greater ∙ ap (λ fs. e ∷ fs) (there.puts d v);
-              },
-            )
-      ] refl is
-
-  missed_from : (at : ℕ) (es : List (List Value × X)) (place : ℕ) → T (is_sorted key_cmp es) → place_from at key es ≡ Err place → (i : ℕ) × (place ≡ at + i) × BelongsAt key es i
-  missed_from at [] place up is = let same : at ≡ place = cc in (0, omega (arith, same), record { within = omega arith; missing = refl; puts = λ v. refl })
-  missed_from at (e ∷ es) place up is =
-      elim (key_cmp key e.0) as (λ o. key_cmp key e.0 ≡ o → by_order o (Err at) (Ok at) (place_from (at + 1) key es) ≡ Err place → (i : ℕ) × (place ≡ at + i) × BelongsAt key (e ∷ es) i) [
-        | Less ↦ λ less is.
-            let same : at ≡ place = cc in (
-              0,
-              omega (arith, same),
-              record {
-                within = omega arith;
-                missing = not_found key_cmp key (e ∷ es) (both _ _ (subst (λ o. T (is_lt o)) (sym less) tt) (below_less key e.0 es less (first _ _ up)));
-                puts = λ v. ap (λ o. by_order o ((key, v) ∷ e ∷ es) ((e.0, v) ∷ es) (e ∷ put key_cmp key v es)) less;
-              },
-            )
-        | Equal ↦ λ equal is. cc
-        | Greater ↦ λ greater is.
-            let rest = missed_from (at + 1) es place (second (below_all key_cmp e.0 es) _ up) is in
-            let there = rest.2 in
-            let low = there.within in (
-              suc rest.0,
-              omega (arith, rest.1),
-              record {
-                within = omega (arith, low);
-                missing = ap (λ o. cond (is_eq o) (Some e.1) (find key_cmp key es)) greater ∙ there.missing;
-                puts = λ v. ap (λ o. by_order o ((key, v) ∷ e ∷ es) ((e.0, v) ∷ es) (e ∷ put key_cmp key v es)) greater ∙ ap (λ fs. e ∷ fs) (there.puts v);
-              },
-            )
-      ] refl is
-
-  pub found_at : (es : List (List Value × X)) (place : ℕ) → place_from 0 key es ≡ Ok place → StandsAt key es place
-  found_at es place is =
-      let found = found_from 0 es place is in
-      let same : found.0 ≡ place = omega (arith, found.1) in
-      subst (StandsAt key es) same found.2
-
-  pub missed_at : (es : List (List Value × X)) (place : ℕ) → T (is_sorted key_cmp es) → place_from 0 key es ≡ Err place → BelongsAt key es place
-  missed_at es place up is =
-      let missed = missed_from 0 es place up is in
-      let same : missed.0 ≡ place = omega (arith, missed.1) in
-      subst (BelongsAt key es) same missed.2
+pub missed_at : {X : Type 0} (key : List Value) (es : List (List Value × X)) (place : ℕ) → T (is_sorted key_cmp es) → place_from 0 key es ≡ Err place → BelongsAt key_cmp key es place
+missed_at key es place up is = places.missed_at key_cmp key_cmp-total key es place up is
 
 -- ---- a key after the last one
 
@@ -159,14 +80,18 @@ module _ {X : Type 0} (key : List Value) where
 
 -- ---- as a finite map
 
+module _ {K : Type 0} (R : K → K → Ordering) (total : IsTotalOrder R) (exact : (a b : K) → R a b ≡ Equal → a ≡ b) where
+  pub own_put : (key : K) (before after : Option (List Value)) (es : List (K × OwnWrite)) → from_entries {R = R} (put R key (put_over before after (find R key es)) es) ≡ put_own (from_entries es) key before after
+  own_put key before after es =
+      same_map total exact _ _ (λ q.
+      get-from_entries total (put R key (put_over before after (find R key es)) es) q
+      ∙ find-put R total q key (put_over before after (find R key es)) es
+      ∙ sym (get-insert total (from_entries es) key (put_over before after (find R key es)) q ∙ ap (cond (eq_by_cmp R q key) (Some (put_over before after (find R key es)))) (get-from_entries total es q)))
+      ∙ ap (λ own. finite.insert (from_entries es) key (put_over before after own)) (sym (get-from_entries total es key))
+
 pub put_is_own : (key : List Value) (before after : Option (List Value)) (es : List (List Value × OwnWrite))
     → from_entries {R = key_cmp} (put key_cmp key (put_over before after (find key_cmp key es)) es) ≡ put_own (from_entries es) key before after
-put_is_own key before after es =
-    same_map key_cmp-total key_cmp-exact _ _ (λ q.
-    get-from_entries key_cmp-total (put key_cmp key (put_over before after (find key_cmp key es)) es) q
-    ∙ find-put key_cmp key_cmp-total q key (put_over before after (find key_cmp key es)) es
-    ∙ sym (get-insert key_cmp-total (from_entries es) key (put_over before after (find key_cmp key es)) q ∙ ap (cond (eq_by_cmp key_cmp q key) (Some (put_over before after (find key_cmp key es)))) (get-from_entries key_cmp-total es q)))
-    ∙ ap (λ own. finite.insert (from_entries es) key (put_over before after own)) (sym (get-from_entries key_cmp-total es key))
+put_is_own = own_put key_cmp key_cmp-total key_cmp-exact
 
 -- ---- some before others
 

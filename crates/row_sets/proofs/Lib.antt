@@ -7,6 +7,8 @@ pub mod Filling
 pub mod Flat
 pub mod Histories
 pub mod Laid
+pub mod Listing
 pub mod Nets
 pub mod Owns
+pub mod Places
 pub mod PointRows

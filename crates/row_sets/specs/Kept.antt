@@ -12,7 +12,7 @@ use Rattle.row_sets.specs.Overlay.{flat}
 use Rattle.row_sets.specs.declared.table_writes.OwnWrite.{OwnWrite}
 
 -- the tables stand in order, the count is that of their keys, and the empty vector has room for one write of each
-pub record IsOverlay (tables : BTreeMap ℕ (FinMap key_cmp OwnWrite)) (count : ℕ) (room : Vec Write Global) : Type 0 where
+pub record IsByTable (tables : BTreeMap ℕ (FinMap key_cmp OwnWrite)) (count : ℕ) (room : Vec Write Global) : Type 0 where
   pub ordered : IsOrdered nat_cmp tables
   pub counted : length (flat tables.entries) ≡ count
   pub empty : (room.items ≡ []) × (vec_len room ≡ 0)

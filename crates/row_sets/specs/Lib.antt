@@ -1,6 +1,8 @@
 pub mod BlockWrites
 pub mod Few
 pub mod Kept
+pub mod Listed
+pub mod Forms
 pub mod Overlay
 pub mod Versions
 pub mod Lifespans

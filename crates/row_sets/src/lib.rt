@@ -8,10 +8,12 @@
 #![tactic(auto)]
 
 pub mod block_writes;
+pub mod by_table;
 pub mod cover;
 pub mod entry;
 pub mod few_writes;
 pub mod hits;
+pub mod listed;
 pub mod merge;
 pub mod net;
 pub mod overlay;

@@ -7,14 +7,16 @@ ghost use Rattle.std.specs.FinMap as finite;
 ghost use Rattle.std.specs.FinMap.Entries.{put, is_sorted};
 ghost use Rattle.std.specs.Option.{option_copied, option_to_list};
 ghost use Rattle.rel_base.specs.Schema.{key_of_row};
-ghost use Rattle.rel_base.specs.Tables.{ref_cmp};
+ghost use Rattle.rel_base.specs.Tables.{write_ref};
 ghost use Rattle.rel_base.specs.Value.{key_cmp};
-ghost use Rattle.row_sets.specs.Overlay.{lay_keys};
-ghost use Rattle.rel_base.specs.OwnWrites.{covered, first_row, keyed, set_row};
+ghost use Rattle.rel_base.specs.Access.{read_table};
+ghost use Rattle.rel_base.specs.OwnWrites.{covered, first_row, keyed, lay, lay_all, set_row};
+ghost use Rattle.row_sets.specs.Listed.{listed};
+ghost use Rattle.row_sets.specs.Overlay.{lay_keys, left};
 
 use crate::cover::{is_covered, key_by};
 use crate::table_writes::{OwnWrite, TableWrites};
-use rel_base::{Key, List, NoMemory, Read, Row, Seen, TableDef, Twin};
+use rel_base::{Key, List, NoMemory, Read, Row, Seen, TableDef, Twin, Write};
 use std::alloc::Global;
 use std::collections::BTreeMap;
 
@@ -98,6 +100,43 @@ pub fn lay_each(
 {
     for (key, write) in own.iter() {
         set_covered(alloc, def, read, rows, key, &write.after)?;
+    }
+    Ok(())
+}
+
+/// Lays an own write over the rows of a read, where it is of the table of the read.
+fn lay_one(
+    alloc: Global,
+    def: &TableDef,
+    table: u32,
+    read: &Read,
+    rows: &mut BTreeMap<Key, Row>,
+    write: &Write,
+) -> Result<(), NoMemory>
+    requires { read_table read.now ≡ table }
+    ensures { OnOk result (rows.new.entries ≡ lay def.now read.now rows.old.entries (write_ref write.now, write.now.after)) }
+{
+    if table == write.table {
+        set_covered(alloc, def, read, rows, &write.key, &write.after)
+    } else {
+        Ok(())
+    }
+}
+
+/// Lays those of some own writes that are of the table of a read over the rows of the read, one after the other.
+fn lay_listed(
+    alloc: Global,
+    def: &TableDef,
+    table: u32,
+    read: &Read,
+    rows: &mut BTreeMap<Key, Row>,
+    writes: &[Write],
+) -> Result<(), NoMemory>
+    requires { read_table read.now ≡ table }
+    ensures { OnOk result (rows.new.entries ≡ lay_all def.now read.now rows.old.entries (map left (listed writes.now))) }
+{
+    for write in writes {
+        lay_one(alloc, def, table, read, rows, write)?;
     }
     Ok(())
 }
@@ -191,5 +230,23 @@ pub fn merge_table(
 {
     let mut rows = by_key(alloc, def, seens)?;
     own.lay(alloc, def, read, &mut rows)?;
+    rows_of(alloc, rows)
+}
+
+/// The rows that were read, which stand in the order of their keys, with those of some own writes over them that are of their table.
+pub fn merge_listed(
+    alloc: Global,
+    def: &TableDef,
+    table: u32,
+    read: &Read,
+    writes: &[Write],
+    seens: &[Seen],
+) -> Result<List<Row>, NoMemory>
+    requires of { read_table read.now ≡ table }
+    requires sorted { T (is_sorted key_cmp (keyed def.now seens.now)) }
+    ensures { IfOk result (λ rows. rows ≡ map (λ e. e.1) (lay_all def.now read.now (keyed def.now seens.now) (map left (listed writes.now)))) }
+{
+    let mut rows = by_key(alloc, def, seens)?;
+    lay_listed(alloc, def, table, read, &mut rows, writes)?;
     rows_of(alloc, rows)
 }

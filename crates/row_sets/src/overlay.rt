@@ -1,111 +1,87 @@
 //! A transaction's own writes.
 
-ghost use Rattle.std.specs.Prelude.{◌≡◌, ◌+◌, ◌≤◌, ◌++◌, IfOk, OnErr, OnOk, List, Option as Maybe, T, false, length, not, ℕ};
-ghost use Rattle.std.specs.BTreeMap.{IsOrdered};
+ghost use Rattle.std.specs.Prelude.{◌≡◌, IfOk, OnErr, OnOk, List, Option as Maybe, T, false, ℕ, unwrap_or};
 ghost use Rattle.std.specs.FinMap as map;
 ghost use Rattle.std.specs.FinMap.Entries.{is_sorted};
-ghost use Rattle.std.specs.Ordering.{nat_cmp};
 ghost use Rattle.std.specs.Option.{option_copied};
-ghost use Rattle.std.specs.Vec.{vec_len, vec_capacity};
 ghost use Rattle.rel_base.specs.NetWrites.{net, row_in};
-ghost use Rattle.rel_base.specs.OwnWrites.{keyed, merged, own_or};
-ghost use Rattle.rel_base.specs.Tables.{Tables, ref_cmp};
+ghost use Rattle.rel_base.specs.OwnWrites.{keyed, merged};
+ghost use Rattle.rel_base.specs.Tables.{Tables};
 ghost use Rattle.rel_base.specs.Value.{key_cmp};
 ghost use Rattle.rel_base.specs.declared.access.Read.TheVariants.{Span};
 ghost use Rattle.rel_base.specs.declared.access.Seen.{Seen as SeenRow};
 ghost use Rattle.rel_base.specs.declared.schema.TableDef.{TableDef as Def};
 ghost use Rattle.rel_base.specs.declared.value.Value.{Value as Cell};
 ghost use Rattle.rel_base.specs.Lent.{rows_of};
-ghost use Rattle.row_sets.specs.Overlay.{AreFound, flat, net_writes, own_of, put_own};
+ghost use Rattle.row_sets.specs.Forms.{written_in};
+ghost use Rattle.row_sets.specs.Overlay.{AreFound, net_writes, own_of, put_own};
 
-use crate::merge::{first_of, merge_table, one_or_none, rows_seen};
-use crate::table_writes::TableWrites;
+use crate::by_table::WritesByTable;
+use crate::listed::ListedWrites;
+use crate::merge::{first_of, one_or_none};
 use rel_base::{Key, List, NoMemory, Read, Row, Seen, TableDef, Write};
 use std::alloc::Global;
-use std::collections::BTreeMap;
 use std::marker::Model;
+
+/// Where a transaction's own writes stand: a few in one list, more of them table by table.
+#[derive(Drop)]
+enum Writes {
+    Few(ListedWrites),
+    Many(WritesByTable),
+}
 
 /// A transaction's own writes: for each table and key that it wrote, the row at its snapshot and the row that it left there.
 ///
-/// Up to eight writes of a table stand in a vector in the order of their keys, and more in a map by their keys, so that a look
-/// takes a number of steps that grows with the logarithm of their number, and copies no key. There is room for the net writes of
-/// all keys from the moment that they are put.
+/// Up to eight writes stand in one list in the order of their tables and keys, which becomes the net writes. More stand table by
+/// table, so that a look takes a number of steps that grows with the logarithm of their number.
 #[derive(Drop)]
 pub struct Overlay {
     alloc: Global,
-    tables: BTreeMap<u32, TableWrites>,
-    /// The number of keys.
-    count: usize,
-    /// An empty vector with room for one write of each key.
-    room: Vec<Write>,
+    writes: Writes,
 }
 
 impl Model for Overlay {
     ghost use Rattle.std.specs.Coded.{coded×, coded_ℕ, coded_list};
     ghost use Rattle.std.specs.FinMap as map;
     ghost use Rattle.rel_base.specs.contracts.value.Value as value;
-    ghost use Rattle.rel_base.specs.Tables.{ref_cmp};
     ghost use Rattle.row_sets.specs.contracts.table_writes.OwnWrite as own_write;
-    ghost use Rattle.row_sets.specs.Overlay.{Written, flat};
-    ghost use Rattle.row_sets.specs.Kept.{IsOverlay};
+    ghost use Rattle.row_sets.specs.Forms.{written_in};
+    ghost use Rattle.row_sets.specs.Overlay.{Written};
 
     ghost Value = { Written };
 
     ghost coded = { map.code (coded× coded_ℕ (coded_list value.the_row.coded)) own_write.the_row.coded };
 
-    ghost view = { λ own. map.from_entries {R = ref_cmp} (flat own.tables.entries) };
-
-    ghost invariant = { λ own. IsOverlay own.tables own.count own.room };
+    ghost view = { λ own. written_in own.writes };
 }
 
-/// Puts a row that was left at a key, or none, among the writes of its table: whether the key was not written before.
+/// Moves writes that are as many as one list holds.
+fn spread(alloc: Global, writes: &mut Writes) -> Result<(), NoMemory>
+    ensures { written_in writes.new ≡ written_in writes.old }
+{
+    if let Writes::Few(own) = &*writes {
+        if own.is_full() {
+            let own = own.by_table(alloc)?;
+            *writes = Writes::Many(own);
+        }
+    }
+    Ok(())
+}
+
+/// A row is left at a key, or none.
 fn put_in(
-    alloc: Global,
-    tables: &mut BTreeMap<u32, TableWrites>,
+    writes: &mut Writes,
     table: u32,
     key: Key,
     before: Option<Row>,
     after: Option<Row>,
-) -> Result<bool, NoMemory>
-    ensures put { OnOk result (map.from_entries {R = ref_cmp} (flat tables.new.entries) ≡ put_own (map.from_entries (flat tables.old.entries)) (table, key) before after) }
-    ensures first { IfOk result (λ first. first ≡ not (map.contains_key (map.from_entries {R = ref_cmp} (flat tables.old.entries)) (table, key))) }
-    ensures unchanged { OnErr result (tables.new.entries ≡ tables.old.entries) }
-    ensures ordered { IsOrdered nat_cmp tables.new }
+) -> Result<(), NoMemory>
+    ensures put { OnOk result (written_in writes.new ≡ put_own (written_in writes.old) (table, key) before after) }
+    ensures unchanged { OnErr result (written_in writes.new ≡ written_in writes.old) }
 {
-    if let Some(writes) = tables.get_mut(&table) {
-        return writes.put(key, before, after);
-    }
-    let mut writes = TableWrites::new(alloc);
-    writes.put(key, before, after)?;
-    tables.insert(table, writes)?;
-    Ok(true)
-}
-
-/// Makes room for one more write than a count: the count with that one.
-fn hold_one_more(room: &mut Vec<Write>, count: usize) -> Result<usize, NoMemory>
-    requires { vec_len room.old ≡ 0 }
-    ensures more { IfOk result (λ more. more ≡ count + 1) }
-    ensures room { IfOk result (λ more. more ≤ vec_capacity room.new) }
-    ensures kept { vec_capacity room.old ≤ vec_capacity room.new }
-    ensures items { room.new.items ≡ room.old.items }
-    ensures len { vec_len room.new ≡ vec_len room.old }
-{
-    match count.checked_add(1) {
-        None => Err(NoMemory),
-        Some(more) => {
-            room.reserve(more)?;
-            Ok(more)
-        }
-    }
-}
-
-/// Puts the net writes of tables, one after the other, at the end of others, which have room for them.
-fn push_tables(tables: BTreeMap<u32, TableWrites>, writes: &mut Vec<Write>)
-    requires { vec_len writes.old + length (flat tables.entries) ≤ vec_capacity writes.old }
-    ensures { writes.new.items ≡ writes.old.items ++ net_writes (flat tables.entries) }
-{
-    for (table, own) in tables {
-        own.push_net(table, writes);
+    match writes {
+        Writes::Few(own) => own.put(table, key, before, after),
+        Writes::Many(own) => own.put(table, key, before, after),
     }
 }
 
@@ -118,20 +94,18 @@ impl Overlay {
     {
         Overlay {
             alloc,
-            tables: BTreeMap::new(alloc),
-            count: 0,
-            room: Vec::new(alloc),
+            writes: Writes::Few(ListedWrites::new(alloc)),
         }
     }
 
     /// The row that the transaction sees at a key: the one that it left there, none where it deleted it, and `base` where it
     /// did not write the key. Takes no memory.
     pub fn look<'a>(&'a self, table: u32, key: &Key, base: Option<&'a Row>) -> Option<&'a Row>
-        ensures { option_copied result ≡ own_or (map.get (own_of self.now) (table, key.now)) (option_copied base.entry) }
+        ensures { option_copied result ≡ unwrap_or (map.get (own_of self.now) (table, key.now)) (option_copied base.entry) }
     {
-        match self.tables.get(&table) {
-            None => base,
-            Some(writes) => writes.look(key, base),
+        match &self.writes {
+            Writes::Few(own) => own.look(table, key, base),
+            Writes::Many(own) => own.look(table, key, base),
         }
     }
 
@@ -139,9 +113,9 @@ impl Overlay {
     pub fn left_at(&self, table: u32, key: &Key) -> Option<&Option<Row>>
         ensures { option_copied result ≡ map.get (own_of self.now) (table, key.now) }
     {
-        match self.tables.get(&table) {
-            None => None,
-            Some(writes) => writes.left_at(key),
+        match &self.writes {
+            Writes::Few(own) => own.left_at(table, key),
+            Writes::Many(own) => own.left_at(table, key),
         }
     }
 
@@ -149,9 +123,9 @@ impl Overlay {
     pub fn has_written(&self, table: u32) -> bool
         ensures { result ≡ false → (def : Def) (column : ℕ) (low high : Maybe Cell) (seens : List SeenRow) → merged def (Span table column low high) (own_of self.now) seens ≡ rows_of seens }
     {
-        match self.tables.get(&table) {
-            None => false,
-            Some(_) => true,
+        match &self.writes {
+            Writes::Few(own) => own.has_written(table),
+            Writes::Many(own) => own.has_written(table),
         }
     }
 
@@ -169,11 +143,8 @@ impl Overlay {
         ensures found { (declared : List Def) (tables : Tables) → before ≡ row_in declared tables (table, key) → AreFound declared tables self.old → AreFound declared tables self.new }
         ensures unchanged { OnErr result (self.new ≡ self.old) }
     {
-        let more = hold_one_more(&mut self.room, self.count)?;
-        if put_in(self.alloc, &mut self.tables, table, key, before, after)? {
-            self.count = more;
-        }
-        Ok(())
+        spread(self.alloc, &mut self.writes)?;
+        put_in(&mut self.writes, table, key, before, after)
     }
 
     /// The rows that the transaction sees at a read of a table, whose declaration is passed: those that were read of the tables,
@@ -194,9 +165,9 @@ impl Overlay {
                 let row = self.look(*table, key, first_of(base.as_slice()));
                 one_or_none(alloc, row)
             }
-            Read::Span { table, .. } => match self.tables.get(table) {
-                None => rows_seen(alloc, base.as_slice()),
-                Some(writes) => merge_table(alloc, def, read, writes, base.as_slice()),
+            Read::Span { table, .. } => match &self.writes {
+                Writes::Few(own) => own.merge_span(alloc, def, *table, read, base),
+                Writes::Many(own) => own.merge_span(alloc, def, *table, read, base),
             },
         }
     }
@@ -207,9 +178,10 @@ impl Overlay {
         ensures net { result ≡ net_writes (map.entries self) }
         ensures found { (declared : List Def) (tables : Tables) → AreFound declared tables self → result ≡ net declared tables (own_of self) }
     {
-        let Overlay { tables, room, .. } = self;
-        let mut writes = room;
-        push_tables(tables, &mut writes);
-        List::from_vec(writes)
+        let Overlay { writes, .. } = self;
+        match writes {
+            Writes::Few(own) => own.net(),
+            Writes::Many(own) => own.net(),
+        }
     }
 }

@@ -1,12 +1,11 @@
 //! A transaction's own writes of one table.
 
-ghost use Rattle.std.specs.Prelude.{◌≡◌, ◌+◌, ◌≤◌, ◌++◌, IfOk, IfSome, OnErr, OnOk, not, is_some, length};
+ghost use Rattle.std.specs.Prelude.{◌≡◌, ◌+◌, ◌≤◌, ◌++◌, IfOk, IfSome, OnErr, OnOk, not, is_some, length, unwrap_or};
 ghost use Rattle.std.specs.BTreeMap.{IsOrdered};
 ghost use Rattle.std.specs.FinMap as map;
 ghost use Rattle.std.specs.FinMap.Entries.{find};
 ghost use Rattle.std.specs.Option.{option_copied, option_map};
 ghost use Rattle.std.specs.Vec.{vec_len, vec_capacity};
-ghost use Rattle.rel_base.specs.OwnWrites.{own_or};
 ghost use Rattle.rel_base.specs.Value.{key_cmp};
 ghost use Rattle.row_sets.specs.Overlay.{in_table, lay_keys, net_writes, put_own};
 
@@ -75,7 +74,7 @@ impl TableWrites {
 
     /// The row that was left at a key, where the key was written, and else another.
     pub fn look<'a>(&'a self, key: &Key, base: Option<&'a Row>) -> Option<&'a Row>
-        ensures { option_copied result ≡ own_or (option_map (λ own. own.after) (map.get self.now key.now)) (option_copied base.entry) }
+        ensures { option_copied result ≡ unwrap_or (option_map (λ own. own.after) (map.get self.now key.now)) (option_copied base.entry) }
     {
         match find_in_order(self.few.as_slice(), key) {
             None => look_many(&self.many, key, base),
@@ -144,7 +143,7 @@ fn look_many<'a>(
     key: &Key,
     base: Option<&'a Row>,
 ) -> Option<&'a Row>
-    ensures { option_copied result ≡ own_or (option_map (λ own. own.after) (find key_cmp key.now many.now.entries)) (option_copied base.entry) }
+    ensures { option_copied result ≡ unwrap_or (option_map (λ own. own.after) (find key_cmp key.now many.now.entries)) (option_copied base.entry) }
 {
     match many.get(key) {
         None => base,
@@ -183,7 +182,7 @@ fn put_many(
 }
 
 /// The row that may be there.
-fn row_of(row: &Option<Row>) -> Option<&Row>
+pub fn row_of(row: &Option<Row>) -> Option<&Row>
     ensures { option_copied result ≡ row.now }
 {
     match row {

@@ -1,5 +1,5 @@
 use Rattle.std.proofs.Common.{◌≡◌, ◌∙◌, ◌+◌, ◌++◌, ◌∷◌, [], Some, ap, append_assoc, append-nil, arith, drop, rules, slice_get, suc, sym}
-use Rattle.row_sets.proofs.BlockWrites.{from_end, from_none, from_other, from_own}
+use Rattle.row_sets.proofs.BlockWrites.{from_other, from_own}
 use Rattle.row_sets.proofs.block_writes.block_from.Goals as goal
 use Rattle.row_sets.specs.BlockWrites.{writes_from}
 use Rattle.row_sets.specs.Versions.{write_of}

@@ -1,26 +1,19 @@
 use Rattle.std.proofs.Common.{◌≡◌, ap, sym, ◌∙◌}
 use Rattle.std.specs.FinMap.{get}
-use Rattle.std.specs.Option.{option_copied, option_map}
+use Rattle.row_sets.specs.Forms.{written_in}
 use Rattle.row_sets.specs.Overlay.{own_of}
-use Rattle.row_sets.specs.declared.table_writes.OwnWrite.{OwnWrite}
-use Rattle.row_sets.proofs.Flat.{get_in}
-use Rattle.row_sets.proofs.Owns.{own_in}
+use Rattle.row_sets.specs.declared.overlay.Writes.TheVariants.{Few, Many}
+use Rattle.row_sets.proofs.Listing.{Ref}
 use Rattle.row_sets.proofs.overlay.Overlay.left_at.Goals as goal
 
--- the table was not written
-pub returns-in-None : goal.returns-in-None
-returns-in-None c =
-    let key = c.args.key.now in
-    let left : get (own_of c.args.self.now) (c.args.table, key) ≡ option_map (λ (own : OwnWrite). own.after) (get_in (option_copied c.get.result) key) =
-    ap (λ writes. get (own_of writes) (c.args.table, key)) (sym c.self.view_is) ∙ own_in c.self.inside.tables.entries c.self.invariant.ordered c.args.table key
-    ∙ ap (λ found. option_map (λ (own : OwnWrite). own.after) (get_in found key)) (sym c.get.ensures.value) in
-    sym (left ∙ ap (λ found. option_map (λ (own : OwnWrite). own.after) (get_in (option_copied found) key)) c.in-None.is)
+pub returns-in-Few : goal.returns-in-Few
+returns-in-Few c =
+    let ref : Ref = (c.args.table, c.args.key.now) in
+    let same : written_in (Few c.in-Few.own) ≡ c.args.self.now = ap written_in (sym c.in-Few.is) ∙ c.self.view_is in
+    c.left_at.ensures ∙ ap (λ own. get (own_of own) ref) same
 
--- its own writes are asked
-pub returns-in-Some : goal.returns-in-Some
-returns-in-Some c =
-    let key = c.args.key.now in
-    let left : get (own_of c.args.self.now) (c.args.table, key) ≡ option_map (λ (own : OwnWrite). own.after) (get_in (option_copied c.get.result) key) =
-    ap (λ writes. get (own_of writes) (c.args.table, key)) (sym c.self.view_is) ∙ own_in c.self.inside.tables.entries c.self.invariant.ordered c.args.table key
-    ∙ ap (λ found. option_map (λ (own : OwnWrite). own.after) (get_in found key)) (sym c.get.ensures.value) in
-    c.left_at.ensures ∙ sym (left ∙ ap (λ found. option_map (λ (own : OwnWrite). own.after) (get_in (option_copied found) key)) c.in-Some.is)
+pub returns-in-Many : goal.returns-in-Many
+returns-in-Many c =
+    let ref : Ref = (c.args.table, c.args.key.now) in
+    let same : written_in (Many c.in-Many.own) ≡ c.args.self.now = ap written_in (sym c.in-Many.is) ∙ c.self.view_is in
+    c.left_at-in-Many.ensures ∙ ap (λ own. get (own_of own) ref) same

@@ -1,36 +1,23 @@
-use Rattle.std.proofs.Common.{◌≡◌, ap, sym, subst, ◌∙◌, IfOk, List, map}
-use Rattle.std.specs.FinMap.{entries}
-use Rattle.std.specs.Option.{option_copied}
-use Rattle.rel_base.specs.OwnWrites.{keyed, merged}
-use Rattle.rel_base.specs.declared.access.Read.TheVariants.{Span}
+use Rattle.std.proofs.Common.{◌≡◌, ap, sym, subst, ◌∙◌, IfOk, List}
+use Rattle.rel_base.specs.OwnWrites.{merged}
 use Rattle.rel_base.specs.declared.value.Value.{Value}
-use Rattle.row_sets.specs.Overlay.{lay_keys, own_of}
-use Rattle.row_sets.proofs.Filling.{keyed_rows}
-use Rattle.row_sets.proofs.Laid.{lay_in, merged_span}
+use Rattle.row_sets.specs.Forms.{written_in}
+use Rattle.row_sets.specs.Overlay.{own_of}
+use Rattle.row_sets.specs.declared.overlay.Writes.TheVariants.{Few, Many}
 use Rattle.row_sets.proofs.overlay.Overlay.merge.Goals as goal
 
--- a span of a table that was not written
-pub returns-in-None : goal.returns-in-None
-returns-in-None c =
-    let def = c.args.def.now in
-    let base = c.args.base.now in
-    let span = Span c.in-Span.table c.in-Span.column c.in-Span.low c.in-Span.high in
-    let found = sym c.get.ensures.value ∙ ap option_copied c.in-None.is in
-    let seen : merged def c.args.read.now (own_of c.args.self.now) base ≡ map (λ e. e.1) (keyed def base) =
-    (λ i. merged def (c.in-Span.is i) (own_of (sym c.self.view_is i)) base) ∙ merged_span def c.self.inside.tables.entries c.self.invariant.ordered c.in-Span.table c.in-Span.column c.in-Span.low c.in-Span.high base
-    ∙ ap (λ own. map (λ e. e.1) (lay_in def span (keyed def base) own)) found in
-    subst (λ (wanted : List (List Value)). IfOk c.rows_seen.result (λ rows. rows ≡ wanted)) (ap (map (λ seen. seen.row)) c.as_slice-in-None.ensures ∙ sym (seen ∙ keyed_rows def base)) c.rows_seen.ensures
+pub merge_span-requires-clause-span : goal.merge_span-requires-clause-span
+merge_span-requires-clause-span c = (c.in-Span.column, c.in-Span.low, c.in-Span.high, c.in-Span.is)
 
--- a span of a table that was written
-pub returns-in-Some : goal.returns-in-Some
-returns-in-Some c =
-    let def = c.args.def.now in
-    let base = c.args.base.now in
-    let span = Span c.in-Span.table c.in-Span.column c.in-Span.low c.in-Span.high in
-    let found = sym c.get.ensures.value ∙ ap option_copied c.in-Some.is in
-    let own = entries c.in-Some.writes.now in
-    let seen : merged def c.args.read.now (own_of c.args.self.now) base ≡ map (λ e. e.1) (lay_keys def span (keyed def base) own) =
-    (λ i. merged def (c.in-Span.is i) (own_of (sym c.self.view_is i)) base) ∙ merged_span def c.self.inside.tables.entries c.self.invariant.ordered c.in-Span.table c.in-Span.column c.in-Span.low c.in-Span.high base
-    ∙ ap (λ own. map (λ e. e.1) (lay_in def span (keyed def base) own)) found in
-    subst (λ (wanted : List (List Value)). IfOk c.merge_table.result (λ rows. rows ≡ wanted))
-    ((λ i. map (λ e. e.1) (lay_keys def (c.in-Span.is i) (keyed def (c.as_slice-in-Some.ensures i)) own)) ∙ sym seen) c.merge_table.ensures
+pub merge_span-requires-in-Many-clause-span : goal.merge_span-requires-in-Many-clause-span
+merge_span-requires-in-Many-clause-span c = (c.in-Span.column, c.in-Span.low, c.in-Span.high, c.in-Span.is)
+
+pub returns-in-Few : goal.returns-in-Few
+returns-in-Few c =
+    let same : written_in (Few c.in-Few.own) ≡ c.args.self.now = ap written_in (sym c.in-Few.is) ∙ c.self.view_is in
+    subst (λ (wanted : List (List Value)). IfOk c.merge_span.result (λ rows. rows ≡ wanted)) (ap (λ own. merged c.args.def.now c.args.read.now (own_of own) c.args.base.now) same) c.merge_span.ensures
+
+pub returns-in-Many : goal.returns-in-Many
+returns-in-Many c =
+    let same : written_in (Many c.in-Many.own) ≡ c.args.self.now = ap written_in (sym c.in-Many.is) ∙ c.self.view_is in
+    subst (λ (wanted : List (List Value)). IfOk c.merge_span-in-Many.result (λ rows. rows ≡ wanted)) (ap (λ own. merged c.args.def.now c.args.read.now (own_of own) c.args.base.now) same) c.merge_span-in-Many.ensures

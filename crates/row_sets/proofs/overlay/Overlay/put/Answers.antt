@@ -1,50 +1,28 @@
-use Rattle.std.proofs.Common.{◌+◌, ap, sym, subst, ◌∙◌, cond, arith, length}
-use Rattle.row_sets.specs.Overlay.{AreFound, Written, flat, own_of, put_own}
-use Rattle.row_sets.proofs.Flat.{counted_put}
+use Rattle.std.proofs.Common.{◌∙◌, ap, subst, sym}
+use Rattle.row_sets.specs.Overlay.{AreFound, Written, own_of, put_own}
+use Rattle.row_sets.proofs.Listing.{Ref}
+use Rattle.row_sets.proofs.Endings.{either_way, on_err_then, on_ok_then}
 use Rattle.row_sets.proofs.Owns.{found_put, own_of_put}
 use Rattle.row_sets.proofs.overlay.Overlay.put.Goals as goal
 
--- a key that was not written
-pub invariant_of-self-then-branch : goal.invariant_of-self-then-branch
-invariant_of-self-then-branch c =
-    let old = flat c.self.inside.tables.entries in
-    let counted = counted_put c.self.inside.tables.entries c.put_in.new.tables.entries c.self.invariant.ordered c.put_in.ensures.ordered (c.args.table, c.args.key) c.args.before c.args.after c.in_ok-put_in.field-0 c.in_ok-put_in.ensures.put c.in_ok-put_in.ensures.first in
-    record {
-      ordered = c.put_in.ensures.ordered;
-      counted = counted ∙ ap (λ new. cond new (length old + 1) (length old)) c.if-branch.true ∙ ap (λ n. n + 1) c.self.invariant.counted ∙ sym c.in_ok-more.ensures.more;
-      empty = (c.hold_one_more.ensures.items ∙ c.self.invariant.empty.0, c.hold_one_more.ensures.len ∙ c.self.invariant.empty.1);
-      enough = c.in_ok-more.ensures.room;
-    }
+pub returns-clause-put : goal.returns-clause-put
+returns-clause-put c =
+    let ref : Ref = (c.args.table, c.args.key) in
+    on_ok_then c.put_in.result (λ put. put ∙ ap (λ (own : Written). put_own own ref c.args.before c.args.after) (c.spread.ensures ∙ c.self.view_is)) c.put_in.ensures.put
 
--- a key that was written
-pub invariant_of-self-else-branch : goal.invariant_of-self-else-branch
-invariant_of-self-else-branch c =
-    let old = flat c.self.inside.tables.entries in
-    let counted = counted_put c.self.inside.tables.entries c.put_in.new.tables.entries c.self.invariant.ordered c.put_in.ensures.ordered (c.args.table, c.args.key) c.args.before c.args.after c.in_ok-put_in.field-0 c.in_ok-put_in.ensures.put c.in_ok-put_in.ensures.first in
-    let enough = c.self.invariant.enough in
-    record {
-      ordered = c.put_in.ensures.ordered;
-      counted = counted ∙ ap (λ new. cond new (length old + 1) (length old)) c.if-branch.false ∙ c.self.invariant.counted;
-      empty = (c.hold_one_more.ensures.items ∙ c.self.invariant.empty.0, c.hold_one_more.ensures.len ∙ c.self.invariant.empty.1);
-      enough = omega (arith, enough, c.hold_one_more.ensures.kept);
-    }
+pub returns-clause-own : goal.returns-clause-own
+returns-clause-own c =
+    let ref : Ref = (c.args.table, c.args.key) in
+    on_ok_then c.put_in.result (λ put. ap own_of (put ∙ ap (λ (own : Written). put_own own ref c.args.before c.args.after) (c.spread.ensures ∙ c.self.view_is)) ∙ own_of_put c.args.self.now ref c.args.before c.args.after) c.put_in.ensures.put
 
-pub returns-then-branch-clause-own : goal.returns-then-branch-clause-own
-returns-then-branch-clause-own c =
-    ap own_of (c.in_ok-put_in.ensures.put ∙ ap (λ (writes : Written). put_own writes (c.args.table, c.args.key) c.args.before c.args.after) c.self.view_is)
-    ∙ own_of_put c.args.self.now (c.args.table, c.args.key) c.args.before c.args.after
+pub returns-clause-found : goal.returns-clause-found
+returns-clause-found c declared tables is found =
+    let ref : Ref = (c.args.table, c.args.key) in
+    let same = c.spread.ensures ∙ c.self.view_is in
+    either_way c.put_in.result
+    (λ put. subst (AreFound declared tables) (sym (put ∙ ap (λ (own : Written). put_own own ref c.args.before c.args.after) same)) (found_put declared tables c.args.self.now ref c.args.before c.args.after is found))
+    (λ unchanged. subst (AreFound declared tables) (sym (unchanged ∙ same)) found)
+    c.put_in.ensures.put c.put_in.ensures.unchanged
 
-pub returns-then-branch-clause-found : goal.returns-then-branch-clause-found
-returns-then-branch-clause-found c declared tables is found =
-    subst (AreFound declared tables) (sym (c.in_ok-put_in.ensures.put ∙ ap (λ (writes : Written). put_own writes (c.args.table, c.args.key) c.args.before c.args.after) c.self.view_is))
-    (found_put declared tables c.args.self.now (c.args.table, c.args.key) c.args.before c.args.after is found)
-
-pub returns-else-branch-clause-own : goal.returns-else-branch-clause-own
-returns-else-branch-clause-own c =
-    ap own_of (c.in_ok-put_in.ensures.put ∙ ap (λ (writes : Written). put_own writes (c.args.table, c.args.key) c.args.before c.args.after) c.self.view_is)
-    ∙ own_of_put c.args.self.now (c.args.table, c.args.key) c.args.before c.args.after
-
-pub returns-else-branch-clause-found : goal.returns-else-branch-clause-found
-returns-else-branch-clause-found c declared tables is found =
-    subst (AreFound declared tables) (sym (c.in_ok-put_in.ensures.put ∙ ap (λ (writes : Written). put_own writes (c.args.table, c.args.key) c.args.before c.args.after) c.self.view_is))
-    (found_put declared tables c.args.self.now (c.args.table, c.args.key) c.args.before c.args.after is found)
+pub returns-clause-unchanged : goal.returns-clause-unchanged
+returns-clause-unchanged c = on_err_then c.put_in.result (λ unchanged. unchanged ∙ c.spread.ensures ∙ c.self.view_is) c.put_in.ensures.unchanged

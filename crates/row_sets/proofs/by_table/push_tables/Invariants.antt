@@ -1,7 +1,7 @@
 use Rattle.std.proofs.Common.{◌≡◌, ◌≤◌, ◌+◌, ◌++◌, length}
 use Rattle.std.specs.Vec.{vec_len, vec_capacity}
 use Rattle.row_sets.specs.Overlay.{flat, net_writes}
-use Rattle.row_sets.proofs.overlay.push_tables.Given as goal
+use Rattle.row_sets.proofs.by_table.push_tables.Given as goal
 
 -- the writes so far with those of the tables that are left, for which there is room
 abbrev pub invariant-loop-table : goal.invariant-loop-table

@@ -7,7 +7,7 @@ use Rattle.rel_base.specs.declared.access.Write.{Write}
 use Rattle.row_sets.specs.Overlay.{flat, in_table, net_writes}
 use Rattle.row_sets.specs.declared.table_writes.OwnWrite.{OwnWrite}
 use Rattle.row_sets.proofs.Nets.{net_append}
-use Rattle.row_sets.proofs.overlay.push_tables.Goals as goal
+use Rattle.row_sets.proofs.by_table.push_tables.Goals as goal
 
 -- the writes of the next table
 pub loop-table-preserved : goal.loop-table-preserved

@@ -10,7 +10,7 @@ use Rattle.row_sets.specs.Overlay.{put_own}
 use Rattle.row_sets.specs.declared.table_writes.OwnWrite.{OwnWrite}
 use Rattle.row_sets.proofs.Endings.{on_ok_then, on_err_then}
 use Rattle.row_sets.proofs.Flat.{flat_put, get_in, new_key, none_in}
-use Rattle.row_sets.proofs.overlay.put_in.Goals as goal
+use Rattle.row_sets.proofs.by_table.put_in.Goals as goal
 
 abbrev Rows : Type 0
 Rows = FinMap key_cmp OwnWrite
