@@ -9,7 +9,7 @@ LAYERS = [
         [
             ("Rows, tables, reads and writes", ["rel_base.Tables.set_write", "rel_base.Tables.rows", "rel_base.Late.late"]),
             ("What a call of a procedure does", ["proc_syntax.Run.run"]),
-            ("What becomes of a call", ["node_model.Decide.decide"]),
+            ("What becomes of a call", ["node_model.Decide.decide_by"]),
             ("The fold", ["node_model.Fold.fold"]),
         ],
     ),
@@ -106,7 +106,7 @@ the sink took, if it tells, and `W.faults` counts its failed writes ([sink.rt](.
 A definition stands in the first layer that needs it. Lines are counted with comments, and without imports and blank
 lines.
 
-- Layer 1 is the heart: `fold app blocks` says what becomes of each call. Read `decide_by` and `fold_from` first.
+- Layer 1 is the heart: `fold app blocks` says what becomes of each call. Read `decide_by` and `fold` first.
 - Layer 2 makes the fold a report over values: `node_result app blocks` is what each node must come to.
 - Layer 3 makes it bytes: `over_run` is the report of `node_result` over the blocks that the block file has.
 - Layer 4 says which `app` the bytes of an application are.
@@ -121,8 +121,8 @@ Layers 1 and 2, the core, take an afternoon, layer 3 another one, and the rest t
    end of layer 5.
 2. Read layers 1 and 2. Ask of each definition whether it says what [ABORTS.md](ABORTS.md) says. Then read layer 3
    beside [FORMATS.md](FORMATS.md).
-3. Work one example through by hand: take a folder of `tests/cases`, decide each call by `decide`, and compare with its
-   `stdout`.
+3. Work one example through by hand: take a folder of `tests/cases`, decide each call by `decide_by`, and compare
+   with its `stdout`.
 4. Skim layers 4 and 5, and of the other commands what interests you.
 5. Let the machine do what is left: `.ci/run` proves that the program meets the contract. To see that the proof depends
    on what you read, change a definition, as the order of two causes in `early`, and run `rt check` in a crate that uses
@@ -228,6 +228,7 @@ KIT = {
     "IsSomeAnd": "something is there, and a statement holds of it",
     "unwrap_or": "what is there, or else another",
     "option_map": "a function applied to what is there",
+    "option_map_or": "what a function makes of what is there, or else another (`option_map_or f o d`)",
     "option_and_then": "a function that may give nothing, applied to what is there",
     "option_or": "the first, or else the second",
     "option_to_list": "the list of what is there",
@@ -245,6 +246,7 @@ KIT = {
     "filter_map": "what a function gives of the items of which it gives something",
     "flat_map": "the lists that a function makes of each item, one after another",
     "concat": "some lists, one after another",
+    "fold": "what a function makes of a value and the items, one after another (`list.fold`)",
     "find": "the first item that passes a test",
     "list_all": "whether all items pass a test",
     "list_any": "whether one item passes a test",
@@ -269,9 +271,7 @@ KIT = {
     "count_by": "how many items pass a test",
     "sum_by": "the sum of what a function gives of each item",
     "IsPermutation": "the statement that two lists have the same items in some order",
-    "Ordering": "`Less`, `Equal` or `Greater`",
-    "Less": "the first stands before the second",
-    "Greater": "the first stands after the second",
+    "Ordering": "`Less`, `Equal` or `Greater`: how the first of two things stands to the second",
     "nat_cmp": "how two numbers compare",
     "int_cmp": "how two numbers of ℤ compare",
     "bool_cmp": "how two answers compare; false stands before true",

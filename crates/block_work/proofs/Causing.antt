@@ -8,7 +8,7 @@ use Rattle.std.specs.Prelude.{slice_get}
 use Rattle.block_work.proofs.Bounds.{at_place, fitting_few}
 use Rattle.block_work.specs.Causes.{IsCause, before_edges}
 use Rattle.node_model.specs.Danger.{danger}
-use Rattle.node_model.specs.Decide.{by_run, clash, conflict_outcome, danger_outcome, fault_outcome, is_committed, late_outcome, or_committed}
+use Rattle.node_model.specs.Decide.{by_run, clash, conflict_outcome, fault_outcome, is_committed, late_outcome, or_committed}
 use Rattle.node_model.specs.Fold.{join_committed}
 use Rattle.node_model.specs.declared.outcome.Outcome.TheVariants as outcome
 use Rattle.node_model.specs.declared.outcome.Outcome.{Outcome}
@@ -107,15 +107,15 @@ or_last None (Some b) c d = refl
 or_last (Some a) b c d = refl
 
 module _ (exact : Bool) (tables : List TableDef) (since : List Stamped) (committed : List Committed) (ran : Ran) where
-  by_parts : by_run exact tables since committed ran ≡ option_or (before_edges tables since committed ran) (danger_outcome (danger exact tables committed ran.reads ran.writes))
+  by_parts : by_run exact tables since committed ran ≡ option_or (before_edges tables since committed ran) (option_map outcome.Danger (danger exact tables committed ran.reads ran.writes))
   by_parts =
       or_last (late_outcome tables (late tables (map (λ made. made.read) ran.reads) since)) (fault_outcome ran.ending) (conflict_outcome ran.writes (clash committed ran.writes))
-      (danger_outcome (danger exact tables committed ran.reads ran.writes))
+      (option_map outcome.Danger (danger exact tables committed ran.reads ran.writes))
 
   -- where nothing else aborts a transaction, its danger decides
-  pub danger_decides : before_edges tables since committed ran ≡ None → or_committed (danger_outcome (danger exact tables committed ran.reads ran.writes)) ≡ or_committed (by_run exact tables since committed ran)
-  danger_decides none = ap (λ first. or_committed (option_or first (danger_outcome (danger exact tables committed ran.reads ran.writes)))) (sym none) ∙ ap or_committed (sym by_parts)
+  pub danger_decides : before_edges tables since committed ran ≡ None → or_committed (option_map outcome.Danger (danger exact tables committed ran.reads ran.writes)) ≡ or_committed (by_run exact tables since committed ran)
+  danger_decides none = ap (λ first. or_committed (option_or first (option_map outcome.Danger (danger exact tables committed ran.reads ran.writes)))) (sym none) ∙ ap or_committed (sym by_parts)
 
   -- a cause that it shows without its edges comes before a danger
   pub cause_decides : (cause : Outcome) → before_edges tables since committed ran ≡ Some cause → cause ≡ or_committed (by_run exact tables since committed ran)
-  cause_decides cause is = ap (λ first. or_committed (option_or first (danger_outcome (danger exact tables committed ran.reads ran.writes)))) (sym is) ∙ ap or_committed (sym by_parts)
+  cause_decides cause is = ap (λ first. or_committed (option_or first (option_map outcome.Danger (danger exact tables committed ran.reads ran.writes)))) (sym is) ∙ ap or_committed (sym by_parts)

@@ -8,7 +8,8 @@ ghost use Rattle.block_work.specs.Block.{IsConsistent};
 ghost use Rattle.block_work.specs.Causes.{AreOwnEdges, IsVerdictOn, RunFits, before_edges, outcome_of, outcome_of_late};
 ghost use Rattle.conflict_rules.specs.Late.{overtaken_of};
 ghost use Rattle.node_model.specs.Danger.{danger, danger_by};
-ghost use Rattle.node_model.specs.Decide.{by_run, clash, conflict_outcome, danger_outcome, fault_outcome, late_outcome, or_committed};
+ghost use Rattle.node_model.specs.declared.outcome.Outcome.TheVariants as outcome;
+ghost use Rattle.node_model.specs.Decide.{by_run, clash, conflict_outcome, fault_outcome, late_outcome, or_committed};
 ghost use Rattle.proc_check.specs.Sizes.{IsSmall};
 ghost use Rattle.rel_base.specs.Among.{ReadFitsIn};
 ghost use Rattle.rel_base.specs.Late.{late};
@@ -176,7 +177,7 @@ pub fn judge_edges(
     requires few { length work.now.outcomes.items < most_transactions }
     requires fits { RunFits tables.now ran.now }
     ensures outcome { IfOk result (λ verdict. outcome_of verdict
-        ≡ or_committed (danger_outcome (danger exact tables.now work.now.committed.items ran.now.reads ran.now.writes))) }
+        ≡ or_committed (option_map outcome.Danger (danger exact tables.now work.now.committed.items ran.now.reads ran.now.writes))) }
     ensures verdict { IfOk result (λ verdict. IsVerdictOn tables.now work.now.committed.items ran.now verdict) }
 {
     let edges = own_edges(tables, work, ran);

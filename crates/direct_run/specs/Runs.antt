@@ -1,10 +1,10 @@
 -- How a run stands, as the meaning of code has it.
-use Rattle.std.specs.Prelude.{◌≡◌, ℕ, List, Option, Some, None, Result, Err, slice_get}
+use Rattle.std.specs.Prelude.{◌≡◌, ℕ, List, Option, Some, None, Result, Err, slice_get, unwrap_or}
 use Rattle.std.specs.FinMap as finite
 use Rattle.rel_base.specs.declared.access.Read.TheVariants.{Point}
 use Rattle.rel_base.specs.declared.schema.TableDef.{TableDef}
 use Rattle.rel_base.specs.declared.value.Value.{Value}
-use Rattle.rel_base.specs.OwnWrites.{Own, first_row, own_or}
+use Rattle.rel_base.specs.OwnWrites.{Own, first_row}
 use Rattle.rel_base.specs.Tables.{Tables, rows}
 use Rattle.row_sets.specs.Overlay.{own_of}
 use Rattle.proc_syntax.specs.declared.fault.Fault.TheVariants as fault
@@ -30,7 +30,7 @@ row_at def table key tables = first_row (rows def (Point table key) tables)
 
 -- the row that a run sees at a key
 abbrev pub seen_at : Own → ℕ → List Value → Option (List Value) → Option (List Value)
-seen_at own table key base = own_or (finite.get own (table, key)) base
+seen_at own table key base = unwrap_or (finite.get own (table, key)) base
 
 -- the row with columns set, where a run sees one and it then fits
 abbrev pub with_set : TableDef → List Value → List (ℕ × Value) → Option (List Value) → Result (List Value) Stop

@@ -11,16 +11,17 @@ use Rattle.rel_base.specs.declared.access.Made.{Made}
 use Rattle.rel_base.specs.declared.access.Write.{Write}
 use Rattle.rel_base.specs.declared.schema.TableDef.{TableDef}
 use Rattle.std.specs.List.{list_any}
-use Rattle.std.specs.Option.{option_map, option_or}
-use Rattle.std.specs.Prelude.{Bool, List, None, Option, Some, cond, find, map, nat_le, nat_lt, ◌&&◌, ℕ}
-
-abbrev pub with_partner : {M : Type 0} → (M → M → Bool) → List M → Option M → Option (M × M)
-with_partner related members None = None
-with_partner related members (Some first) = option_map (λ second. (first, second)) (find (related first) members)
+use Rattle.std.specs.Option.{option_and_then, option_map, option_or}
+use Rattle.std.specs.Prelude.{Bool, List, Option, cond, find, map, nat_le, nat_lt, ◌&&◌, ℕ}
 
 -- the first member that is related to some member, and the first to which it is: the least ones, where members stand by position
 abbrev pub first_pair : {M : Type 0} → (M → M → Bool) → List M → Option (M × M)
-first_pair related members = with_partner related members (find (λ first. list_any (related first) members) members)
+first_pair related members =
+    option_and_then (λ first. option_map (λ second. (first, second)) (find (related first) members)) (find (λ first. list_any (related first) members) members)
+
+-- the same by the first member, as proofs have it
+abbrev pub with_partner : {M : Type 0} → (M → M → Bool) → List M → Option M → Option (M × M)
+with_partner related members found = option_and_then (λ first. option_map (λ second. (first, second)) (find (related first) members)) found
 
 -- members of any kind with their positions and the edges among them, and those to which T has an edge and which have one to T
 module _ {M : Type 0} (pos : M → ℕ) (edge : M → M → Bool) (out into : M → Bool) where
@@ -38,13 +39,9 @@ module _ {M : Type 0} (pos : M → ℕ) (edge : M → M → Bool) (out into : M 
       option_or (option_map (λ pair. One (pos pair.0) (pos pair.1)) (first_pair is_form_one members))
       (option_map (λ pair. Two (pos pair.0) (pos pair.1)) (first_pair is_form_two members))
 
-  -- a cycle: the positions on the least path
-  abbrev pub cycle_among : List M → Option Danger
-  cycle_among members = option_map (λ path. Cycle (map pos path)) (least_path pos edge out into members)
-
-  -- with exact isolation a cycle, and else one of the two forms
+  -- with exact isolation a cycle, which is told by the positions on the least path, and else one of the two forms
   abbrev pub danger_by : Bool → List M → Option Danger
-  danger_by exact members = cond exact (cycle_among members) (danger_among members)
+  danger_by exact members = cond exact (option_map (λ path. Cycle (map pos path)) (least_path pos edge out into members)) (danger_among members)
 
 -- the danger of a transaction, by its reads and its writes, with exact isolation or without
 abbrev pub danger : Bool → List TableDef → List Committed → List Made → List Write → Option Danger

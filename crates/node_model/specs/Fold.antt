@@ -18,6 +18,7 @@ use Rattle.proc_syntax.specs.Declaring.{tables_of}
 use Rattle.rel_base.specs.Tables.{Tables}
 use Rattle.rel_base.specs.declared.schema.TableDef.{TableDef}
 use Rattle.std.specs.FinMap as finite
+use Rattle.std.specs.List as list
 use Rattle.std.specs.List.{filter}
 use Rattle.std.specs.Prelude.{List, [], length, map, replicate, ℕ, ◌+◌, ◌++◌, ◌==◌, ◌∷◌}
 
@@ -41,30 +42,30 @@ work_by app chain number work tx ran = let found : Outcome = decide_by app chain
   committed = join_committed work.committed (length work.outcomes + 1) ran found;
 }
 
+abbrev pub sealed_as : Block → Work → SealedBlock
+sealed_as block work = record { number = block.number; time = block.time; outcomes = work.outcomes; committed = work.committed }
+
+-- a block on the results of the blocks before: its transactions are decided in order, each by its run on the tables of its height
+abbrev pub seal : App → List SealedBlock → Block → SealedBlock
+seal app chain block = sealed_as block (list.fold (λ work tx. work_by app chain block.number work tx (run_at app chain tx)) no_work block.txs)
+
+-- the results of a chain of blocks, each on the results of those before
+abbrev pub fold : App → List Block → List SealedBlock
+fold app blocks = list.fold (λ chain block. chain ++ seal app chain block ∷ []) [] blocks
+
+-- ---- the same from any point on, as proofs by induction have it
+
 -- by its run on the tables of its height
 abbrev pub work_on : App → List SealedBlock → ℕ → Work → Tx → Work
 work_on app chain number work tx = work_by app chain number work tx (run_at app chain tx)
 
--- the transactions of a block are decided in order
+-- some transactions of a block are decided in order
 abbrev pub work_through : App → List SealedBlock → ℕ → Work → List Tx → Work
-work_through app chain number work [] = work
-work_through app chain number work (tx ∷ rest) = work_through app chain number (work_on app chain number work tx) rest
-
-abbrev pub sealed_as : Block → Work → SealedBlock
-sealed_as block work = record { number = block.number; time = block.time; outcomes = work.outcomes; committed = work.committed }
-
--- a block on the results of the blocks before
-abbrev pub seal : App → List SealedBlock → Block → SealedBlock
-seal app chain block = sealed_as block (work_through app chain block.number no_work block.txs)
+work_through app chain number work txs = list.fold (work_on app chain number) work txs
 
 -- blocks in order, on the results of those before
 abbrev pub fold_from : App → List SealedBlock → List Block → List SealedBlock
-fold_from app chain [] = chain
-fold_from app chain (block ∷ rest) = fold_from app (chain ++ seal app chain block ∷ []) rest
-
--- the results of a chain of blocks
-abbrev pub fold : App → List Block → List SealedBlock
-fold app blocks = fold_from app [] blocks
+fold_from app chain blocks = list.fold (λ chain block. chain ++ seal app chain block ∷ []) chain blocks
 
 -- ---- what a node reports
 

@@ -2,6 +2,7 @@
 use Rattle.std.proofs.Common.{All, Bool, List, None, Option, Some, [], arith, false, length, map, refl, true, ◌++◌, ◌+◌, ◌<◌, ◌≡◌, ◌≤◌, ◌∷◌, ℕ, ◌^◌}
 use Rattle.std.proofs.lemmas.List.Elements.{All-cons, All-nil}
 use Rattle.std.proofs.lemmas.List.{length-append, length-map}
+use Rattle.std.specs.List.{cons_option}
 use Rattle.std.specs.Prelude.{Err, Ok, Result, nat_le}
 use Rattle.proc_check.specs.Apps.{walk_app}
 use Rattle.proc_check.specs.Sizes.{IsSmall}
@@ -9,7 +10,7 @@ use Rattle.proc_check.specs.Tables.{listed, walk_table}
 use Rattle.proc_check.specs.Walk.{fresh, in_order, refuse, ◌>>=◌}
 use Rattle.proc_check.specs.declared.fault.Bad.{Bad}
 use Rattle.proc_check.specs.declared.fault.BadKind.TheVariants.{Limit}
-use Rattle.proc_syntax.specs.Declaring.{column_number, column_of, declare, known_columns, tables_of, with_number}
+use Rattle.proc_syntax.specs.Declaring.{column_number, column_of, declare, known_columns, tables_of}
 use Rattle.proc_syntax.specs.declared.tree.App.{App}
 use Rattle.proc_syntax.specs.declared.tree.ColumnText.{ColumnText}
 use Rattle.proc_syntax.specs.declared.tree.Named.{Named}
@@ -71,7 +72,7 @@ few_enough app is = omega (arith, few_tables app is)
 
 -- ---- each table
 
-with_one : (found : Option ℕ) (numbers : List ℕ) → length (with_number found numbers) ≤ length numbers + 1
+with_one : (found : Option ℕ) (numbers : List ℕ) → length (cons_option found numbers) ≤ length numbers + 1
 with_one None numbers = omega arith
 with_one (Some number) numbers = omega arith
 

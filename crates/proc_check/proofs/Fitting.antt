@@ -1,6 +1,6 @@
 -- Rows that fit their table: those that are read, those that the transaction wrote, and rows with columns set.
 use Rattle.std.proofs.Common.{◌≡◌, ℕ, refl, sym, ap, subst, ◌∙◌, List, [], ◌∷◌, map, Bool, true, false, cond, not, ◌==◌, Option, Some, None, IfSome}
-use Rattle.std.specs.Prelude.{slice_get}
+use Rattle.std.specs.Prelude.{slice_get, unwrap_or}
 use Rattle.std.specs.FinMap as finite
 use Rattle.std.specs.FinMap.Entries.{put, by_order, where_key, find}
 use Rattle.std.specs.List.{AllByRecursion, filter}
@@ -19,7 +19,7 @@ use Rattle.rel_base.specs.Schema.{RowFits, key_of_row}
 use Rattle.rel_base.specs.Tables.{Tables, rows, rows_among, is_read, ref_cmp, ref_cmp-total, ref_cmp-exact}
 use Rattle.rel_base.specs.Value.{key_cmp}
 use Rattle.rel_base.specs.Among.{StandsIn}
-use Rattle.rel_base.specs.OwnWrites.{Own, Keyed, keyed, set_row, covered, lay, lay_all, first_row, own_or, merged}
+use Rattle.rel_base.specs.OwnWrites.{Own, Keyed, keyed, set_row, covered, lay, lay_all, first_row, merged}
 use Rattle.rel_base.proofs.Bits.{first_true, is_Equal, second_true}
 use Rattle.rel_base.proofs.KeyOrder.{same_key}
 use Rattle.proc_syntax.proofs.Sound.{all_put}
@@ -73,7 +73,7 @@ module _ (declared : List TableDef) where
 
     -- at a point: rows that fit and have the key
     own_row : (key : List Value) (own : Option (Option (List Value))) (seens : List Seen) → IfSome own (λ left. IfSome left (StandsIn declared (table, key)))
-        → AllByRecursion (λ seen. RowFits def seen.row × (covers_row def (Point table key) seen.row ≡ true)) seens → AllByRecursion (Under key) (option_to_list (own_or own (first_row seens)))
+        → AllByRecursion (λ seen. RowFits def seen.row × (covers_row def (Point table key) seen.row ≡ true)) seens → AllByRecursion (Under key) (option_to_list (unwrap_or own (first_row seens)))
     own_row key (Some (Some row)) seens stands all = (at_def (table, key) row refl stands, tt)
     own_row key (Some None) seens stands all = tt
     own_row key None [] stands all = tt

@@ -14,7 +14,7 @@ use Rattle.proc_syntax.specs.declared.run.Stop.TheVariants as stop
 use Rattle.proc_syntax.specs.declared.tree.Op.{Op}
 use Rattle.proc_syntax.specs.declared.tree.Op.TheVariants as op
 use Rattle.proc_syntax.specs.Meaning.{end_has}
-use Rattle.proc_syntax.specs.Values.{◌>>=◌, found, has_kind, have_kinds, number, fits_64, text, sum_of, difference_of, product_of, quotient_of, quotient, remainder_of, negation_of, join_of, flag_of, not_of, compared, and_of, or_of, apply}
+use Rattle.proc_syntax.specs.Values.{◌>>=◌, found, has_kind, have_kinds, number, fits_64, text, quotient, negation_of, flag_of, not_of, compared, and_of, or_of, two_of, apply}
 use Rattle.proc_syntax.proofs.Fits.{kind_holds}
 use Rattle.proc_check.specs.Kinds.{operand_kind, result_kind}
 
@@ -70,8 +70,8 @@ text_kind bytes = elim (nat_le (length bytes) 255) as (λ b. GivesKind kind.Text
 arith_kind : (f : Value → Value → Result Value Stop) → ((a b : ℤ) → GivesKind kind.Int (f (value.Int a) (value.Int b))) → (v w : Value) → has_kind kind.Int v ≡ true → has_kind kind.Int w ≡ true → GivesKind kind.Int (f v w)
 arith_kind f each v w of_v of_w = ints (λ v. GivesKind kind.Int (f v w)) (λ a. ints (λ w. GivesKind kind.Int (f (value.Int a) w)) (each a) w of_w) v of_v
 
-join_kind : (v w : Value) → has_kind kind.Text v ≡ true → has_kind kind.Text w ≡ true → GivesKind kind.Text (join_of v w)
-join_kind v w of_v of_w = texts (λ v. GivesKind kind.Text (join_of v w)) (λ a. texts (λ w. GivesKind kind.Text (join_of (value.Text a) w)) (λ b. text_kind (a ++ b)) w of_w) v of_v
+join_kind : (v w : Value) → has_kind kind.Text v ≡ true → has_kind kind.Text w ≡ true → GivesKind kind.Text (two_of op.Join v w)
+join_kind v w of_v of_w = texts (λ v. GivesKind kind.Text (two_of op.Join v w)) (λ a. texts (λ w. GivesKind kind.Text (two_of op.Join (value.Text a) w)) (λ b. text_kind (a ++ b)) w of_w) v of_v
 
 compared_kind : (test : Ordering → Bool) (k : Kind) (v w : Value) → has_kind k v ≡ true → has_kind k w ≡ true → GivesKind kind.Bool (compared test v w)
 compared_kind test k v w of_v of_w = rw (kind_holds k v of_v, of_w) refl
@@ -121,12 +121,12 @@ module _ (k : Kind) (v : Value) (r : Result Value Stop) (of_v : has_kind k v ≡
   apply_kind op.Le is = by_order is_le
   apply_kind op.Gt is = by_order is_gt
   apply_kind op.Ge is = by_order is_ge
-  apply_kind op.Add is = by_ints sum_of (λ a b. number_kind (a +ℤ b)) is
-  apply_kind op.Sub is = by_ints difference_of (λ a b. number_kind (a -ℤ b)) is
-  apply_kind op.Join is = then_two (join_of v) k kind.Text r (λ w of_w. join_kind v w (rw is of_v) (rw is of_w)) of_r
-  apply_kind op.Mul is = by_ints product_of (λ a b. number_kind (a *ℤ b)) is
-  apply_kind op.Div is = by_ints quotient_of quotient_kind is
-  apply_kind op.Rem is = by_ints remainder_of (λ a b. left_over a b (quotient a b) (quotient_kind a b)) is
+  apply_kind op.Add is = by_ints (two_of op.Add) (λ a b. number_kind (a +ℤ b)) is
+  apply_kind op.Sub is = by_ints (two_of op.Sub) (λ a b. number_kind (a -ℤ b)) is
+  apply_kind op.Join is = then_two (two_of op.Join v) k kind.Text r (λ w of_w. join_kind v w (rw is of_v) (rw is of_w)) of_r
+  apply_kind op.Mul is = by_ints (two_of op.Mul) (λ a b. number_kind (a *ℤ b)) is
+  apply_kind op.Div is = by_ints (two_of op.Div) quotient_kind is
+  apply_kind op.Rem is = by_ints (two_of op.Rem) (λ a b. left_over a b (quotient a b) (quotient_kind a b)) is
 
 -- the whole operator
 pub two_typed : (o : Op) (k given : Kind) (l r : Result Value Stop) → IsOperand (operand_kind o) k → result_kind (operand_kind o) ≡ given → GivesKind k l → GivesKind k r → GivesKind given (l >>= λ v. apply o v r)

@@ -1,7 +1,7 @@
 -- Values of keys and rows, ends of spans and changes of which the check knows the kinds.
 use Rattle.std.proofs.Common.{◌≡◌, ℕ, pos, refl, sym, ap, subst, ◌∙◌, List, [], ◌∷◌, ◌++◌, length, map, take, true, false, ◌||◌, ◌==◌, Ok, Option, Some, None, MatchOption, arith}
 use Rattle.std.specs.Prelude.{slice_get, slice_set, slice_index_or}
-use Rattle.std.specs.List.{AllByRecursion, list_any}
+use Rattle.std.specs.List.{AllByRecursion, cons_option, list_any}
 use Rattle.std.specs.Str.{bytes_eq}
 use Rattle.std.proofs.lemmas.Bool.{eq-eqb}
 use Rattle.std.proofs.Math.Seq.{map-set_same}
@@ -24,7 +24,7 @@ use Rattle.proc_syntax.specs.declared.tree.ColumnText.{ColumnText}
 use Rattle.proc_syntax.specs.declared.tree.Expr.{Expr}
 use Rattle.proc_syntax.specs.declared.tree.Named.{Named}
 use Rattle.proc_syntax.specs.declared.tree.TableText.{TableText}
-use Rattle.proc_syntax.specs.Declaring.{declare, column_number, with_number, known_columns}
+use Rattle.proc_syntax.specs.Declaring.{declare, column_number, known_columns}
 use Rattle.proc_syntax.specs.Meaning.{set_columns}
 use Rattle.proc_syntax.specs.Scope.{Environment, column_in, value_of, values_of, end_of, change_of, changes_of}
 use Rattle.proc_syntax.specs.Values.{has_kind}
@@ -46,7 +46,7 @@ use Rattle.proc_check.proofs.Typed_values.{expr_typed, needed, needed_kind}
 same_number : (number : ℕ) → (number == number) ≡ true
 same_number number = eq-eqb number number refl
 
-with_more : (o : Option ℕ) (number : ℕ) (numbers : List ℕ) → list_any (λ c. c == number) numbers ≡ true → list_any (λ c. c == number) (with_number o numbers) ≡ true
+with_more : (o : Option ℕ) (number : ℕ) (numbers : List ℕ) → list_any (λ c. c == number) numbers ≡ true → list_any (λ c. c == number) (cons_option o numbers) ≡ true
 with_more None number numbers h = h
 with_more (Some n) number numbers h = or_right (n == number) (list_any (λ c. c == number) numbers) h
 
@@ -56,7 +56,7 @@ among : (columns : List ColumnText) (names : List Named) (name : List ℕ) (numb
 among columns [] name number is named = cc
 among columns (n ∷ names) name number is named =
     elim (bytes_eq n.name name)
-    as (λ b. bytes_eq n.name name ≡ b → (b || has_name (λ other. other) names name) ≡ true → list_any (λ c. c == number) (with_number (column_number columns n.name) (known_columns columns names)) ≡ true) [
+    as (λ b. bytes_eq n.name name ≡ b → (b || has_name (λ other. other) names name) ≡ true → list_any (λ c. c == number) (cons_option (column_number columns n.name) (known_columns columns names)) ≡ true) [
       | true ↦ λ same named.
           let here : column_number columns n.name ≡ Some number = ap (column_number columns) (equal_bytes n.name name same) ∙ is in
           rw (here, same_number number) refl
@@ -68,7 +68,7 @@ first_among : (columns : List ColumnText) (names : List Named) (name : List ℕ)
 first_among columns [] name number is named = cc
 first_among columns (n ∷ names) name number is named =
     elim (bytes_eq n.name name)
-    as (λ b. bytes_eq n.name name ≡ b → (b || false) ≡ true → list_any (λ c. c == number) (take 1 (with_number (column_number columns n.name) (known_columns columns names))) ≡ true) [
+    as (λ b. bytes_eq n.name name ≡ b → (b || false) ≡ true → list_any (λ c. c == number) (take 1 (cons_option (column_number columns n.name) (known_columns columns names))) ≡ true) [
       | true ↦ λ same named.
           let here : column_number columns n.name ≡ Some number = ap (column_number columns) (equal_bytes n.name name same) ∙ is in
           rw (here, same_number number) refl
@@ -112,7 +112,7 @@ key_kept columns [] name number v row is unset = refl
 key_kept columns (n ∷ names) name number v row is unset =
     let unset_rest = key_kept columns names name number v row is (or_second (bytes_eq n.name name) _ unset) in
     elim (column_number columns n.name)
-    as (λ o. column_number columns n.name ≡ o → map (value_at (slice_set row number v)) (with_number o (known_columns columns names)) ≡ map (value_at row) (with_number o (known_columns columns names))) [
+    as (λ o. column_number columns n.name ≡ o → map (value_at (slice_set row number v)) (cons_option o (known_columns columns names)) ≡ map (value_at row) (cons_option o (known_columns columns names))) [
       | None ↦ λ at_none. unset_rest
       | Some j ↦ λ at_j.
           ap (λ x. x ∷ map (value_at (slice_set row number v)) (known_columns columns names))
@@ -139,7 +139,7 @@ module _ (tables : List TableText) (scope : List Variable) (environment : Enviro
       let fits = needed (column_kind columns n.name) (type_of tables scope v) step in
       let column = number_at columns n.name fits.0 fits.2 in
       let of_column : slice_index_or (kinds_of columns) column.0 kind.Int ≡ fits.0 = get_or_from_slice_get (kinds_of columns) column.0 fits.0 kind.Int column.2 in
-      subst (λ o. GivesKinds (map (λ c. slice_index_or (kinds_of columns) c kind.Int) (with_number o (known_columns columns names))) (values_of (map declare tables) (v ∷ values) environment)) (sym column.1)
+      subst (λ o. GivesKinds (map (λ c. slice_index_or (kinds_of columns) c kind.Int) (cons_option o (known_columns columns names))) (values_of (map declare tables) (v ∷ values) environment)) (sym column.1)
       (subst (λ k. GivesKinds (k ∷ map (λ c. slice_index_or (kinds_of columns) c kind.Int) (known_columns columns names)) (values_of (map declare tables) (v ∷ values) environment)) (sym of_column)
       (cons_kinds fits.0 (map (λ c. slice_index_or (kinds_of columns) c kind.Int) (known_columns columns names)) (value_of (map declare tables) v environment) (values_of (map declare tables) values environment)
       (expr_typed tables scope environment agrees v fits.0 fits.1) (key_typed columns names values (omega (arith, same)) rest)))

@@ -6,7 +6,8 @@ ghost use Rattle.std.specs.Option.{SomeIff, ok_or, option_map};
 ghost use Rattle.rel_base.specs.declared.value.Value.TheVariants as value;
 ghost use Rattle.proc_syntax.specs.declared.fault.Fault.TheVariants as fault;
 ghost use Rattle.proc_syntax.specs.declared.run.Stop.TheVariants as stop;
-ghost use Rattle.proc_syntax.specs.Values.{number, sum_of, difference_of, product_of, quotient_of, remainder_of, negation_of, join_of};
+ghost use Rattle.proc_syntax.specs.declared.tree.Op.TheVariants as op;
+ghost use Rattle.proc_syntax.specs.Values.{number, negation_of, two_of};
 ghost use Rattle.proc_eval.specs.Gives.{Gives};
 
 use crate::halt::Halt;
@@ -27,7 +28,7 @@ fn fitting(computed: Option<i64>) -> Result<Value, Stop>
 
 /// `left + right`.
 pub fn sum(left: &Value, right: &Value) -> Result<Value, Stop>
-    ensures { result ≡ sum_of left.now right.now }
+    ensures { result ≡ two_of op.Add left.now right.now }
 {
     match (left, right) {
         (Value::Int(left), Value::Int(right)) => fitting(left.checked_add(*right)),
@@ -37,7 +38,7 @@ pub fn sum(left: &Value, right: &Value) -> Result<Value, Stop>
 
 /// `left - right`.
 pub fn difference(left: &Value, right: &Value) -> Result<Value, Stop>
-    ensures { result ≡ difference_of left.now right.now }
+    ensures { result ≡ two_of op.Sub left.now right.now }
 {
     match (left, right) {
         (Value::Int(left), Value::Int(right)) => fitting(left.checked_sub(*right)),
@@ -47,7 +48,7 @@ pub fn difference(left: &Value, right: &Value) -> Result<Value, Stop>
 
 /// `left * right`.
 pub fn product(left: &Value, right: &Value) -> Result<Value, Stop>
-    ensures { result ≡ product_of left.now right.now }
+    ensures { result ≡ two_of op.Mul left.now right.now }
 {
     match (left, right) {
         (Value::Int(left), Value::Int(right)) => fitting(left.checked_mul(*right)),
@@ -57,7 +58,7 @@ pub fn product(left: &Value, right: &Value) -> Result<Value, Stop>
 
 /// `left / right`, truncated toward 0.
 pub fn quotient(left: &Value, right: &Value) -> Result<Value, Stop>
-    ensures { result ≡ quotient_of left.now right.now }
+    ensures { result ≡ two_of op.Div left.now right.now }
 {
     match (left, right) {
         (Value::Int(_), Value::Int(0)) => Err(Stop::Fault(Fault::ZeroDivide)),
@@ -68,7 +69,7 @@ pub fn quotient(left: &Value, right: &Value) -> Result<Value, Stop>
 
 /// `left % right`, with the sign of `left`.
 pub fn remainder(left: &Value, right: &Value) -> Result<Value, Stop>
-    ensures { result ≡ remainder_of left.now right.now }
+    ensures { result ≡ two_of op.Rem left.now right.now }
 {
     match (left, right) {
         (Value::Int(_), Value::Int(0)) => Err(Stop::Fault(Fault::ZeroDivide)),
@@ -89,7 +90,7 @@ pub fn negation(value: &Value) -> Result<Value, Stop>
 
 /// `left ++ right`.
 pub fn join(alloc: Global, left: &Value, right: &Value) -> Result<Value, Halt>
-    ensures { Gives result (join_of left.now right.now) }
+    ensures { Gives result (two_of op.Join left.now right.now) }
 {
     match (left, right) {
         (Value::Text(left), Value::Text(right)) => match left.join(alloc, right) {

@@ -6,7 +6,7 @@ ghost use Rattle.rel_base.specs.Schema.{kind_at, key_of_row, span_columns};
 ghost use Rattle.rel_base.specs.Row.{value_at};
 ghost use Rattle.rel_base.specs.Value.{key_eq, value_eq};
 ghost use Rattle.proc_syntax.specs.Values.{found, has_kind, have_kinds};
-ghost use Rattle.proc_syntax.specs.Meaning.{end_has, span_of, span_on, row_fits, key_for};
+ghost use Rattle.proc_syntax.specs.Meaning.{end_has, span_of, row_fits, key_for};
 ghost use Rattle.proc_eval.specs.Gives.{Gives};
 
 use crate::halt::Halt;
@@ -124,7 +124,7 @@ pub fn span_on(
     low: Option<Value>,
     high: Option<Value>,
 ) -> Option<Read>
-    ensures { result ≡ span_on def.now table column low high }
+    ensures { result ≡ span_of def.now table (Some column) low high }
 {
     let column = span_column(def, column)?;
     let kind = kind_of_column(def, column);

@@ -1,6 +1,6 @@
 -- The row that a transaction sees at a key.
 use Rattle.std.proofs.Common.{◌≡◌, ℕ, refl, ap, subst, sym, ◌∙◌, List, [], ◌∷◌, true, false, Bool, cond, map, Option, Some, None, IfSome, T}
-use Rattle.std.specs.Prelude.{slice_get}
+use Rattle.std.specs.Prelude.{slice_get, unwrap_or}
 use Rattle.std.specs.List.{AllByRecursion, filter}
 use Rattle.std.specs.Option.{option_map, option_to_list}
 use Rattle.std.specs.FinMap as finite
@@ -18,7 +18,7 @@ use Rattle.rel_base.specs.Tables.{Tables, rows, rows_among, is_read, ref_cmp, re
 use Rattle.rel_base.proofs.Commutes.{get-set_entry}
 use Rattle.rel_base.specs.Among.{StandsIn, TablesFit}
 use Rattle.proc_syntax.specs.Laws.{OwnFit, laid, SeesItsWrites}
-use Rattle.rel_base.specs.OwnWrites.{Own, first_row, own_or}
+use Rattle.rel_base.specs.OwnWrites.{Own, first_row}
 use Rattle.rel_base.proofs.Bits.{first, second}
 use Rattle.proc_syntax.proofs.Merging.{entries_set, sees_laid}
 use Rattle.proc_syntax.proofs.Runs.{covers_is, first_is}
@@ -105,13 +105,13 @@ module _ (declared : List TableDef) where
     row_list None = refl
     row_list (Some seen) = refl
 
-    own_row : (block pos : ℕ) (found : Option (Option Row)) (old : Option Seen) → option_map (λ seen. seen.row) (own_seen block pos found old) ≡ own_or found (option_map (λ seen. seen.row) old)
+    own_row : (block pos : ℕ) (found : Option (Option Row)) (old : Option Seen) → option_map (λ seen. seen.row) (own_seen block pos found old) ≡ unwrap_or found (option_map (λ seen. seen.row) old)
     own_row block pos None old = refl
     own_row block pos (Some None) old = refl
     own_row block pos (Some (Some row)) old = refl
 
     pub sees_point : (block pos : ℕ) (tables : Tables) (own : Own) → TablesFit declared tables → OwnFit declared own
-        → option_to_list (own_or (finite.get own (table, key)) (first_row (rows def (Point table key) tables))) ≡ map (λ seen. seen.row) (rows def (Point table key) (laid block pos tables (finite.entries own)))
+        → option_to_list (unwrap_or (finite.get own (table, key)) (first_row (rows def (Point table key) tables))) ≡ map (λ seen. seen.row) (rows def (Point table key) (laid block pos tables (finite.entries own)))
     sees_point block pos tables own fit owns =
         let after = laid block pos tables (finite.entries own) in
         let all = recursion_from_All Stands (finite.entries tables) fit in
@@ -120,7 +120,7 @@ module _ (declared : List TableDef) where
         first_is declared def table key here (finite.entries tables) all ∙ ap (option_map (λ seen. seen.row)) (sym (finite.get-entries tables (table, key))) in
         let is : finite.get after (table, key) ≡ own_seen block pos (finite.get own (table, key)) (finite.get tables (table, key)) =
         get_laid block pos (table, key) (finite.entries own) tables (finite.entries_sorted own) ∙ ap (λ f. own_seen block pos f (finite.get tables (table, key))) (sym (finite.get-entries own (table, key))) in
-        ap (λ o. option_to_list (own_or (finite.get own (table, key)) o)) was
+        ap (λ o. option_to_list (unwrap_or (finite.get own (table, key)) o)) was
         ∙ ap option_to_list (sym (own_row block pos (finite.get own (table, key)) (finite.get tables (table, key))))
         ∙ sym (ap (map (λ seen. seen.row)) (only_one (finite.entries after) all_after (finite.entries_sorted after)) ∙ row_list _ ∙ ap (λ o. option_to_list (option_map (λ seen. seen.row) o)) (sym (finite.get-entries after (table, key)) ∙ is))
 

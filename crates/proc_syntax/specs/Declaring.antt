@@ -1,7 +1,7 @@
 -- The tables that an application declares.
 use Rattle.std.specs.Prelude.{ℕ, ◌+◌, ◌<◌, ◌≤◌, List, [], ◌∷◌, length, map, Bool, true, false, cond, Option, Some, None, All, IfSome}
 use Rattle.std.proofs.Common.{arith, subst, sym}
-use Rattle.std.specs.List.{position_from, AllByRecursion}
+use Rattle.std.specs.List.{position_from, cons_option, filter_map, AllByRecursion}
 use Rattle.std.specs.Str.{bytes_eq}
 use Rattle.std.proofs.lemmas.List.{length-map}
 use Rattle.std.proofs.lemmas.List.Elements.{All-from_recursion}
@@ -16,15 +16,9 @@ use Rattle.proc_syntax.specs.declared.tree.TableText.{TableText}
 abbrev pub column_number : List ColumnText → List ℕ → Option ℕ
 column_number columns name = position_from (λ column. bytes_eq column.name.name name) 0 columns
 
--- a number, where there is one, before others
-abbrev pub with_number : Option ℕ → List ℕ → List ℕ
-with_number None numbers = numbers
-with_number (Some number) numbers = number ∷ numbers
-
--- the numbers of the columns that are named; a name that is no column has none
+-- the numbers of the columns that are named, each of the first column of its name; a name that is no column has none
 abbrev pub known_columns : List ColumnText → List Named → List ℕ
-known_columns columns [] = []
-known_columns columns (named ∷ rest) = with_number (column_number columns named.name) (known_columns columns rest)
+known_columns columns names = filter_map (λ named. position_from (λ column. bytes_eq column.name.name named.name) 0 columns) names
 
 abbrev pub column_of : ColumnText → Column
 column_of column = record { name = column.name.name; kind = column.kind }
@@ -43,7 +37,7 @@ position_below test first (x ∷ xs) =
       | false ↦ weaker (position_from test (first + 1) xs) (first + 1 + length xs) (first + length (x ∷ xs)) (omega arith) (position_below test (first + 1) xs)
     ]
 
-with_below : (found : Option ℕ) (numbers : List ℕ) (bound : ℕ) → IfSome found (λ n. n < bound) → AllByRecursion (λ n. n < bound) numbers → AllByRecursion (λ n. n < bound) (with_number found numbers)
+with_below : (found : Option ℕ) (numbers : List ℕ) (bound : ℕ) → IfSome found (λ n. n < bound) → AllByRecursion (λ n. n < bound) numbers → AllByRecursion (λ n. n < bound) (cons_option found numbers)
 with_below None numbers bound below all = all
 with_below (Some n) numbers bound below all = (below, all)
 

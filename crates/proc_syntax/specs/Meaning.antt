@@ -1,6 +1,6 @@
 -- What the statements of a procedure do, by recursion on their tree. A run has variables and a time, own writes, the reads that it made
 -- and the count of its steps. It ends where its block ends, or where it stops on its way.
-use Rattle.std.specs.Prelude.{ℕ, List, map, Option}
+use Rattle.std.specs.Prelude.{ℕ, List, [], map, unwrap_or}
 use Rattle.rel_base.specs.declared.schema.TableDef.{TableDef}
 use Rattle.rel_base.specs.declared.value.Value.{Value}
 use Rattle.rel_base.specs.Tables.{Tables}
@@ -8,15 +8,13 @@ use Rattle.proc_syntax.specs.declared.fault.Fault.TheVariants as fault
 use Rattle.proc_syntax.specs.declared.run.Binding.{Binding}
 use Rattle.proc_syntax.specs.declared.run.Binding.TheVariants.{Plain, Held}
 use Rattle.proc_syntax.specs.declared.run.Stop.TheVariants as stop
-use Rattle.proc_syntax.specs.declared.tree.Change.{Change}
-use Rattle.proc_syntax.specs.declared.tree.Expr.{Expr}
 use Rattle.proc_syntax.specs.declared.tree.Stmt.{Stmt, Stmt-F, fold-Stmt}
 use Rattle.proc_syntax.specs.declared.tree.Stmt.TheOpen as stmt
-use Rattle.proc_syntax.specs.Scope.{Environment, bind_in, table_named, column_in, value_of, values_of, end_of, changes_of}
+use Rattle.proc_syntax.specs.Scope.{Environment, bind, table_named, column_in, value_of, values_of, end_of, changes_of}
 use Rattle.proc_syntax.specs.Steps as steps
 use Rattle.proc_syntax.specs.Steps.{held_or, each_held, set_to, branch, get_row, for_rows, insert_row, update_row, delete_row}
 pub use Rattle.proc_syntax.specs.Steps.{Going, Stopped, then_do, step_then, with_value, with_some, wrote, asked, in_turn, in_turn_if, with_rows}
-pub use Rattle.proc_syntax.specs.Steps.{point_of, end_has, span_on, span_of, row_fits, key_for, row_under, set_columns, insert_at, update_at, delete_at}
+pub use Rattle.proc_syntax.specs.Steps.{point_of, end_has, span_of, row_fits, key_for, row_under, set_columns, insert_at, update_at, delete_at}
 
 -- ---- a run by names
 
@@ -27,7 +25,7 @@ abbrev pub Progress : Type 0
 Progress = steps.Progress Environment
 
 abbrev pub bound : State → List ℕ → Binding → State
-bound state name binding = record state { environment = bind_in state.environment name binding }
+bound state name binding = record state { environment = record state.environment { variables = bind state.environment.variables name binding } }
 
 -- a name stands for a row of a table from now on
 abbrev pub hold : List ℕ → ℕ → List Value → State → State
@@ -43,42 +41,20 @@ visit table name body = each_held (hold name table) body
 
 -- ---- statements
 
-module _ (declared : List TableDef) where
-  -- a name gets the value of an expression
-  abbrev pub do_set : List ℕ → Expr → State → Progress
-  do_set name e state = set_to (value_of declared e state.environment) (λ v state. bound state name (Plain v)) state
-
-  -- one block where a test holds, and another where it does not
-  abbrev pub do_if : Expr → (State → Progress) → (State → Progress) → State → Progress
-  do_if test body other state = branch (value_of declared test state.environment) body other state
-
 module _ (declared : List TableDef) (tables : Tables) where
-  abbrev pub do_get : List ℕ → List ℕ → List Expr → (State → Progress) → (State → Progress) → State → Progress
-  do_get name table key found absent state = get_row tables (table_named declared table) (values_of declared key state.environment) (hold name) found absent state
-
-  abbrev pub do_for : List ℕ → List ℕ → List ℕ → Option Expr → Option Expr → (State → Progress) → State → Progress
-  do_for name table column low high body state =
-      for_rows tables (table_named declared table) (λ def. column_in def column) (end_of declared low state.environment) (end_of declared high state.environment) (hold name) body state
-
-  abbrev pub do_insert : List ℕ → List Expr → State → Progress
-  do_insert table values state = insert_row tables (table_named declared table) (values_of declared values state.environment) state
-
-  abbrev pub do_update : List ℕ → List Expr → List Change → State → Progress
-  do_update table key changes state = update_row tables (table_named declared table) (values_of declared key state.environment) (λ def. changes_of declared def changes state.environment) state
-
-  abbrev pub do_delete : List ℕ → List Expr → State → Progress
-  do_delete table key state = delete_row tables (table_named declared table) (values_of declared key state.environment) state
-
   -- one step into a statement, once its step is counted: what it does, by what the statements of its blocks do
   abbrev pub act_step : Stmt-F (State → Progress) → State → Progress
-  act_step (stmt.Let name e) state = do_set declared name.name e state
-  act_step (stmt.Assign name e) state = do_set declared name.name e state
-  act_step (stmt.If test body other) state = do_if declared test (in_turn body) (in_turn_if other) state
-  act_step (stmt.Get name table key found absent) state = do_get name.name table.name key (in_turn found) (in_turn absent) state
-  act_step (stmt.For name table column low high body) state = do_for name.name table.name column.name low high (in_turn body) state
-  act_step (stmt.Insert table values) state = do_insert table.name values state
-  act_step (stmt.Update table key changes) state = do_update table.name key changes state
-  act_step (stmt.Delete table key) state = do_delete table.name key state
+  act_step (stmt.Let name e) state = set_to (value_of declared e state.environment) (λ v state. bound state name.name (Plain v)) state
+  act_step (stmt.Assign name e) state = set_to (value_of declared e state.environment) (λ v state. bound state name.name (Plain v)) state
+  act_step (stmt.If test body other) state = branch (value_of declared test state.environment) (in_turn body) (in_turn (unwrap_or other [])) state
+  act_step (stmt.Get name table key found absent) state =
+      get_row tables (table_named declared table.name) (values_of declared key state.environment) (hold name.name) (in_turn found) (in_turn absent) state
+  act_step (stmt.For name table column low high body) state =
+      for_rows tables (table_named declared table.name) (λ def. column_in def column.name) (end_of declared low state.environment) (end_of declared high state.environment) (hold name.name) (in_turn body) state
+  act_step (stmt.Insert table values) state = insert_row tables (table_named declared table.name) (values_of declared values state.environment) state
+  act_step (stmt.Update table key changes) state =
+      update_row tables (table_named declared table.name) (values_of declared key state.environment) (λ def. changes_of declared def changes state.environment) state
+  act_step (stmt.Delete table key) state = delete_row tables (table_named declared table.name) (values_of declared key state.environment) state
   act_step (stmt.Fail text) state = Stopped state (stop.Fault (fault.Failed text))
 
   -- a statement, once its step is counted

@@ -1,7 +1,8 @@
 -- What a call of a procedure gives on tables.
-use Rattle.std.specs.Prelude.{ℕ, ℤ, Bool, cond, List, [], ◌∷◌, map, Option, Some, None}
+use Rattle.std.specs.Prelude.{ℕ, ℤ, Bool, cond, List, [], ◌∷◌, map, Option}
 use Rattle.std.specs.FinMap as finite
 use Rattle.std.specs.List.{find}
+use Rattle.std.specs.Option.{option_map_or}
 use Rattle.std.specs.Str.{bytes_eq}
 use Rattle.rel_base.specs.declared.schema.TableDef.{TableDef}
 use Rattle.rel_base.specs.declared.value.Value.{Value}
@@ -56,11 +57,13 @@ procedure_named app name = find (λ procedure. bytes_eq procedure.name.name name
 abbrev pub takes : ProcDef → List Value → Bool
 takes procedure values = have_kinds (map (λ param. param.kind) procedure.params) values
 
-abbrev pub called : App → List Value → ℤ → Tables → Option ProcDef → Ran
-called app values now tables None = no_run
-called app values now tables (Some procedure) =
-    cond (takes procedure values) (ran (tables_of app) tables (block (tables_of app) tables procedure.body (start procedure values now))) no_run
-
 -- the run of a transaction's call on tables, at a time in seconds, which is what `now` is in it. A call of no procedure, or with arguments that do not fit, is ill typed
 abbrev pub run : App → Tx → ℤ → Tables → Ran
-run app tx time tables = called app tx.args time tables (procedure_named app tx.procedure)
+run app tx time tables =
+    option_map_or (λ procedure. cond (takes procedure tx.args) (ran (tables_of app) tables (block (tables_of app) tables procedure.body (start procedure tx.args time))) no_run)
+    (procedure_named app tx.procedure) no_run
+
+-- the same by the procedure of the name, as proofs have it
+abbrev pub called : App → List Value → ℤ → Tables → Option ProcDef → Ran
+called app values now tables found =
+    option_map_or (λ procedure. cond (takes procedure values) (ran (tables_of app) tables (block (tables_of app) tables procedure.body (start procedure values now))) no_run) found no_run

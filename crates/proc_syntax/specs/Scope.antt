@@ -20,15 +20,10 @@ pub record Environment : Type 0 where
   pub variables : List Variable
   pub now : ℤ
 
--- a name stands for something from now on. Names that go out of scope stay: a checked procedure has no two of one name in scope, and
--- uses none that is out of it, so what stands here for them is never looked at
+-- a name stands for something from now on; names that go out of scope stay, since a checked procedure never looks at them there
 abbrev pub bind : List Variable → List ℕ → Binding → List Variable
 bind [] name binding = record { name = name; binding = binding } ∷ []
 bind (variable ∷ rest) name binding = cond (bytes_eq variable.name name) (record { name = name; binding = binding } ∷ rest) (variable ∷ bind rest name binding)
-
--- a name stands for something from now on, at the same time
-abbrev pub bind_in : Environment → List ℕ → Binding → Environment
-bind_in environment name binding = record environment { variables = bind environment.variables name binding }
 
 abbrev pub binding_of : List Variable → List ℕ → Option Binding
 binding_of variables name = option_map (λ variable. variable.binding) (find (λ variable. bytes_eq variable.name name) variables)

@@ -1,6 +1,7 @@
 -- What the operators of expressions give.
-use Rattle.std.specs.Prelude.{ℕ, ◌^◌, Bool, true, false, not, cond, List, [], ◌∷◌, ◌++◌, length, Result, Ok, Err, Option, Some, None, ℤ, pos, negsuc, ◌+ℤ◌, ◌-ℤ◌, ◌*ℤ◌, neg_ℤ, int_div, int_rem, nat_lt, nat_le, ◌&&◌}
+use Rattle.std.specs.Prelude.{ℕ, ◌^◌, Bool, true, false, not, cond, List, ◌++◌, length, Result, Ok, Err, Option, Some, None, ℤ, pos, negsuc, ◌+ℤ◌, ◌-ℤ◌, ◌*ℤ◌, neg_ℤ, int_div, int_rem, nat_lt, nat_le}
 use Rattle.std.specs.declared.cmp.Ordering.{Ordering}
+use Rattle.std.specs.Cmp.Lexicographic.{pointwise}
 use Rattle.std.specs.Ordering.{int_eq, is_eq, is_ne, is_lt, is_le, is_gt, is_ge}
 use Rattle.rel_base.specs.declared.value.Kind.{Kind}
 use Rattle.rel_base.specs.declared.value.Kind.TheVariants as kind
@@ -35,10 +36,7 @@ has_kind k v = false
 
 -- whether there is one value of each kind, in order
 abbrev pub have_kinds : List Kind → List Value → Bool
-have_kinds [] [] = true
-have_kinds [] (v ∷ vs) = false
-have_kinds (k ∷ ks) [] = false
-have_kinds (k ∷ ks) (v ∷ vs) = has_kind k v && have_kinds ks vs
+have_kinds kinds values = pointwise has_kind kinds values
 
 -- ---- numbers
 
@@ -51,33 +49,9 @@ fits_64 (negsuc n) = nat_lt n (2 ^ 63)
 abbrev pub number : ℤ → Result Value Stop
 number n = cond (fits_64 n) (Ok (value.Int n)) (Err (stop.Fault fault.Overflow))
 
-abbrev pub sum_of : Value → Value → Result Value Stop
-sum_of (value.Int a) (value.Int b) = number (a +ℤ b)
-sum_of v w = Err stop.IllTyped
-
-abbrev pub difference_of : Value → Value → Result Value Stop
-difference_of (value.Int a) (value.Int b) = number (a -ℤ b)
-difference_of v w = Err stop.IllTyped
-
-abbrev pub product_of : Value → Value → Result Value Stop
-product_of (value.Int a) (value.Int b) = number (a *ℤ b)
-product_of v w = Err stop.IllTyped
-
 -- division by 0 has no quotient; else it is truncated toward 0
 abbrev pub quotient : ℤ → ℤ → Result Value Stop
 quotient a b = cond (int_eq b (pos 0)) (Err (stop.Fault fault.ZeroDivide)) (number (int_div a b))
-
-abbrev pub quotient_of : Value → Value → Result Value Stop
-quotient_of (value.Int a) (value.Int b) = quotient a b
-quotient_of v w = Err stop.IllTyped
-
--- what a division leaves, with the sign of the dividend; it overflows where the quotient does
-abbrev pub remainder : ℤ → ℤ → Result Value Stop
-remainder a b = quotient a b >>= λ q. Ok (value.Int (int_rem a b))
-
-abbrev pub remainder_of : Value → Value → Result Value Stop
-remainder_of (value.Int a) (value.Int b) = remainder a b
-remainder_of v w = Err stop.IllTyped
 
 abbrev pub negation_of : Value → Result Value Stop
 negation_of (value.Int a) = number (neg_ℤ a)
@@ -88,10 +62,6 @@ negation_of v = Err stop.IllTyped
 -- a text has at most 255 bytes
 abbrev pub text : List ℕ → Result Value Stop
 text bytes = cond (nat_le (length bytes) 255) (Ok (value.Text bytes)) (Err (stop.Fault fault.TextTooLong))
-
-abbrev pub join_of : Value → Value → Result Value Stop
-join_of (value.Text a) (value.Text b) = text (a ++ b)
-join_of v w = Err stop.IllTyped
 
 -- ---- tests
 
@@ -113,7 +83,7 @@ and_of left right = flag_of left >>= λ b. cond b (right >>= λ v. flag_of v >>=
 abbrev pub or_of : Value → Result Value Stop → Result Value Stop
 or_of left right = flag_of left >>= λ b. cond b (Ok (value.Bool true)) (right >>= λ v. flag_of v >>= λ c. Ok (value.Bool c))
 
--- an operator of two values
+-- an operator of two values; what a division leaves has the sign of the dividend, and overflows where the quotient does
 abbrev pub two_of : Op → Value → Value → Result Value Stop
 two_of op.Or a b = or_of a (Ok b)
 two_of op.And a b = and_of a (Ok b)
@@ -123,12 +93,13 @@ two_of op.Lt a b = compared is_lt a b
 two_of op.Le a b = compared is_le a b
 two_of op.Gt a b = compared is_gt a b
 two_of op.Ge a b = compared is_ge a b
-two_of op.Add a b = sum_of a b
-two_of op.Sub a b = difference_of a b
-two_of op.Join a b = join_of a b
-two_of op.Mul a b = product_of a b
-two_of op.Div a b = quotient_of a b
-two_of op.Rem a b = remainder_of a b
+two_of op.Add (value.Int a) (value.Int b) = number (a +ℤ b)
+two_of op.Sub (value.Int a) (value.Int b) = number (a -ℤ b)
+two_of op.Mul (value.Int a) (value.Int b) = number (a *ℤ b)
+two_of op.Div (value.Int a) (value.Int b) = quotient a b
+two_of op.Rem (value.Int a) (value.Int b) = quotient a b >>= λ q. Ok (value.Int (int_rem a b))
+two_of op.Join (value.Text a) (value.Text b) = text (a ++ b)
+two_of o a b = Err stop.IllTyped
 
 -- an operator of a value and what the right side gives
 abbrev pub apply : Op → Value → Result Value Stop → Result Value Stop

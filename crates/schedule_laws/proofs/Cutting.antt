@@ -1,7 +1,7 @@
 -- What is decided by a record that was cut is what the whole run decides.
 use Rattle.std.proofs.Common.{Bool, IsSome, List, None, Option, Some, [], ap, arith, bytes_eq, cond, false, length, map, refl, subst, sym, true, ◌+◌, ◌++◌, ◌-◌, ◌∙◌, ◌≡◌, ◌∷◌, ℕ}
 use Rattle.node_model.specs.Danger.{danger}
-use Rattle.node_model.specs.Decide.{bad_call, clash, conflict_outcome, danger_outcome, early, fault_outcome, late_outcome, or_committed, run_at, writes_since}
+use Rattle.node_model.specs.Decide.{bad_call, clash, conflict_outcome, early, fault_outcome, late_outcome, or_committed, run_at, writes_since}
 use Rattle.node_model.specs.Fold.{Work, join_committed, work_by, work_on}
 use Rattle.node_model.specs.History.{SealedBlock, history_of, ids_of, ids_told}
 use Rattle.node_model.specs.declared.outcome.Outcome.TheVariants as outcome
@@ -25,7 +25,7 @@ use Rattle.std.proofs.lemmas.List.{map-append}
 use Rattle.std.proofs.lemmas.Option.{none-some, same_Some}
 use Rattle.std.specs.List.{list_any}
 use Rattle.std.specs.Prelude.{nat_le}
-use Rattle.std.specs.Option.{option_or}
+use Rattle.std.specs.Option.{option_map, option_or}
 
 -- ---- late reads
 
@@ -129,7 +129,7 @@ records_decide app sealed work tx recorded tells = by recorded.cut refl where
       let since : List Stamped = writes_since sealed (length sealed + 1) tx in
       let ids : List (List ℕ) = ids_of sealed ++ ids_told work.outcomes in
       let shown : Option LateRead → Ran → Work = λ late ran. done_by (length sealed + 1) work tx ran (early app ids (length sealed + 1) tx)
-      (option_or (late_outcome (tables_of app) late) (option_or (fault_outcome ran.ending) (option_or (conflict_outcome ran.writes (clash work.committed ran.writes)) (danger_outcome (danger app.exact (tables_of app) work.committed ran.reads ran.writes))))) in
+      (option_or (late_outcome (tables_of app) late) (option_or (fault_outcome ran.ending) (option_or (conflict_outcome ran.writes (clash work.committed ran.writes)) (option_map outcome.Danger (danger app.exact (tables_of app) work.committed ran.reads ran.writes))))) in
       by_late (length sealed + 1) work tx recorded.ran (run_at app sealed tx) (tables_of app) (early app ids (length sealed + 1) tx) _ _ (late (tables_of app) (reads_of recorded.ran.reads) since) found.0
       (early_leaves work.committed (length work.outcomes + 1) recorded.ran (run_at app sealed tx) app ids (length sealed + 1) tx)
       ∙ ap (λ late. shown late (run_at app sealed tx)) (sym found.1)

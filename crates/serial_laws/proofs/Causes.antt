@@ -1,7 +1,7 @@
 -- What it says of a transaction that it committed: none of the causes applies.
 use Rattle.std.proofs.Common.{All, List, None, Option, Some, [], arith, cond, inl, inr, map, refl, subst, sym, false, true, ◌++◌, ◌≡◌, ◌∷◌, ℕ}
 use Rattle.node_model.specs.Danger.{danger}
-use Rattle.node_model.specs.Decide.{bad_call, by_run, clash, clash_at, conflict_outcome, danger_outcome, decide, duplicate, early, fault_outcome, first_shared, future, is_shared, late_outcome, or_committed, run_at, writes_since}
+use Rattle.node_model.specs.Decide.{bad_call, by_run, clash, clash_at, conflict_outcome, decide, duplicate, early, fault_outcome, first_shared, future, is_shared, late_outcome, or_committed, run_at, writes_since}
 use Rattle.node_model.specs.History.{SealedBlock, ids_of, ids_told}
 use Rattle.node_model.specs.declared.danger.Danger.{Danger}
 use Rattle.node_model.specs.declared.outcome.Outcome.TheVariants as outcome
@@ -85,7 +85,7 @@ abort_conflict writes (Some found) = by_write (slice_get writes found.1)
     by_write None = tt
     by_write (Some write) = λ e. cc
 
-abort_danger : (found : Option Danger) → IsAbort (danger_outcome found)
+abort_danger : (found : Option Danger) → IsAbort (option_map outcome.Danger found)
 abort_danger None = tt
 abort_danger (Some found) = λ e. cc
 
@@ -183,5 +183,5 @@ has_no_cause app chain number outcomes committed tx e =
     (abort_late (tables_of app) (late (tables_of app) (map (λ made. made.read) ran.reads) (writes_since chain number tx))) one.1 in
     let three = both_none (fault_outcome ran.ending) _ (abort_fault ran.ending) two.1 in
     let four = both_none (conflict_outcome ran.writes (clash committed ran.writes)) _ (abort_conflict ran.writes (clash committed ran.writes)) three.1 in
-    let five = last_none (danger_outcome (danger app.exact (tables_of app) committed ran.reads ran.writes)) (abort_danger (danger app.exact (tables_of app) committed ran.reads ran.writes)) four.1 in
+    let five = last_none (option_map outcome.Danger (danger app.exact (tables_of app) committed ran.reads ran.writes)) (abort_danger (danger app.exact (tables_of app) committed ran.reads ran.writes)) four.1 in
     record { early = no_late (tables_of app) _ two.0; begins = can_begin app (ids_of chain ++ ids_told outcomes) number tx one.0; no_fault = three.0; apart = no_conflict committed ran.writes four.0; safe = map_none outcome.Danger _ five }

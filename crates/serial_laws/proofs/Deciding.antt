@@ -6,7 +6,7 @@ use Rattle.serial_laws.specs.Conflicts.{HasNoConflict}
 use Rattle.serial_laws.specs.Dangers.{HasNoDanger, IsLeastDanger}
 use Rattle.serial_laws.specs.CauseLaws.{NamesConflict, NamesTheLeast, OutcomesNameTheLeast, PremisesAreMet, committed_among}
 use Rattle.node_model.specs.Danger.{danger}
-use Rattle.node_model.specs.Decide.{bad_call, by_run, clash, conflict_outcome, danger_outcome, decide, duplicate, early, fault_outcome, future, late_outcome, or_committed, run_at, writes_since}
+use Rattle.node_model.specs.Decide.{bad_call, by_run, clash, conflict_outcome, decide, duplicate, early, fault_outcome, future, late_outcome, or_committed, run_at, writes_since}
 use Rattle.node_model.specs.Fold.{Work, fold, join_committed, no_work, work_on, work_through}
 use Rattle.node_model.specs.History.{SealedBlock, ids_of, ids_told, snapshot, time_at}
 use Rattle.node_model.specs.declared.danger.Danger.{Danger}
@@ -33,7 +33,7 @@ use Rattle.std.proofs.lemmas.List.Elements.{All-nil, All-push, All-weaker}
 use Rattle.std.proofs.lemmas.List.Quantifiers.{all_pairs_push}
 use Rattle.std.proofs.lemmas.List.{length-append}
 use Rattle.std.specs.List.{list_any}
-use Rattle.std.specs.Option.{IsSomeAnd, option_or}
+use Rattle.std.specs.Option.{IsSomeAnd, option_map, option_or}
 use Rattle.std.specs.Prelude.{Bool, cond, false, map, nat_le, slice_get, true}
 use Rattle.std.specs.Str.{bytes_eq}
 
@@ -153,7 +153,7 @@ module _ (exact : Bool) (tables : List TableDef) (committed : List Committed) (r
 
   names_last : (conflict : Option Outcome) (found : Option Danger) → MatchOption conflict (HasNoConflict committed ran.writes) (NamesConflict committed ran.writes)
       → MatchOption found (HasNoDanger tables committed ran.reads ran.writes exact) (IsLeastDanger tables committed ran.reads ran.writes exact)
-      → NamesTheLeast exact tables committed ran (or_committed (option_or conflict (danger_outcome found)))
+      → NamesTheLeast exact tables committed ran (or_committed (option_or conflict (option_map outcome.Danger found)))
   names_last (Some conflict) found is _ = names_conflict conflict is
   names_last None (Some found) none is = (none, is)
   names_last None None none safe = (none, safe)

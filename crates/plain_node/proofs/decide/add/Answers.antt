@@ -1,6 +1,6 @@
-use Rattle.std.proofs.Common.{arith}
-use Rattle.std.proofs.lemmas.Grind.{common_steps}
+use Rattle.std.proofs.Common.{subst}
 use Rattle.plain_node.proofs.decide.add.Goals as goal
+use Rattle.plain_node.specs.Deciding.{IsDecision}
 
 pub returns-in-Commits-clause-consistent : goal.returns-in-Commits-clause-consistent
-returns-in-Commits-clause-consistent c = grind (arith, common_steps)
+returns-in-Commits-clause-consistent c = λ tables was decision. c.commit.ensures.consistent tables (subst (IsDecision tables c.args.work.now) c.in-Commits.is decision)
