@@ -1,7 +1,9 @@
 //! An application of accounts, and blocks of calls of it.
 
 ghost use Rattle.std.specs.Prelude.{◌≡◌, IfOk};
+ghost use Rattle.serial_laws.specs.Chained.{AreNumbered};
 
+use cluster_run::SharedBlock;
 use proc_check::{Checked, check};
 use proc_parse::parse;
 use proc_syntax::{Block, Tx};
@@ -24,6 +26,13 @@ proc pay(f int, t int, n int) {
   } else { fail "no payer"; }
 }
 "#;
+
+const OPENINGS: [&[u8]; 2] = [b"tx a1 0 add 1 \"ann\" 50", b"tx a2 0 add 2 \"ann\" 50"];
+
+/// A payment, of block 2.
+pub const PAYMENT: [&[u8]; 1] = [b"tx p1 1 pay 1 2 5"];
+
+const LATER: [&[u8]; 1] = [b"tx a3 1 add 3 \"ann\" 50"];
 
 /// The application of accounts.
 pub fn accounts(alloc: Global) -> Result<Arc<Checked>, Fail> {
@@ -51,4 +60,20 @@ pub fn block(number: u64, txs: List<Tx>) -> Result<Block, Fail>
         Ok(block) => Ok(block),
         Err(_) => Err("a block that is too large".into()),
     }
+}
+
+/// A block that adds two accounts, one of a payment, and one more.
+pub fn three_blocks(alloc: Global) -> Result<[SharedBlock; 3], Fail>
+    ensures { IfOk result (λ blocks. AreNumbered 1 blocks) }
+{
+    let (openings, payment, later) = (
+        calls(alloc, &OPENINGS)?,
+        calls(alloc, &PAYMENT)?,
+        calls(alloc, &LATER)?,
+    );
+    Ok([
+        SharedBlock::new(alloc, &block(1, openings)?)?,
+        SharedBlock::new(alloc, &block(2, payment)?)?,
+        SharedBlock::new(alloc, &block(3, later)?)?,
+    ])
 }

@@ -1,13 +1,12 @@
 //! Jobs that executors hold while a gate has them wait: each of many takes one, and one whose id is settled meanwhile is given up.
 
-ghost use Rattle.std.specs.Prelude.{◌≡◌, ◌≤◌, IfOk};
+ghost use Rattle.std.specs.Prelude.{◌≤◌};
 ghost use Rattle.proc_syntax.specs.Limits.{most_executors};
-ghost use Rattle.serial_laws.specs.Chained.{AreNumbered};
 
-use crate::calls::{accounts, block, calls};
+use crate::calls::{accounts, calls, three_blocks};
 use crate::holding::Holding;
 use crate::journals::arrival_of;
-use cluster_run::{Crew, SharedBlock, run_node};
+use cluster_run::{Crew, run_node};
 use node_model::{Entry, Event};
 use proc_syntax::Tx;
 use rel_base::List;
@@ -17,14 +16,8 @@ use std::test::Fail;
 use std::thread::Threads;
 use version_index::IndexVersions;
 
-const OPENINGS: [&[u8]; 2] = [b"tx a1 0 add 1 \"ann\" 50", b"tx a2 0 add 2 \"ann\" 50"];
-
-// A payment, and another one with its id that arrives.
-const PAYMENT: [&[u8]; 1] = [b"tx p1 1 pay 1 2 5"];
-
+// Another payment with the id of the one in block 2.
 const OTHER_PAYMENT: [&[u8]; 1] = [b"tx p1 1 pay 2 1 7"];
-
-const LATER: [&[u8]; 1] = [b"tx a3 1 add 3 \"ann\" 50"];
 
 // As many calls as a node may have executors.
 const ARRIVALS: [&[u8]; 16] = [
@@ -45,22 +38,6 @@ const ARRIVALS: [&[u8]; 16] = [
     b"tx p25 0 pay 1 2 5",
     b"tx p26 0 pay 1 2 5",
 ];
-
-// A block that adds two accounts, one of a payment, and one more.
-fn three_blocks(alloc: Global) -> Result<[SharedBlock; 3], Fail>
-    ensures { IfOk result (λ blocks. AreNumbered 1 blocks) }
-{
-    let (openings, payment, later) = (
-        calls(alloc, &OPENINGS)?,
-        calls(alloc, &PAYMENT)?,
-        calls(alloc, &LATER)?,
-    );
-    Ok([
-        SharedBlock::new(alloc, &block(1, openings)?)?,
-        SharedBlock::new(alloc, &block(2, payment)?)?,
-        SharedBlock::new(alloc, &block(3, later)?)?,
-    ])
-}
 
 // Whether an actor made an entry.
 fn acts(journal: &[Entry], actor: u32) -> bool {

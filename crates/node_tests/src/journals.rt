@@ -29,7 +29,7 @@ pub fn finisher_of(journal: &[Entry], wanted: u64) -> Option<u32> {
 
 /// Whether each of two jobs makes all reads of a payment, and neither is ever ahead by more than one.
 pub fn keep_step(journal: &[Entry], first: u64, second: u64) -> bool {
-    let (mut ones, mut twos) = (0u32, 0u32);
+    let (mut ones, mut twos) = (0u64, 0u64);
     for entry in journal {
         if let Event::Read { job } = &entry.event {
             if *job == first {
@@ -44,4 +44,16 @@ pub fn keep_step(journal: &[Entry], first: u64, second: u64) -> bool {
         }
     }
     ones == READS && twos == READS
+}
+
+/// Whether an executor claims a job before the block of a number is delivered.
+pub fn is_claimed_before(journal: &[Entry], wanted: u64, number: u64) -> bool {
+    for entry in journal {
+        match &entry.event {
+            Event::Claim { job } if *job == wanted => return entry.actor > 0,
+            Event::Deliver { block } if block.number == number => return false,
+            _ => {}
+        }
+    }
+    false
 }
